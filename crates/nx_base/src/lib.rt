@@ -1,0 +1,12 @@
+//! What every crate of the workspace speaks of: lists of bytes, names and faults, tokens, edits, and
+//! the want of memory.
+//!
+//! Nothing here reads a text. The crates above do, and hand these values to one another.
+#![tactic(auto)]
+
+pub mod edit;
+pub mod fault;
+pub mod memory;
+pub mod name;
+pub mod sequence;
+pub mod token;

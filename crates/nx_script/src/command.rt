@@ -1,0 +1,18 @@
+//! The commands of a script.
+
+use nx_base::sequence::Bytes;
+
+/// A command. Numbers and texts stand in the order of the line, the texts after their escapes.
+#[derive(Drop)]
+pub enum Command {
+    /// A line that is passed over.
+    Nothing,
+    /// `save "URI"`: stores the text.
+    Save(Bytes),
+    /// `insert N "TEXT"`: puts the text in at the byte offset.
+    Insert(u64, Bytes),
+    /// `delete N N`: takes the bytes from the first offset to the second away.
+    Delete(u64, u64),
+    /// `print`: prints the text.
+    Print,
+}

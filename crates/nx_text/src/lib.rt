@@ -1,0 +1,4 @@
+//! The text of a document.
+#![tactic(auto)]
+
+pub mod text;
