@@ -1,7 +1,7 @@
 //! Edits of a text, and where they move its places.
 
 ghost use Rattle.std.specs.Prelude.{◌≡◌};
-ghost use Rattle.nx_base.specs.Text.{moved_place};
+ghost use Rattle.nx_base.specs.Text.{moved_place, EditedIsUtf8, EditedKeepsRest, InsertionIsUndone};
 
 /// Replaces the bytes from `from` to `to` by `added` bytes. All three are byte offsets or counts.
 #[derive(Clone, Copy, Debug, PartialEq, Eq)]
@@ -24,3 +24,18 @@ pub fn moved(at: usize, edit: &Edit) -> usize
         edit.from
     }
 }
+
+/// An edit between two places of a text, by UTF-8, leaves UTF-8.
+pub fn edited_is_utf8()
+    ensures { EditedIsUtf8 }
+{}
+
+/// An edit leaves what stands before it and behind it.
+pub fn edited_keeps_rest()
+    ensures { EditedKeepsRest }
+{}
+
+/// What was put in can be taken out again.
+pub fn insertion_is_undone()
+    ensures { InsertionIsUndone }
+{}

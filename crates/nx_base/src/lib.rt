@@ -4,9 +4,14 @@
 //! Nothing here reads a text. The crates above do, and hand these values to one another.
 #![tactic(auto)]
 
+pub mod character;
 pub mod edit;
 pub mod fault;
+pub mod form;
 pub mod memory;
 pub mod name;
 pub mod sequence;
+pub mod steps;
+#[cfg(test)]
+mod tests;
 pub mod token;

@@ -2,7 +2,8 @@
 
 use std::alloc::{AllocError, AllocFailed};
 
-/// There was no memory for what was asked. Whatever was lent is as before.
+/// There was no memory for what was asked. Whatever was lent is as before, unless the call says
+/// otherwise.
 #[derive(Clone, Copy, Debug, PartialEq, Eq)]
 pub struct NoMemory;
 

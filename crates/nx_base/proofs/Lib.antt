@@ -1,0 +1,3 @@
+mod Examples
+pub mod Forms
+pub mod Fronts

@@ -1,0 +1,44 @@
+//! Classes of characters of XML 1.0 (fifth edition).
+
+ghost use Rattle.std.specs.Prelude.{◌≡◌};
+ghost use Rattle.nx_base.specs.Characters.{is_char, is_space, is_name_start, is_name_char};
+
+/// Whether XML allows the character: Char, section 2.2.
+#[tactic(auto, unfolding(crate::specs::Characters::is_char))]
+pub fn is_char(c: char) -> bool
+    ensures { result ≡ is_char c }
+{
+    matches!(c, '\t' | '\n' | '\r' | ' '..='\u{D7FF}' | '\u{E000}'..='\u{FFFD}' | '\u{10000}'..='\u{10FFFF}')
+}
+
+/// Whether it is white space: S, section 2.3.
+#[tactic(auto, unfolding(crate::specs::Characters::is_space))]
+pub fn is_space(c: char) -> bool
+    ensures { result ≡ is_space c }
+{
+    matches!(c, '\t' | '\n' | '\r' | ' ')
+}
+
+/// Whether a name may begin with it: NameStartChar, section 2.3.
+#[tactic(auto, unfolding(crate::specs::Characters::is_name_start))]
+pub fn is_name_start(c: char) -> bool
+    ensures { result ≡ is_name_start c }
+{
+    matches!(
+        c,
+        ':' | 'A'..='Z' | '_' | 'a'..='z' | '\u{C0}'..='\u{D6}' | '\u{D8}'..='\u{F6}'
+            | '\u{F8}'..='\u{2FF}' | '\u{370}'..='\u{37D}' | '\u{37F}'..='\u{1FFF}'
+            | '\u{200C}'..='\u{200D}' | '\u{2070}'..='\u{218F}' | '\u{2C00}'..='\u{2FEF}'
+            | '\u{3001}'..='\u{D7FF}' | '\u{F900}'..='\u{FDCF}' | '\u{FDF0}'..='\u{FFFD}'
+            | '\u{10000}'..='\u{EFFFF}'
+    )
+}
+
+/// Whether it may stand in a name: NameChar, section 2.3.
+#[tactic(auto, unfolding(crate::specs::Characters::is_name_char))]
+pub fn is_name_char(c: char) -> bool
+    ensures { result ≡ is_name_char c }
+{
+    is_name_start(c)
+        || matches!(c, '-' | '.' | '0'..='9' | '\u{B7}' | '\u{300}'..='\u{36F}' | '\u{203F}'..='\u{2040}')
+}

@@ -1,0 +1,71 @@
+//! The lists, and where edits move things: each call once, with memory to be had.
+
+use crate::edit::{Edit, moved};
+use crate::fault::{Fault, Faults, Kind, Span};
+use crate::memory::NoMemory;
+use crate::name::{Name, Names};
+use crate::sequence::{Bytes, Sequence, TryCopy};
+use std::alloc::Global;
+use std::test::Fail;
+
+fn bytes_of(alloc: Global, text: &str) -> Result<Bytes, NoMemory> {
+    Ok(Bytes::from_vec(Vec::from_slice(alloc, text.as_bytes())?))
+}
+
+#[test]
+fn lists_are_edited(rt: HostRuntime) -> Result<(), Fail> {
+    let mut bytes = Sequence::new(rt.alloc());
+    assert!(rt; bytes.is_empty());
+    for byte in 0..5u8 {
+        bytes.push(byte)?;
+    }
+    assert_eq!(rt; bytes.len(), 5);
+    bytes.cut(1, 3);
+    assert!(rt; bytes.len() > 1);
+    bytes.insert(1, 9)?;
+    let copied = bytes.copy()?;
+    assert_eq!(rt; copied.as_slice(), [0, 9, 3, 4].as_slice());
+    assert_eq!(rt; (copied.get(1).copied(), copied.get(4)), (Some(9), None));
+    Ok(())
+}
+
+#[test]
+fn lists_of_lists_are_copied(rt: HostRuntime) -> Result<(), Fail> {
+    let mut names = Names::new(rt.alloc());
+    for (ns, local) in [("", "a"), ("urn:x", "b")] {
+        names.push(Name {
+            ns: bytes_of(rt.alloc(), ns)?,
+            local: bytes_of(rt.alloc(), local)?,
+        })?;
+    }
+    let copied = names.copy()?;
+    let last = copied.get(1).ok_or("two names")?;
+    assert_eq!(rt; last.ns.as_slice(), "urn:x".as_bytes());
+    assert_eq!(rt; last.local.as_slice(), "b".as_bytes());
+    Ok(())
+}
+
+#[test]
+fn edits_move_places_and_faults(rt: HostRuntime) -> Result<(), Fail> {
+    let edit = Edit {
+        from: 4,
+        to: 6,
+        added: 5,
+    };
+    for (at, place) in [(3, 3), (4, 4), (5, 4), (6, 9), (usize::MAX, usize::MAX)] {
+        assert_eq!(rt; moved(at, &edit), place, "{at}");
+    }
+    let mut faults = Faults::new(rt.alloc());
+    faults.push(Fault {
+        span: Span { from: 2, to: 7 },
+        kind: Kind::Unknown,
+        detail: bytes_of(rt.alloc(), "x")?,
+    })?;
+    faults.shift(&edit);
+    let faults = faults.copy()?;
+    let fault = faults.get(0).ok_or("a fault")?;
+    assert_eq!(rt; fault.span, Span { from: 2, to: 10 });
+    assert_eq!(rt; fault.kind, Kind::Unknown);
+    assert_eq!(rt; fault.detail.as_slice(), "x".as_bytes());
+    Ok(())
+}
