@@ -1,4 +1,6 @@
-//! The text of a document.
+//! The text of a document: UTF-8 that is edited at its places, and read at them.
+//!
+//! The layers above see the list of its bytes alone, and tell one another of its edits by `Edit`.
 #![tactic(auto)]
 
 pub mod text;
