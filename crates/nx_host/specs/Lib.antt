@@ -1,3 +1,10 @@
+pub mod Calls
 pub mod Count
+pub mod Disk
+pub mod DiskPath
 pub mod Files
+pub mod MemFiles
+pub mod MemOut
 pub mod Out
+pub mod Table
+pub mod Uri

@@ -3,8 +3,9 @@
 ghost use Rattle.std.specs.Prelude.{◌≡◌, ℕ, Option, IfOk};
 ghost use Rattle.nx_host.specs.Files.{FileMap, Holds, HasFile, Stores, CountsFault};
 
+use nx_base::memory::NoMemory;
 use nx_base::sequence::Bytes;
-use std::alloc::Global;
+use std::alloc::{AllocError, Global};
 
 /// Why files refused a call.
 #[derive(Clone, Copy, Debug, PartialEq, Eq)]
@@ -12,6 +13,28 @@ pub enum FileFault {
     /// The files could not do it. Their count of faults rose.
     Failed,
     NoMemory,
+}
+
+impl From<NoMemory> for FileFault {
+    ghost use Rattle.std.specs.Prelude.{◌≡◌};
+    ghost use Rattle.nx_host.specs.declared.files.FileFault.TheVariants as fault_of_files;
+
+    ghost from_gives = { λ _ fault. fault ≡ fault_of_files.NoMemory };
+
+    fn from(_error: NoMemory) -> FileFault {
+        FileFault::NoMemory
+    }
+}
+
+impl From<AllocError> for FileFault {
+    ghost use Rattle.std.specs.Prelude.{◌≡◌};
+    ghost use Rattle.nx_host.specs.declared.files.FileFault.TheVariants as fault_of_files;
+
+    ghost from_gives = { λ _ fault. fault ≡ fault_of_files.NoMemory };
+
+    fn from(_error: AllocError) -> FileFault {
+        FileFault::NoMemory
+    }
 }
 
 /// Files that are fetched and stored by URI texts, as `url` prints them.

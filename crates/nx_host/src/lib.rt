@@ -2,5 +2,16 @@
 //! objects that answer.
 #![tactic(auto)]
 
+mod calls;
+mod count;
+pub mod disk;
+mod disk_path;
+mod file_table;
 pub mod files;
+pub mod memory_files;
+pub mod memory_out;
 pub mod out;
+pub mod streams;
+#[cfg(test)]
+mod tests;
+pub mod uri;

@@ -3,7 +3,7 @@
 ghost use Rattle.std.specs.Prelude.{ℕ, List, Option};
 ghost use Rattle.nx_host.specs.Out.{Writes, CountsOutFault};
 
-use std::alloc::Global;
+use std::alloc::{AllocError, Global};
 
 /// Why an output refused a write.
 #[derive(Clone, Copy, Debug, PartialEq, Eq)]
@@ -11,6 +11,17 @@ pub enum OutFault {
     /// The output could not do it. Its count of faults rose.
     Failed,
     NoMemory,
+}
+
+impl From<AllocError> for OutFault {
+    ghost use Rattle.std.specs.Prelude.{◌≡◌};
+    ghost use Rattle.nx_host.specs.declared.out.OutFault.TheVariants.{NoMemory};
+
+    ghost from_gives = { λ _ fault. fault ≡ NoMemory };
+
+    fn from(_error: AllocError) -> OutFault {
+        OutFault::NoMemory
+    }
 }
 
 /// Takes bytes, in order.

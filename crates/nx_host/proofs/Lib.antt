@@ -1,0 +1,2 @@
+pub mod DiskPathLemmas
+pub mod TableLemmas

@@ -1,0 +1,205 @@
+//! The files of the disk, and standard output. What they hold is told to nobody: of them it is proved
+//! that each `Failed` raises their count of faults, and that all else leaves it.
+
+ghost use Rattle.std.specs.Prelude.{◌≡◌, ◌↔◌, ◌⊎◌, IsErr, IsTrue, IfOk};
+ghost use Rattle.std.specs.IoError.{error_kind};
+ghost use Rattle.nx_host.specs.Disk.{no_map, no_bytes, IsNowhere, FindsNone, FindsNothing};
+ghost use Rattle.nx_host.specs.Files.{CountsFault, HasFile, Holds, Stores};
+
+use crate::count::one_more;
+use crate::disk_path::path_of;
+use crate::files::{FileFault, Files};
+use crate::out::{Out, OutFault};
+use crate::streams::{fault_of, read_all, write_whole};
+use nx_base::sequence::Bytes;
+use std::alloc::Global;
+use std::io::ErrorKind;
+use std::marker::Model;
+use std::{fs, io, rt};
+
+/// The files of the disk. `file:///work/X` is the relative path X, and any other `file:///Y` the path
+/// `/Y`, both percent-decoded and without query and fragment. To a contract they are their count of
+/// faults.
+pub struct DiskFiles<'a, R> {
+    rt: &'a R,
+    faults: u64,
+}
+
+impl<'a, R> Model for DiskFiles<'a, R> {
+    ghost use Rattle.std.specs.Prelude.{ℕ};
+
+    ghost Value = { ℕ };
+
+    ghost view = { λ d. d.faults };
+}
+
+impl<R> Drop for DiskFiles<'_, R> {
+    fn drop(self) {
+        let DiskFiles { rt: _, faults: _ } = self;
+    }
+}
+
+impl<'a, R> DiskFiles<'a, R> {
+    /// The files that the runtime reaches.
+    pub fn new(rt: &'a R) -> DiskFiles<'a, R>
+        ensures { result ≡ 0 }
+    {
+        DiskFiles { rt, faults: 0 }
+    }
+
+    /// Raises the count where the answer is `Failed`.
+    fn counted<T>(&mut self, answer: Result<T, FileFault>) -> Result<T, FileFault>
+        ensures answer { result ≡ answer }
+        ensures faults { CountsFault result self.old self.new }
+    {
+        if let Err(FileFault::Failed) = &answer {
+            self.faults = one_more(self.faults);
+        }
+        answer
+    }
+}
+
+impl<R: rt::Files> Files for DiskFiles<'_, R> {
+    ghost told = { no_map };
+
+    ghost faults = { λ d. d };
+
+    fn fetch(&mut self, alloc: Global, uri: &str) -> Result<Option<Bytes>, FileFault>
+        ensures found { IfOk result (Holds (no_map self.old) uri.now) }
+        ensures map { no_map self.new ≡ no_map self.old }
+        ensures faults { CountsFault result self.old self.new }
+        ensures nowhere { IsNowhere uri.now → FindsNone result }
+    {
+        let answer = read_file(self.rt, alloc, uri);
+        self.counted(answer)
+    }
+
+    fn has(&mut self, alloc: Global, uri: &str) -> Result<bool, FileFault>
+        ensures found { IfOk result (HasFile (no_map self.old) uri.now) }
+        ensures map { no_map self.new ≡ no_map self.old }
+        ensures faults { CountsFault result self.old self.new }
+        ensures nowhere { IsNowhere uri.now → FindsNothing result }
+    {
+        let answer = has_file(self.rt, alloc, uri);
+        self.counted(answer)
+    }
+
+    fn store(&mut self, alloc: Global, uri: &str, bytes: &Bytes) -> Result<(), FileFault>
+        ensures stored { Stores result (no_map self.old) uri.now bytes.now (no_map self.new) }
+        ensures faults { CountsFault result self.old self.new }
+        ensures nowhere { IsNowhere uri.now → IsErr result }
+    {
+        let answer = write_file(self.rt, alloc, uri, bytes.as_slice());
+        self.counted(answer)
+    }
+}
+
+/// Whether the error says that there is no such file, or that a file stands where a folder should.
+fn is_missing(error: &io::Error) -> bool
+    ensures { IsTrue result ↔ ((error_kind error.now ≡ ErrorKind.NotFound)
+        ⊎ (error_kind error.now ≡ ErrorKind.NotADirectory)) }
+{
+    matches!(error.kind(), ErrorKind::NotFound | ErrorKind::NotADirectory)
+}
+
+/// The bytes of the file that the URI names; none where it names none, and where the file is missing.
+fn read_file<R: rt::Files>(rt: &R, alloc: Global, uri: &str) -> Result<Option<Bytes>, FileFault>
+    ensures { IsNowhere uri.now → FindsNone result }
+{
+    match path_of(alloc, uri)? {
+        Some(path) => read_path(rt, alloc, path.as_str()),
+        None => Ok(None),
+    }
+}
+
+/// Whether the URI names something that is there and is no folder.
+fn has_file<R: rt::Files>(rt: &R, alloc: Global, uri: &str) -> Result<bool, FileFault>
+    ensures { IsNowhere uri.now → FindsNothing result }
+{
+    match path_of(alloc, uri)? {
+        Some(path) => has_path(rt, path.as_str()),
+        None => Ok(false),
+    }
+}
+
+/// Writes the bytes to the file that the URI names, in place of what was in it.
+fn write_file<R: rt::Files>(rt: &R, alloc: Global, uri: &str, bytes: &[u8]) -> Result<(), FileFault>
+    ensures { IsNowhere uri.now → IsErr result }
+{
+    match path_of(alloc, uri)? {
+        Some(path) => write_path(rt, path.as_str(), bytes).map_err(|error| fault_of(&error)),
+        None => Err(FileFault::Failed),
+    }
+}
+
+/// The bytes of the file at the path; none where it is missing.
+fn read_path<R: rt::Files>(rt: &R, alloc: Global, path: &str) -> Result<Option<Bytes>, FileFault> {
+    match fs::open(rt, path) {
+        Ok(mut file) => Ok(Some(Bytes::from_vec(read_all(alloc, &mut file)?))),
+        Err(error) if is_missing(&error) => Ok(None),
+        Err(error) => Err(fault_of(&error)),
+    }
+}
+
+/// Whether something is at the path that is no folder.
+fn has_path<R: rt::Files>(rt: &R, path: &str) -> Result<bool, FileFault> {
+    match fs::metadata(rt, path) {
+        Ok(metadata) => Ok(!metadata.is_dir()),
+        Err(error) if is_missing(&error) => Ok(false),
+        Err(error) => Err(fault_of(&error)),
+    }
+}
+
+/// Writes the bytes to the file at the path, in place of what was in it.
+fn write_path<R: rt::Files>(rt: &R, path: &str, bytes: &[u8]) -> io::Result<()> {
+    let mut file = fs::create(rt, path)?;
+    write_whole(&mut file, bytes)
+}
+
+/// Standard output. To a contract it is its count of faults.
+pub struct StdOut<'a, R> {
+    rt: &'a R,
+    faults: u64,
+}
+
+impl<'a, R> Model for StdOut<'a, R> {
+    ghost use Rattle.std.specs.Prelude.{ℕ};
+
+    ghost Value = { ℕ };
+
+    ghost view = { λ o. o.faults };
+}
+
+impl<R> Drop for StdOut<'_, R> {
+    fn drop(self) {
+        let StdOut { rt: _, faults: _ } = self;
+    }
+}
+
+impl<'a, R> StdOut<'a, R> {
+    /// The standard output of the runtime.
+    pub fn new(rt: &'a R) -> StdOut<'a, R>
+        ensures { result ≡ 0 }
+    {
+        StdOut { rt, faults: 0 }
+    }
+}
+
+impl<R: Print> Out for StdOut<'_, R> {
+    ghost told = { no_bytes };
+
+    ghost faults = { λ o. o };
+
+    fn write(&mut self, _alloc: Global, bytes: &[u8]) -> Result<(), OutFault> {
+        match write_whole(&mut io::writer(self.rt), bytes) {
+            Ok(()) => Ok(()),
+            Err(_) => {
+                self.faults = one_more(self.faults);
+                Err(OutFault::Failed)
+            }
+        }
+    }
+}
+
+#[cfg(test)]
+mod tests;

@@ -1,0 +1,116 @@
+//! Reading and writing to the end, in a bounded number of turns.
+
+ghost use Rattle.std.specs.Prelude.{◌≡◌, ◌↔◌, IfOk, IfSome, OnOk};
+ghost use Rattle.std.specs.Io.KnownBytes.{Appends};
+ghost use Rattle.std.specs.IoError.{error_kind};
+
+use crate::files::FileFault;
+use std::alloc::Global;
+use std::io;
+use std::io::{ErrorKind, Read, Write};
+
+/// After how many turns a loop of reads or writes gives up.
+pub const READ_TURNS: u64 = 1 << 40;
+
+/// How many bytes one read asks for.
+const PIECE: usize = 8192;
+
+/// What an error of the system is to the caller: want of memory, or a failure.
+pub(crate) fn fault_of(error: &io::Error) -> FileFault
+    ensures { (result ≡ FileFault.NoMemory) ↔ (error_kind error.now ≡ ErrorKind.OutOfMemory) }
+{
+    match error.kind() {
+        ErrorKind::OutOfMemory => FileFault::NoMemory,
+        _ => FileFault::Failed,
+    }
+}
+
+/// All that is left to read. A read that is interrupted is tried again.
+pub(crate) fn read_all<R: Read>(alloc: Global, reader: &mut R) -> Result<Vec<u8>, FileFault>
+    ensures { IfOk result (λ read. IfSome (R.remaining reader.old) (λ left. read.items ≡ left)) }
+{
+    let mut read = Vec::new(alloc);
+    let mut piece = [0u8; PIECE];
+    for _ in 0..READ_TURNS {
+        match reader.read(&mut piece) {
+            Ok(0) => return Ok(read),
+            Ok(count) => read.extend_from_slice(&piece[..count])?,
+            Err(error) => {
+                if error.kind() != ErrorKind::Interrupted {
+                    return Err(fault_of(&error));
+                }
+            }
+        }
+    }
+    Err(FileFault::Failed)
+}
+
+/// Writes the bytes whole. A write that is interrupted is tried again, and one that takes nothing is an
+/// error.
+pub(crate) fn write_whole<W: Write>(writer: &mut W, bytes: &[u8]) -> io::Result<()>
+    ensures { OnOk result (Appends (W.contents writer.old) (W.contents writer.new) bytes.now) }
+{
+    let mut rest = bytes;
+    for _ in 0..READ_TURNS {
+        if rest.is_empty() {
+            return Ok(());
+        }
+        match writer.write(rest) {
+            Ok(0) => return Err(io::Error::from(ErrorKind::WriteZero)),
+            Ok(count) => rest = &rest[count..],
+            Err(error) => {
+                if error.kind() != ErrorKind::Interrupted {
+                    return Err(error);
+                }
+            }
+        }
+    }
+    Err(io::Error::from(ErrorKind::TimedOut))
+}
+
+#[cfg(test)]
+mod tests {
+    use super::{READ_TURNS, read_all};
+    use crate::files::FileFault;
+    use std::io;
+    use std::io::{Error, ErrorKind, Read};
+
+    // Gives `t` twice, is interrupted between, and then ends, or fails with this kind.
+    #[derive(Drop)]
+    struct Pieces {
+        calls: u64,
+        end: Option<ErrorKind>,
+    }
+
+    impl Read for Pieces {
+        fn read(&mut self, buf: &mut [u8]) -> io::Result<usize> {
+            self.calls = self.calls.saturating_add(1);
+            if self.calls == 2 {
+                return Err(Error::from(ErrorKind::Interrupted));
+            }
+            if self.calls <= 3 && !buf.is_empty() {
+                buf[0] = b't';
+                return Ok(1);
+            }
+            match self.end {
+                None => Ok(0),
+                Some(kind) => Err(Error::from(kind)),
+            }
+        }
+    }
+
+    #[test]
+    fn reads_to_the_end(rt: HostRuntime) {
+        for (end, fault) in [
+            (None, None),
+            (Some(ErrorKind::OutOfMemory), Some(FileFault::NoMemory)),
+            (Some(ErrorKind::NotFound), Some(FileFault::Failed)),
+        ] {
+            match read_all(rt.alloc(), &mut Pieces { calls: 0, end }) {
+                Ok(bytes) => assert!(rt; fault.is_none() && bytes.as_slice() == b"tt".as_slice()),
+                Err(answer) => assert!(rt; fault == Some(answer)),
+            }
+        }
+        assert_eq!(rt; READ_TURNS, 1_099_511_627_776);
+    }
+}
