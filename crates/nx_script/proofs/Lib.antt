@@ -1,0 +1,6 @@
+pub mod Blanks
+pub mod Cutting
+pub mod Numbers
+pub mod Reader
+pub mod Texts
+pub mod Writing

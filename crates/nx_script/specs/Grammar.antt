@@ -1,0 +1,114 @@
+-- The grammar of a line of a script: which command a line is.
+use Rattle.std.specs.Prelude.{◌≡◌, ◌≢◌, ℕ, ◌<◌, ◌≤◌, ◌⊎◌, List, [], ◌∷◌, ◌++◌, length, codes, Result, Ok, Err}
+use Rattle.std.specs.List.{AllByRecursion, flat_map}
+use Rattle.std.specs.Str.Parse.{IsNumeral, digits_value}
+use Rattle.nx_script.specs.declared.command.Command.{Command}
+use Rattle.nx_script.specs.declared.command.Command.TheVariants.{Nothing, Save, Insert, Delete, Print}
+use Rattle.nx_script.specs.declared.read.ScriptFault.{ScriptFault}
+use Rattle.nx_script.specs.declared.read.ScriptFault.TheVariants.{BadCommand, NoMemory}
+
+-- a space or a tab
+abbrev pub IsBlank : ℕ → Type 0
+IsBlank byte = (byte ≡ 32) ⊎ (byte ≡ 9)
+
+-- spaces and tabs alone, or nothing
+abbrev pub IsBlanks : List ℕ → Type 0
+IsBlanks blanks = AllByRecursion IsBlank blanks
+
+-- one space or tab, or more
+abbrev pub IsGap : List ℕ → Type 0
+IsGap gap = (0 < length gap) × IsBlanks gap
+
+-- the text is these words in order with a gap before each, and then blanks
+abbrev pub IsTailOf : List (List ℕ) → List ℕ → Type 0
+IsTailOf [] text = IsBlanks text
+IsTailOf (word ∷ words) text = (gap rest : List ℕ) × (text ≡ gap ++ word ++ rest) × IsGap gap × IsTailOf words rest
+
+-- the line is this word and these behind it, with a gap between two of them, and blanks at its ends
+abbrev pub IsOfWords : List ℕ → List (List ℕ) → List ℕ → Type 0
+IsOfWords word words line = (blanks rest : List ℕ) × (line ≡ blanks ++ word ++ rest) × IsBlanks blanks × IsTailOf words rest
+
+-- 1 to 18 decimal digits spell the number
+abbrev pub IsNumber : List ℕ → ℕ → Type 0
+IsNumber word number = IsNumeral 10 word × (length word ≤ 18) × (number ≡ digits_value 10 word)
+
+-- a piece of a text between quotes: a byte that stands for itself, or an escape
+pub data Piece : Type 0 where
+  Itself : ℕ → Piece
+  Newline : Piece
+  Tab : Piece
+  Return : Piece
+  Backslash : Piece
+  Quote : Piece
+
+-- neither a quote nor a backslash stands for itself
+abbrev pub IsPiece : Piece → Type 0
+IsPiece (Itself byte) = (byte ≢ 34) × (byte ≢ 92)
+IsPiece Newline = Unit {0}
+IsPiece Tab = Unit {0}
+IsPiece Return = Unit {0}
+IsPiece Backslash = Unit {0}
+IsPiece Quote = Unit {0}
+
+-- how a piece is written
+abbrev pub spelled : Piece → List ℕ
+spelled (Itself byte) = byte ∷ []
+spelled Newline = codes "\\n"
+spelled Tab = codes "\\t"
+spelled Return = codes "\\r"
+spelled Backslash = codes "\\\\"
+spelled Quote = codes "\\\""
+
+-- what it means: itself, LF, tab, CR, a backslash or a quote
+abbrev pub meant : Piece → List ℕ
+meant (Itself byte) = byte ∷ []
+meant Newline = codes "\n"
+meant Tab = codes "\t"
+meant Return = codes "\r"
+meant Backslash = codes "\\"
+meant Quote = codes "\""
+
+-- pieces between quotes spell the text
+abbrev pub IsText : List ℕ → List ℕ → Type 0
+IsText word text = (pieces : List Piece) × AllByRecursion IsPiece pieces
+    × (word ≡ codes "\"" ++ flat_map spelled pieces ++ codes "\"") × (text ≡ flat_map meant pieces)
+
+-- a line that is passed over: blanks alone, or blanks and then a `#` and anything
+abbrev pub IsNothingLine : List ℕ → Type 0
+IsNothingLine line = IsBlanks line ⊎ ((blanks rest : List ℕ) × (line ≡ blanks ++ codes "#" ++ rest) × IsBlanks blanks)
+
+-- `save "URI"`
+abbrev pub IsSaveLine : List ℕ → List ℕ → Type 0
+IsSaveLine uri line = (text : List ℕ) × IsText text uri × IsOfWords (codes "save") (text ∷ []) line
+
+-- `insert N "TEXT"`
+abbrev pub IsInsertLine : ℕ → List ℕ → List ℕ → Type 0
+IsInsertLine at added line = (number text : List ℕ) × IsNumber number at × IsText text added
+    × IsOfWords (codes "insert") (number ∷ text ∷ []) line
+
+-- `delete N N`
+abbrev pub IsDeleteLine : ℕ → ℕ → List ℕ → Type 0
+IsDeleteLine from to line = (first second : List ℕ) × IsNumber first from × IsNumber second to
+    × IsOfWords (codes "delete") (first ∷ second ∷ []) line
+
+-- `print`
+abbrev pub IsPrintLine : List ℕ → Type 0
+IsPrintLine line = IsOfWords (codes "print") [] line
+
+-- the line is this command
+abbrev pub IsLine : List ℕ → Command → Type 0
+IsLine line Nothing = IsNothingLine line
+IsLine line (Save uri) = IsSaveLine uri line
+IsLine line (Insert at added) = IsInsertLine at added line
+IsLine line (Delete from to) = IsDeleteLine from to line
+IsLine line Print = IsPrintLine line
+
+-- no line is two commands
+abbrev pub LinesAreOneCommand : Type 0
+LinesAreOneCommand = (line : List ℕ) (first second : Command) → IsLine line first → IsLine line second → first ≡ second
+
+-- what reading a line answers: its command, or that it is no command's line
+abbrev pub ReadsLine : List ℕ → Result Command ScriptFault → Type 0
+ReadsLine line (Ok command) = IsLine line command
+ReadsLine line (Err BadCommand) = (command : Command) → IsLine line command → ⊥
+ReadsLine line (Err NoMemory) = Unit {0}

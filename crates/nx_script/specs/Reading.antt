@@ -1,0 +1,140 @@
+-- What reading finds at the front of a list of bytes, part by part. What a line is, `Grammar` says; reading
+-- finds the command of a line exactly where the line is that command.
+use Rattle.std.specs.Prelude.{◌≡◌, ℕ, zero, suc, Bool, ◌||◌, ◌==◌, nat_lt, if◌then◌else◌, List, [], ◌∷◌, ◌++◌, length, take, drop, codes, Option, Some, None, option_map, option_and_then, Result, Ok, Err}
+use Rattle.std.specs.List.{prefix_len, position_or_len}
+use Rattle.std.specs.Char.{is_ascii_digit}
+use Rattle.std.specs.Str.{bytes_eq}
+use Rattle.std.specs.Str.Parse.{digits_value}
+use Rattle.nx_script.specs.declared.command.Command.{Command}
+use Rattle.nx_script.specs.declared.command.Command.TheVariants.{Nothing, Save, Insert, Delete, Print}
+use Rattle.nx_script.specs.declared.read.ScriptFault.{ScriptFault}
+use Rattle.nx_script.specs.declared.read.ScriptFault.TheVariants.{BadCommand, NoMemory}
+
+-- a call answers what reading finds, seen by view, unless memory runs out
+abbrev pub Finds : {A B : Type 0} → (A → B) → Result A ScriptFault → Option B → Type 0
+Finds view (Ok value) found = found ≡ Some (view value)
+Finds view (Err BadCommand) found = found ≡ None
+Finds view (Err NoMemory) found = Unit {0}
+
+-- the next step, from what the one before found
+infixl 10 ◌>>=◌
+abbrev pub ◌>>=◌ : {A B : Type 0} → Option A → (A → Option B) → Option B
+found >>= more = option_and_then more found
+
+-- a space or a tab
+abbrev pub is_blank : ℕ → Bool
+is_blank byte = (byte == 32) || (byte == 9)
+
+-- what follows the blanks at the front
+unfoldable pub after_blanks : List ℕ → List ℕ
+after_blanks bytes = drop (prefix_len is_blank bytes) bytes
+
+-- what follows the gap at the front
+unfoldable pub after_gap : List ℕ → Option (List ℕ)
+after_gap bytes = if prefix_len is_blank bytes == 0 then None else Some (after_blanks bytes)
+
+-- the number that the digits at the front spell, 18 of them at most, and what follows them
+unfoldable pub digits_at : List ℕ → Option (ℕ × List ℕ)
+digits_at bytes =
+    let count = prefix_len is_ascii_digit bytes in
+    if count == 0 then None else (if nat_lt 18 count then None else Some (digits_value 10 (take count bytes), drop count bytes))
+
+-- the number behind a gap, and what follows it
+unfoldable pub number_at : List ℕ → Option (ℕ × List ℕ)
+number_at bytes = do
+  rest ← after_gap bytes
+  digits_at rest
+
+-- the byte that a letter behind a backslash stands for
+unfoldable pub escaped_by : ℕ → Option ℕ
+escaped_by letter =
+    if letter == 110 then Some 10
+    else (if letter == 116 then Some 9
+    else (if letter == 114 then Some 13
+    else (if letter == 92 then Some 92
+    else (if letter == 34 then Some 34
+    else None))))
+
+-- the byte that an escape stands for, its backslash left out, and what follows it
+unfoldable pub escape_at : List ℕ → Option (ℕ × List ℕ)
+escape_at [] = None
+escape_at (letter ∷ rest) = option_map (λ byte. (byte, rest)) (escaped_by letter)
+
+-- the byte that the first piece stands for, and what follows it
+unfoldable pub piece_at : List ℕ → Option (ℕ × List ℕ)
+piece_at [] = None
+piece_at (byte ∷ rest) = if byte == 92 then escape_at rest else Some (byte, rest)
+
+-- the bytes in front of those that were found
+abbrev pub onto : List ℕ → Option (List ℕ × List ℕ) → Option (List ℕ × List ℕ)
+onto front found = option_map (λ x. (front ++ x.0, x.1)) found
+
+-- the text that pieces up to a quote mean, no more of them than `most`, and what follows the quote
+unfoldable pub pieces_within : ℕ → List ℕ → Option (List ℕ × List ℕ)
+pieces_within zero bytes = None
+pieces_within (suc most) [] = None
+pieces_within (suc most) (byte ∷ rest) =
+    if byte == 34 then Some ([], rest)
+    else (piece_at (byte ∷ rest) >>= λ piece. onto (piece.0 ∷ []) (pieces_within most piece.1))
+
+-- the same with no such bound, since no piece is empty
+unfoldable pub pieces_at : List ℕ → Option (List ℕ × List ℕ)
+pieces_at bytes = pieces_within (length bytes) bytes
+
+-- what follows a quote at the front
+unfoldable pub after_quote : List ℕ → Option (List ℕ)
+after_quote [] = None
+after_quote (byte ∷ rest) = if byte == 34 then Some rest else None
+
+-- the text behind a gap, and what follows it
+unfoldable pub text_at : List ℕ → Option (List ℕ × List ℕ)
+text_at bytes = do
+  gone ← after_gap bytes
+  inside ← after_quote gone
+  pieces_at inside
+
+-- the command, where blanks alone follow
+unfoldable pub ended : Command → List ℕ → Option Command
+ended command bytes = if prefix_len is_blank bytes == length bytes then Some command else None
+
+-- each command, from what follows its word
+unfoldable pub save_of : List ℕ → Option Command
+save_of bytes = do
+  uri ← text_at bytes
+  ended (Save uri.0) uri.1
+
+unfoldable pub insert_of : List ℕ → Option Command
+insert_of bytes = do
+  at ← number_at bytes
+  added ← text_at at.1
+  ended (Insert at.0 added.0) added.1
+
+unfoldable pub delete_of : List ℕ → Option Command
+delete_of bytes = do
+  from ← number_at bytes
+  to ← number_at from.1
+  ended (Delete from.0 to.0) to.1
+
+unfoldable pub print_of : List ℕ → Option Command
+print_of bytes = ended Print bytes
+
+-- the command of this word
+unfoldable pub command_of : List ℕ → List ℕ → Option Command
+command_of word bytes =
+    if bytes_eq word (codes "save") then save_of bytes
+    else (if bytes_eq word (codes "insert") then insert_of bytes
+    else (if bytes_eq word (codes "delete") then delete_of bytes
+    else (if bytes_eq word (codes "print") then print_of bytes
+    else None)))
+
+-- the command of the line whose blanks at the front are left out
+unfoldable pub command_at : List ℕ → Option Command
+command_at [] = Some Nothing
+command_at (byte ∷ rest) =
+    let bytes = byte ∷ rest in
+    let end = position_or_len is_blank bytes in
+    if byte == 35 then Some Nothing else command_of (take end bytes) (drop end bytes)
+
+-- the command of the line
+unfoldable pub line_command : List ℕ → Option Command
+line_command line = command_at (after_blanks line)

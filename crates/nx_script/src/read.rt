@@ -1,0 +1,115 @@
+//! Lines read into commands.
+
+ghost use Rattle.std.specs.Prelude.{◌≡◌, ◌≤◌, length, IfOk};
+ghost use Rattle.std.specs.List.{position_or_len};
+ghost use Rattle.nx_script.specs.Grammar.{LinesAreOneCommand, ReadsLine};
+ghost use Rattle.nx_script.specs.Commands.{HasUtf8Texts};
+ghost use Rattle.nx_script.specs.Reading.{Finds, is_blank, save_of, insert_of, delete_of, command_of, line_command, after_blanks};
+ghost use Rattle.nx_script.specs.declared.read.ScriptFault.TheVariants.{NoMemory};
+
+use crate::arguments::{Arguments, is_blank, leading_blanks};
+use crate::command::Command;
+use std::alloc::{AllocFailed, Global};
+
+/// Why a line was not read.
+#[derive(Clone, Copy, Debug, PartialEq, Eq)]
+pub enum ScriptFault {
+    /// The line is no command.
+    BadCommand,
+    NoMemory,
+}
+
+impl<T: Drop> From<AllocFailed<T>> for ScriptFault {
+    ghost from_gives = { λ _ fault. fault ≡ NoMemory };
+
+    fn from(_error: AllocFailed<T>) -> ScriptFault {
+        ScriptFault::NoMemory
+    }
+}
+
+/// Reads a line, without what ends it: its command, or `BadCommand` exactly where the line is none.
+pub fn read_line(alloc: Global, line: &str) -> Result<Command, ScriptFault>
+    ensures read { ReadsLine line.now result }
+    ensures utf8 { IfOk result HasUtf8Texts }
+{
+    whole_line(alloc, line)
+}
+
+/// No line is two commands.
+pub fn lines_are_one_command()
+    ensures { LinesAreOneCommand }
+{}
+
+/// The command of a line.
+#[tactic(auto, unfolding(crate::specs::Reading::line_command, crate::specs::Reading::command_at))]
+fn whole_line(alloc: Global, line: &str) -> Result<Command, ScriptFault>
+    ensures { Finds (λ command. command) result (line_command line.now) }
+{
+    let line = after_blanks(line);
+    match line.as_bytes() {
+        [] | [b'#', ..] => Ok(Command::Nothing),
+        _ => {
+            let (word, rest) = line.split_at(word_len(line.as_bytes()));
+            command(alloc, word, Arguments::new(rest.as_bytes()))
+        }
+    }
+}
+
+/// What follows the blanks at the front.
+#[tactic(auto, unfolding(crate::specs::Reading::after_blanks))]
+fn after_blanks(line: &str) -> &str
+    ensures { result.now ≡ after_blanks line.now }
+{
+    &line[leading_blanks(line.as_bytes())..]
+}
+
+/// How many bytes stand in front of the first blank.
+fn word_len(bytes: &[u8]) -> usize
+    ensures counted { result ≡ position_or_len is_blank bytes.now }
+    ensures within { result ≤ length bytes.now }
+{
+    bytes.iter().take_while(|byte| !is_blank(**byte)).count()
+}
+
+/// The command of this word.
+#[tactic(auto, unfolding(crate::specs::Reading::command_of, crate::specs::Reading::print_of))]
+fn command(alloc: Global, word: &str, arguments: Arguments<'_>) -> Result<Command, ScriptFault>
+    ensures { Finds (λ command. command) result (command_of word.now arguments.entry) }
+{
+    match word {
+        "save" => save(alloc, arguments),
+        "insert" => insert(alloc, arguments),
+        "delete" => delete(arguments),
+        "print" => arguments.end(Command::Print),
+        _ => Err(ScriptFault::BadCommand),
+    }
+}
+
+/// `save "URI"`, from what follows the word.
+#[tactic(auto, unfolding(crate::specs::Reading::save_of))]
+fn save(alloc: Global, mut arguments: Arguments<'_>) -> Result<Command, ScriptFault>
+    ensures { Finds (λ command. command) result (save_of arguments.entry) }
+{
+    let uri = arguments.text(alloc)?;
+    arguments.end(Command::Save(uri))
+}
+
+/// `insert N "TEXT"`, from what follows the word.
+#[tactic(auto, unfolding(crate::specs::Reading::insert_of))]
+fn insert(alloc: Global, mut arguments: Arguments<'_>) -> Result<Command, ScriptFault>
+    ensures { Finds (λ command. command) result (insert_of arguments.entry) }
+{
+    let at = arguments.number()?;
+    let added = arguments.text(alloc)?;
+    arguments.end(Command::Insert(at, added))
+}
+
+/// `delete N N`, from what follows the word.
+#[tactic(auto, unfolding(crate::specs::Reading::delete_of))]
+fn delete(mut arguments: Arguments<'_>) -> Result<Command, ScriptFault>
+    ensures { Finds (λ command. command) result (delete_of arguments.entry) }
+{
+    let from = arguments.number()?;
+    let to = arguments.number()?;
+    arguments.end(Command::Delete(from, to))
+}

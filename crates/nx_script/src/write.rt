@@ -1,0 +1,86 @@
+//! Replies written as text.
+
+ghost use Rattle.std.specs.Prelude.{◌≡◌, ◌++◌, IfOk, OnOk, codes, string_bytes};
+ghost use Rattle.nx_host.specs.Out.{WritesInParts, CountsOutFault};
+ghost use Rattle.nx_script.specs.Printing.{reply_text, refused_text, refusal_text, bad_position_text};
+
+use crate::reply::{Refusal, Reply};
+use nx_base::memory::NoMemory;
+use nx_host::out::{Out, OutFault};
+use std::alloc::{AllocError, Global};
+
+/// Writes what the reply to this line of the script prints. Lines count from 1. Where the output refuses
+/// it, a part of the text was written, from its first byte on, or nothing.
+pub fn write_reply<O: Out>(
+    alloc: Global,
+    out: &mut O,
+    line: u64,
+    reply: &Reply,
+) -> Result<(), OutFault>
+    ensures written { WritesInParts result (O.told out.old) (reply_text line reply.now) (O.told out.new) }
+    ensures faults { CountsOutFault result (O.faults out.old) (O.faults out.new) }
+{
+    match reply {
+        Reply::Silent => Ok(()),
+        Reply::Printed(text) => write_text(alloc, out, text.as_slice()),
+        Reply::Refused(refusal) => write_refusal(alloc, out, line, refusal),
+    }
+}
+
+/// Writes the text and a line's end, without a copy of the text.
+fn write_text<O: Out>(alloc: Global, out: &mut O, text: &[u8]) -> Result<(), OutFault>
+    ensures written { WritesInParts result (O.told out.old) (text.now ++ codes "\n") (O.told out.new) }
+    ensures faults { CountsOutFault result (O.faults out.old) (O.faults out.new) }
+{
+    out.write(alloc, text)?;
+    out.write(alloc, b"\n")?;
+    Ok(())
+}
+
+/// Writes the line that tells of a refused command, all of it at once.
+fn write_refusal<O: Out>(
+    alloc: Global,
+    out: &mut O,
+    line: u64,
+    refusal: &Refusal,
+) -> Result<(), OutFault>
+    ensures written { WritesInParts result (O.told out.old) (refused_text line refusal.now) (O.told out.new) }
+    ensures faults { CountsOutFault result (O.faults out.old) (O.faults out.new) }
+{
+    let text = refused_line(alloc, line, refusal).map_err(|_| OutFault::NoMemory)?;
+    out.write(alloc, text.as_slice())?;
+    Ok(())
+}
+
+/// The line that tells of a refused command.
+fn refused_line(alloc: Global, line: u64, refusal: &Refusal) -> Result<Vec<u8>, NoMemory>
+    ensures { IfOk result (λ text. text.items ≡ refused_text line refusal.now) }
+{
+    let mut text = format!(in alloc; "line {line} refused: ")?.into_bytes();
+    push_refusal(alloc, &mut text, refusal)?;
+    text.push(b'\n')?;
+    Ok(text)
+}
+
+/// Adds why a command was refused.
+fn push_refusal(alloc: Global, text: &mut Vec<u8>, refusal: &Refusal) -> Result<(), NoMemory>
+    ensures { OnOk result (text.new.items ≡ text.old.items ++ refusal_text refusal.now) }
+{
+    match refusal {
+        Refusal::BadCommand => text.extend_from_slice(b"BadCommand")?,
+        Refusal::BadPosition { at, len } => {
+            text.extend_from_slice(bad_position(alloc, *at, *len)?.as_bytes())?
+        }
+        Refusal::BadUri => text.extend_from_slice(b"BadUri")?,
+        Refusal::Failed => text.extend_from_slice(b"Failed")?,
+        Refusal::NoMemory => text.extend_from_slice(b"NoMemory")?,
+    }
+    Ok(())
+}
+
+/// The number that is no place, and the text's length.
+fn bad_position(alloc: Global, at: u64, len: usize) -> Result<String, AllocError>
+    ensures { IfOk result (λ text. string_bytes text ≡ bad_position_text at len) }
+{
+    format!(in alloc; "BadPosition {at} {len}")
+}
