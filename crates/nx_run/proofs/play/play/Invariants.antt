@@ -1,0 +1,18 @@
+use Rattle.std.proofs.Common.{length}
+use denote.Shadow.{shadow}
+use denote.Text.{Utf8}
+use Rattle.nx_run.specs.Editor.{files_state, out_state}
+use Rattle.nx_run.proofs.Playing.{IsPlaying}
+use Rattle.nx_run.proofs.play.play.Given as goal
+
+abbrev pub invariant-loop-rest : goal.invariant-loop-rest
+invariant-loop-rest g l =
+    let f = g.F.Files in
+    let o = g.O.Out in
+    shadow (Utf8 l.rest)
+    × IsPlaying l.script (files_state (f.told l.fn.files) (f.faults l.fn.files)) (files_state (f.told l.files) (f.faults l.files))
+    (out_state (o.told l.fn.out) (o.faults l.fn.out)) (out_state (o.told l.out) (o.faults l.out))
+    l.session l.number l.rest l.tally.memory l.tally.refusal
+
+abbrev pub decreases-loop-rest : goal.decreases-loop-rest
+decreases-loop-rest g l = length l.rest

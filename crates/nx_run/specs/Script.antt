@@ -1,0 +1,41 @@
+-- The script that a word names.
+use Rattle.std.specs.Prelude.{◌≡◌, ℕ, List, codes, Some, None, Result, Ok, Err, IsUtf8}
+use Rattle.nx_host.specs.Count.{Rose}
+use Rattle.nx_host.specs.Files.{Holds}
+use Rattle.nx_host.specs.Uri.{Joins, IsBadUri}
+use Rattle.nx_run.specs.declared.script.ScriptRefusal.{ScriptRefusal}
+use Rattle.nx_run.specs.declared.script.ScriptRefusal.TheVariants.{BadUri, Absent, NotUtf8, Failed}
+use Rattle.nx_run.specs.declared.script.ScriptFault.{ScriptFault}
+use Rattle.nx_run.specs.declared.script.ScriptFault.TheVariants.{Refused, NoMemory}
+use Rattle.nx_run.specs.Editor.{FilesState, work_folder}
+
+-- the files hold the script under the word's URI, and it is text
+pub record IsScript (word : List ℕ) (files : FilesState) (script : List ℕ) : Type 0 where
+  pub uri : List ℕ
+  pub joined : Joins work_folder word uri
+  pub held : Holds files.map uri (Some script)
+  pub is_text : IsUtf8 script
+
+-- the cause holds of the word, and of what the files answered
+abbrev pub HoldsOfScript : ScriptRefusal → List ℕ → FilesState → FilesState → Type 0
+HoldsOfScript BadUri word old new = IsBadUri work_folder word × (new ≡ old)
+HoldsOfScript Absent word old new =
+    (uri : List ℕ) × Joins work_folder word uri × Holds old.map uri None × (new ≡ old)
+HoldsOfScript NotUtf8 word old new =
+    (uri bytes : List ℕ) × Joins work_folder word uri × Holds old.map uri (Some bytes) × ¬ (IsUtf8 bytes)
+    × (new ≡ old)
+HoldsOfScript Failed word old new =
+    (uri : List ℕ) × Joins work_folder word uri × (new.map ≡ old.map) × Rose old.faults new.faults
+
+-- what fetching the script gave
+abbrev pub FetchesScript : List ℕ → FilesState → FilesState → Result (List ℕ) ScriptFault → Type 0
+FetchesScript word old new (Ok script) = IsScript word old script × (new ≡ old)
+FetchesScript word old new (Err (Refused cause)) = HoldsOfScript cause word old new
+FetchesScript word old new (Err NoMemory) = new ≡ old
+
+-- what is written where the script can't be read
+abbrev pub refusal_line : ScriptRefusal → List ℕ
+refusal_line BadUri = codes "script refused: BadUri\n"
+refusal_line Absent = codes "script refused: Absent\n"
+refusal_line NotUtf8 = codes "script refused: NotUtf8 0\n"
+refusal_line Failed = codes "script refused: Failed\n"

@@ -1,0 +1,22 @@
+//! The words that the process was started with.
+
+use nx_base::memory::NoMemory;
+use nx_base::sequence::Bytes;
+use std::env;
+use std::io::ErrorKind;
+use std::rt::Env;
+
+/// The words behind the program's name. Where one can't be had, as one that isn't UTF-8, there are none.
+pub fn process_words<R: Env + AllocGlobal>(rt: &R) -> Result<Vec<Bytes>, NoMemory> {
+    let mut words = Vec::new(rt.alloc());
+    match env::args(rt) {
+        Ok(arguments) => {
+            for word in arguments.skip(1) {
+                words.push(Bytes::from_vec(word.into_bytes()))?;
+            }
+            Ok(words)
+        }
+        Err(error) if error.kind() == ErrorKind::OutOfMemory => Err(NoMemory),
+        Err(_) => Ok(words),
+    }
+}

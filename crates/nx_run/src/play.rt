@@ -1,0 +1,86 @@
+//! A script played line by line.
+
+ghost use Rattle.std.specs.Prelude.{◌≡◌, ◌||◌, if◌then◌else◌};
+ghost use Rattle.nx_run.specs.Editor.{files_state, out_state, world};
+ghost use Rattle.nx_run.specs.Step.{LineStep};
+ghost use Rattle.nx_run.specs.Play.{IsPlayOf, wants_memory, is_refusal};
+
+use crate::session::Session;
+use crate::status::Status;
+use nx_host::files::Files;
+use nx_host::out::{Out, OutFault};
+use nx_script::line::split_line;
+use nx_script::read::{ScriptFault, read_line};
+use nx_script::reply::{Refusal, Reply};
+use nx_script::write::write_reply;
+use std::alloc::Global;
+
+/// Which refusals the replies so far had.
+#[derive(Clone, Copy)]
+struct Tally {
+    memory: bool,
+    refusal: bool,
+}
+
+impl Tally {
+    fn note(&mut self, reply: &Reply)
+        ensures memory { self.new.memory ≡ self.old.memory || wants_memory reply.now }
+        ensures refusal { self.new.refusal ≡ self.old.refusal || is_refusal reply.now }
+    {
+        self.memory = self.memory || matches!(reply, Reply::Refused(Refusal::NoMemory));
+        self.refusal = self.refusal || matches!(reply, Reply::Refused(_));
+    }
+
+    fn status(&self) -> Status
+        ensures { result ≡ if self.now.memory then Status.Memory
+            else (if self.now.refusal then Status.Refused else Status.Done) }
+    {
+        match (self.memory, self.refusal) {
+            (true, _) => Status::Memory,
+            (false, true) => Status::Refused,
+            (false, false) => Status::Done,
+        }
+    }
+}
+
+/// The editor's answer to a line.
+fn answer<F: Files>(alloc: Global, session: &mut Session, line: &str, files: &mut F) -> Reply
+    ensures { LineStep (world session.old (files_state (F.told files.old) (F.faults files.old))) line.now result
+        (world session.new (files_state (F.told files.new) (F.faults files.new))) }
+{
+    match read_line(alloc, line) {
+        Ok(command) => session.apply(&command, files),
+        Err(ScriptFault::BadCommand) => Reply::Refused(Refusal::BadCommand),
+        Err(ScriptFault::NoMemory) => Reply::Refused(Refusal::NoMemory),
+    }
+}
+
+/// Plays the script from a new editor, and writes the text of each reply.
+pub fn play<F: Files, O: Out>(alloc: Global, script: &str, files: &mut F, out: &mut O) -> Status
+    ensures { IsPlayOf script.now (files_state (F.told files.old) (F.faults files.old))
+        (files_state (F.told files.new) (F.faults files.new))
+        (out_state (O.told out.old) (O.faults out.old)) (out_state (O.told out.new) (O.faults out.new)) result }
+{
+    let Ok(mut session) = Session::new(alloc) else {
+        return Status::Memory;
+    };
+    let mut tally = Tally {
+        memory: false,
+        refusal: false,
+    };
+    let mut number: u64 = 0;
+    let mut rest = script;
+    while !rest.is_empty() {
+        let (line, following) = split_line(rest);
+        number += 1;
+        let reply = answer(alloc, &mut session, line, files);
+        tally.note(&reply);
+        match write_reply(alloc, out, number, &reply) {
+            Ok(()) => {}
+            Err(OutFault::Failed) => return Status::Output,
+            Err(OutFault::NoMemory) => return Status::Memory,
+        }
+        rest = following;
+    }
+    tally.status()
+}
