@@ -1,4 +1,5 @@
--- A text is cut into tokens.
+-- A text is cut into tokens: the constructs of XML 1.0, each by its marks alone. Bad and Unclosed are the
+-- project's own: what is no construct, and what has no end.
 use Rattle.std.specs.Prelude.{◌≡◌, ℕ, zero, suc, ◌+◌, ◌-◌, ◌<◌, min, nat_le, Bool, true, false, ◌==◌, ◌&&◌, ◌||◌, not, if◌then◌else◌, List, [], ◌∷◌, length, take, drop, slice_index, count_by, codes, Option, Some, None}
 use Rattle.std.specs.Option.{option_map, option_map_or}
 use Rattle.std.specs.Str.{chars, encode_utf8_all}
@@ -38,7 +39,7 @@ bytes_up_to byte (b ∷ bs) = if b == byte then 0 else bytes_up_to byte bs + 1
 abbrev pub unclosed : List ℕ → Cut
 unclosed rest = cut_as kind.Unclosed (length rest)
 
--- it ends with the first such mark that begins so many bytes on or later
+-- it ends with the first such mark that begins so many bytes on or later (2.5 [15], 2.6 [16], 2.7 [18])
 unfoldable pub closed : TokenKind → List ℕ → ℕ → List ℕ → Cut
 closed kind mark skip rest =
     option_map_or (λ n. cut_as kind (skip + n + length mark)) (bytes_before mark (drop skip rest)) (unclosed rest)
@@ -84,7 +85,7 @@ begins_tag forms cs = begins forms.end cs || (begins forms.start cs || begins fo
 unfoldable pub bad_rest : List ℕ → ℕ
 bad_rest left = min (bytes_up_to 60 left) (bytes_up_to 62 left + 1)
 
--- where no tag stands: up to the first character through which none can, and on from there
+-- where no tag stands, the token is Bad: up to the first character through which none can, and on from there
 unfoldable pub bad : Tags → List ℕ → Cut
 bad forms rest =
     let begun = length (encode_utf8_all (passing_front (begins_tag forms) (chars rest))) in
@@ -99,7 +100,7 @@ unfoldable pub tag : Tags → List ℕ → Cut
 tag forms rest =
     tag_or kind.End forms.end rest (tag_or kind.Start forms.start rest (tag_or kind.Empty forms.empty rest (bad forms rest)))
 
--- a document type declaration
+-- a document type declaration (2.8 [28])
 unfoldable pub doctype : List ℕ → Cut
 doctype rest =
     option_map_or (λ n. cut_as kind.Doctype (9 + n)) (doctype_bytes false 0 (drop 9 rest)) (unclosed rest)
@@ -108,13 +109,14 @@ doctype rest =
 unfoldable pub begins_declaration : List ℕ → Bool
 begins_declaration rest = begins_with (codes "<?xml") rest && is_space (slice_index rest 5)
 
--- an XML declaration or a processing instruction
+-- an XML declaration (2.8 [23]) or a processing instruction (2.6 [16])
 unfoldable pub instruction : List ℕ → Cut
 instruction rest =
     if begins_declaration rest then closed kind.Decl (codes "?>") 6 rest
     else closed kind.Pi (codes "?>") 2 rest
 
--- a token that begins with `<`: the first row that applies
+-- a token that begins with `<`: the first row that applies, of comments (2.5), CDATA sections (2.7), document types (2.8),
+-- processing instructions (2.6) and tags (3.1)
 unfoldable pub markup : List ℕ → Cut
 markup rest =
     if begins_with (codes "<!--") rest then closed kind.Comment (codes "-->") 4 rest
@@ -140,6 +142,10 @@ cut text at =
     let found = first_token (at == 0) (drop at text) in
     record { kind = found.kind; from = at; bytes = take found.len (drop at text) }
 
+-- a token whose bytes are of its kind: it is the token with which its own bytes begin
+abbrev pub IsOfKind : Token → Type 0
+IsOfKind token = first_token (token.from == 0) token.bytes ≡ cut_as token.kind (length token.bytes)
+
 -- what is found at a place: the token that is cut there, and none exactly at the end
 abbrev pub CutAt : List ℕ → ℕ → Option Token → Type 0
 CutAt text at None = at ≡ length text
@@ -162,6 +168,15 @@ tokens_of text = tokens_from text 0
 -- the byte offset at which a token ends
 abbrev pub end_of : Token → ℕ
 end_of token = token.from + length token.bytes
+
+-- tokens that lie one behind another, from a place to the end of a text of this length
+unfoldable pub AreTokensFrom : ℕ → ℕ → List Token → Type 0
+AreTokensFrom len at [] = at ≡ len
+AreTokensFrom len at (token ∷ others) = (token.from ≡ at) × AreTokensFrom len (at + length token.bytes) others
+
+-- they cover a text of this length
+abbrev pub AreTokensOf : ℕ → List Token → Type 0
+AreTokensOf len all = AreTokensFrom len 0 all
 
 -- how many tokens of the text start at `from` or later and end at `to` or earlier
 abbrev pub token_count : List ℕ → ℕ → ℕ → ℕ

@@ -28,7 +28,7 @@ pub enum Kind {
     BadText,
     /// `--` in a comment, or `-` at its end. No detail.
     BadComment,
-    /// A processing instruction with no target of its own. No detail.
+    /// A processing instruction whose target is no Name without a colon, is `xml`, or is followed by neither S nor the end. No detail.
     BadPi,
     /// An XML declaration that is not of its form. No detail.
     BadDecl,
@@ -48,7 +48,7 @@ pub enum Kind {
     SecondRoot,
     /// A text without an element. No detail.
     NoRoot,
-    /// A name with colons where none may stand. The written name.
+    /// A name that isn't a qualified name. The written name.
     BadName,
     /// A prefix that nothing declares. The prefix.
     UndeclaredPrefix,
