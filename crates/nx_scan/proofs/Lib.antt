@@ -1,0 +1,17 @@
+pub mod BadEnds
+pub mod DoctypeEnds
+pub mod Doctypes
+pub mod Endings
+pub mod Ends
+pub mod Every
+pub mod Fitting
+pub mod Joined
+pub mod Marks
+pub mod OwnBytes
+pub mod Reading
+pub mod Rows
+pub mod SameTags
+pub mod Stable
+pub mod TagEnds
+pub mod Themselves
+pub mod Walking

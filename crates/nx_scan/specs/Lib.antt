@@ -1,0 +1,4 @@
+pub mod Borders
+pub mod Doctype
+pub mod Ending
+pub mod Tag

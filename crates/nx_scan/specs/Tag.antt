@@ -1,0 +1,50 @@
+-- What may still follow a part of a tag.
+use Rattle.std.specs.Prelude.{ℕ}
+use Rattle.nx_base.specs.Form.{Form, name_char, only, one, seq, alt, many, never, nothing, after}
+use Rattle.nx_base.specs.Tags.{name_form, spaces, quoted_rest, attribute_value, attribute_rest, attribute, tag_rest}
+use Rattle.nx_base.specs.Tokens.{Tags}
+use Rattle.nx_scan.specs.declared.tag.Seen.{Seen}
+use Rattle.nx_scan.specs.declared.tag.Seen.TheVariants as seen
+
+-- of a start tag or an empty-element tag, by how it closes
+abbrev pub in_tag : (Form → Form) → Tags
+in_tag left = record { end = never; start = left (one (only 62)); empty = left (seq (one (only 47)) (one (only 62))) }
+
+-- of an end tag
+abbrev pub in_end : Form → Tags
+in_end left = record { end = left; start = never; empty = never }
+
+-- attributes that follow, and the tag's end, behind a part of an attribute
+abbrev pub in_attribute : Form → Form → Form
+in_attribute left close = seq (seq left (many attribute)) (seq spaces close)
+
+-- behind an end tag's name
+abbrev pub end_rest : Form
+end_rest = seq spaces (one (only 62))
+
+unfoldable pub left_of : Seen → Tags
+left_of seen.Open = record {
+  end = seq (one (only 47)) (seq name_form end_rest);
+  start = seq name_form (tag_rest (one (only 62)));
+  empty = seq name_form (tag_rest (seq (one (only 47)) (one (only 62))));
+}
+left_of seen.Name = in_tag (λ close. seq (many (one name_char)) (tag_rest close))
+left_of seen.Gap = in_tag (λ close. alt (in_attribute (seq spaces (seq name_form attribute_rest)) close) (seq spaces close))
+left_of seen.Attribute = in_tag (in_attribute (seq (many (one name_char)) attribute_rest))
+left_of seen.AttributeGap = in_tag (in_attribute attribute_rest)
+left_of seen.Equals = in_tag (in_attribute attribute_value)
+left_of seen.Double = in_tag (in_attribute (quoted_rest 34))
+left_of seen.Single = in_tag (in_attribute (quoted_rest 39))
+left_of seen.Value = in_tag tag_rest
+left_of seen.Slash = record { end = never; start = never; empty = one (only 62) }
+left_of seen.EndOpen = in_end (seq name_form end_rest)
+left_of seen.EndName = in_end (seq (many (one name_char)) end_rest)
+left_of seen.EndGap = in_end end_rest
+left_of seen.Start = record { end = never; start = nothing; empty = never }
+left_of seen.Empty = record { end = never; start = never; empty = nothing }
+left_of seen.End = in_end nothing
+left_of seen.Lost = in_end never
+
+-- what may follow the next character
+unfoldable pub left_after : Tags → ℕ → Tags
+left_after left c = record { end = after left.end c; start = after left.start c; empty = after left.empty c }

@@ -1,0 +1,249 @@
+//! The token at a place.
+
+ghost use Rattle.std.specs.Prelude.{◌≡◌, ◌+◌, ◌-◌, ◌<◌, ◌≤◌, ◌^◌, ◌==◌, ◌&&◌, length, drop, slice_index, IfOk, IfSome};
+ghost use Rattle.std.specs.Bool.{OnTrue};
+ghost use Rattle.std.specs.Str.{IsUtf8};
+ghost use Rattle.nx_base.specs.Characters.{is_space};
+ghost use Rattle.nx_base.specs.Text.{IsPlace};
+ghost use Rattle.nx_base.specs.Tokens.{CutAt, cut_as, begins_with, begins_declaration, order_mark, first_token, markup, instruction, doctype, closed, unclosed, bad_rest, tag, tags, end_of};
+ghost use Rattle.nx_scan.specs.Ending.{EndsAt};
+
+use crate::doctype::doctype_end;
+use crate::mark::{byte_is, find_byte, find_past, stands_at};
+use crate::tag::Seen;
+use nx_base::character::is_space;
+use nx_base::memory::NoMemory;
+use nx_base::steps::Steps;
+use nx_base::token::{Token, TokenKind};
+use nx_text::text::Text;
+use std::alloc::Global;
+use std::sync::ledger::Ledger;
+
+/// The kind of a token, and the byte offset at which it ends.
+#[derive(Clone, Copy, Debug, PartialEq, Eq)]
+pub(crate) struct End {
+    pub(crate) kind: TokenKind,
+    pub(crate) place: usize,
+}
+
+impl End {
+    fn new(kind: TokenKind, place: usize) -> End
+        ensures kind { result.kind ≡ kind }
+        ensures place { result.place ≡ place }
+    {
+        End { kind, place }
+    }
+}
+
+/// A token that no mark ends.
+fn unclosed_end(text: &Text, at: usize) -> End
+    requires { at ≤ length text.now }
+    ensures { EndsAt text.now at (unclosed (drop at text.now)) result }
+{
+    End {
+        kind: TokenKind::Unclosed,
+        place: text.len(),
+    }
+}
+
+/// A token that ends with the first such mark which begins `skip` bytes on or later.
+fn closed_end(text: &Text, at: usize, kind: TokenKind, skip: usize, mark: &[u8]) -> End
+    requires utf8 { IsUtf8 text.now }
+    requires within { at + skip ≤ length text.now }
+    requires fits { at + skip < 2 ^ 64 }
+    requires some { 0 < length mark.now }
+    requires last { slice_index mark.now (length mark.now - 1) ≡ 62 }
+    ensures { EndsAt text.now at (closed kind mark.now skip (drop at text.now)) result }
+{
+    match find_past(text, at + skip, mark) {
+        Some(place) => End { kind, place },
+        None => unclosed_end(text, at),
+    }
+}
+
+/// A document type declaration.
+fn declared_type_end(text: &Text, at: usize) -> End
+    requires utf8 { IsUtf8 text.now }
+    requires within { at + 9 ≤ length text.now }
+    requires fits { at + 9 < 2 ^ 64 }
+    ensures { EndsAt text.now at (doctype (drop at text.now)) result }
+{
+    match doctype_end(text, at + 9) {
+        Some(place) => End {
+            kind: TokenKind::Doctype,
+            place,
+        },
+        None => unclosed_end(text, at),
+    }
+}
+
+/// Whether white space stands at the byte offset `at`.
+fn space_at(text: &Text, at: usize) -> bool
+    ensures space { result ≡ is_space (slice_index text.now at) }
+    ensures within { OnTrue result (at < length text.now) }
+    ensures fits { OnTrue result (at + 1 < 2 ^ 64) }
+{
+    match text.byte_at(at) {
+        Some(byte) => is_space(char::from(byte)),
+        None => false,
+    }
+}
+
+/// Whether `<?xml` and white space stand at `at`.
+fn begins_declaration(text: &Text, at: usize) -> bool
+    requires { at ≤ length text.now }
+    ensures begins { result ≡ begins_declaration (drop at text.now) }
+    ensures within { OnTrue result (at + 6 ≤ length text.now) }
+    ensures fits { OnTrue result (at + 6 < 2 ^ 64) }
+{
+    if stands_at(text, at, b"<?xml") {
+        space_at(text, at + 5)
+    } else {
+        false
+    }
+}
+
+/// An XML declaration or a processing instruction. `<?` stands at `at`.
+fn instruction_end(text: &Text, at: usize) -> End
+    requires utf8 { IsUtf8 text.now }
+    requires within { at + 2 ≤ length text.now }
+    requires fits { at + 2 < 2 ^ 64 }
+    ensures { EndsAt text.now at (instruction (drop at text.now)) result }
+{
+    if begins_declaration(text, at) {
+        closed_end(text, at, TokenKind::Decl, 6, b"?>")
+    } else {
+        closed_end(text, at, TokenKind::Pi, 2, b"?>")
+    }
+}
+
+/// A token that is none of the others, from the first character on through which none can stand: up to
+/// the next `<`, through the next `>`, or to the end.
+fn bad_end(text: &Text, from: usize) -> End
+    requires utf8 { IsUtf8 text.now }
+    requires within { from ≤ length text.now }
+    ensures { EndsAt text.now from (cut_as TokenKind.Bad (bad_rest (drop from text.now))) result }
+{
+    let len = text.len();
+    for place in from..len {
+        if byte_is(text, place, b'<') {
+            return End::new(TokenKind::Bad, place);
+        }
+        if byte_is(text, place, b'>') {
+            return End::new(TokenKind::Bad, place + 1);
+        }
+    }
+    End::new(TokenKind::Bad, len)
+}
+
+/// A tag, or a Bad token. A `<` stands at `at`.
+fn tag_end(text: &Text, at: usize) -> End
+    requires utf8 { IsUtf8 text.now }
+    requires within { at < length text.now }
+    requires fits { at + 1 < 2 ^ 64 }
+    requires open { slice_index text.now at ≡ 60 }
+    ensures { EndsAt text.now at (tag tags (drop at text.now)) result }
+{
+    let mut place = at + 1;
+    let mut seen = Seen::Open;
+    while let Some(c) = text.char_at(place) {
+        let next = seen.then(c);
+        let behind = place + c.len_utf8();
+        match next {
+            Seen::Start => return End::new(TokenKind::Start, behind),
+            Seen::Empty => return End::new(TokenKind::Empty, behind),
+            Seen::End => return End::new(TokenKind::End, behind),
+            Seen::Lost => return bad_end(text, place),
+            _ => {}
+        }
+        seen = next;
+        place = behind;
+    }
+    bad_end(text, place)
+}
+
+/// A token that begins with `<`, which stands at `at`.
+fn markup_end(text: &Text, at: usize) -> End
+    requires utf8 { IsUtf8 text.now }
+    requires within { at < length text.now }
+    requires fits { at + 1 < 2 ^ 64 }
+    requires open { slice_index text.now at ≡ 60 }
+    ensures { EndsAt text.now at (markup (drop at text.now)) result }
+{
+    if stands_at(text, at, b"<!--") {
+        closed_end(text, at, TokenKind::Comment, 4, b"-->")
+    } else if stands_at(text, at, b"<![CDATA[") {
+        closed_end(text, at, TokenKind::Cdata, 9, b"]]>")
+    } else if stands_at(text, at, b"<!DOCTYPE") {
+        declared_type_end(text, at)
+    } else if stands_at(text, at, b"<?") {
+        instruction_end(text, at)
+    } else {
+        tag_end(text, at)
+    }
+}
+
+/// Whether a byte order mark begins the text, and `at` is there.
+fn at_order_mark(text: &Text, at: usize) -> bool
+    requires { at ≤ length text.now }
+    ensures begins { result ≡ (at == 0 && begins_with order_mark (drop at text.now)) }
+    ensures within { OnTrue result (at + 3 ≤ length text.now) }
+{
+    if at == 0 {
+        stands_at(text, at, &[0xEF, 0xBB, 0xBF])
+    } else {
+        false
+    }
+}
+
+/// The token at a place in front of the end.
+fn token_end(text: &Text, at: usize) -> End
+    requires utf8 { IsUtf8 text.now }
+    requires within { at < length text.now }
+    requires fits { at + 1 < 2 ^ 64 }
+    ensures { EndsAt text.now at (first_token (at == 0) (drop at text.now)) result }
+{
+    if at_order_mark(text, at) {
+        End {
+            kind: TokenKind::Bom,
+            place: 3,
+        }
+    } else if stands_at(text, at, b"<") {
+        markup_end(text, at)
+    } else {
+        End {
+            kind: TokenKind::Text,
+            place: find_byte(text, at, b'<'),
+        }
+    }
+}
+
+/// The token that is cut at the place `at`; none exactly at the length. It counts one step, and reads each
+/// byte of the token a bounded number of times. The token's bytes come from the text's own allocator.
+pub fn scan_token<L: Ledger>(
+    _alloc: Global,
+    text: &Text,
+    at: usize,
+    steps: &mut Steps<L>,
+) -> Result<Option<Token>, NoMemory>
+    requires { IsPlace text.now at }
+    ensures token { IfOk result (CutAt text.now at) }
+    ensures utf8 { IfOk result (λ found. IfSome found (λ token. IsUtf8 token.bytes)) }
+    ensures border { IfOk result (λ found. IfSome found (λ token. IsPlace text.now (end_of token))) }
+    ensures step { steps.new ≡ steps.old + 1 }
+{
+    steps.tick();
+    if at == text.len() {
+        return Ok(None);
+    }
+    let end = token_end(text, at);
+    let bytes = text.copy_range(at, end.place)?;
+    Ok(Some(Token {
+        kind: end.kind,
+        from: at,
+        bytes,
+    }))
+}
+
+#[cfg(test)]
+mod tests;
