@@ -1,0 +1,170 @@
+//! Faults of the characters and references in a token.
+
+ghost use Rattle.std.specs.Prelude.{◌≡◌, ◌+◌, ◌<◌, ◌^◌, ◌++◌, length, OnOk, IfOk, IsTrue};
+ghost use Rattle.nx_events.specs.Faults.{bare_fault, bare_faults, faults_as_items};
+ghost use Rattle.nx_events.specs.CharacterFaults.{character_flaw, tag_flaw, text_flaw, piece_flaw, is_bad_char, is_bad_text, is_told, told_behind, new_faults, character_faults, faults_behind};
+
+use crate::item::{Item, Items};
+use crate::piece::front_piece;
+use crate::reading::Reading;
+use crate::reference::referenced;
+use crate::utf8::{front_char, is_char};
+use nx_base::fault::{Fault, Kind, Span};
+use nx_base::memory::NoMemory;
+use nx_base::sequence::Bytes;
+use std::alloc::Global;
+
+/// Which of the kinds of faults that are told once in a token were told.
+#[derive(Clone, Copy)]
+pub struct Told {
+    pub bad_char: bool,
+    pub bad_text: bool,
+}
+
+// What is wrong with a piece where characters stand for themselves.
+#[tactic(auto, unfolding(crate::specs::CharacterFaults::character_flaw))]
+fn character_flaw(piece: &[u8]) -> Option<Kind>
+    ensures { result ≡ character_flaw piece.now }
+{
+    if is_char(front_char(piece)) {
+        None
+    } else {
+        Some(Kind::BadChar)
+    }
+}
+
+// The same in a tag.
+#[tactic(auto, unfolding(crate::specs::CharacterFaults::tag_flaw))]
+fn tag_flaw(piece: &[u8]) -> Option<Kind>
+    ensures { result ≡ tag_flaw piece.now }
+{
+    if !piece.is_empty() && piece[0] == b'&' {
+        if referenced(piece).is_some() {
+            None
+        } else {
+            Some(Kind::BadReference)
+        }
+    } else {
+        character_flaw(piece)
+    }
+}
+
+// The same in character data.
+#[tactic(auto, unfolding(crate::specs::CharacterFaults::text_flaw))]
+fn text_flaw(piece: &[u8]) -> Option<Kind>
+    ensures { result ≡ text_flaw piece.now }
+{
+    if piece.len() == 3 && piece[0] == b']' {
+        Some(Kind::BadText)
+    } else {
+        tag_flaw(piece)
+    }
+}
+
+fn piece_flaw(reading: Reading, piece: &[u8]) -> Option<Kind>
+    ensures { result ≡ piece_flaw reading piece.now }
+{
+    match reading {
+        Reading::Plain => character_flaw(piece),
+        Reading::Text => text_flaw(piece),
+        Reading::Value => tag_flaw(piece),
+    }
+}
+
+fn is_bad_char(kind: Kind) -> bool
+    ensures { result ≡ is_bad_char kind }
+{
+    matches!(kind, Kind::BadChar)
+}
+
+fn is_bad_text(kind: Kind) -> bool
+    ensures { result ≡ is_bad_text kind }
+{
+    matches!(kind, Kind::BadText)
+}
+
+impl Told {
+    // Whether a fault of this kind was told and isn't told again.
+    fn has(self, kind: Kind) -> bool
+        ensures { result ≡ is_told self kind }
+    {
+        (self.bad_char && is_bad_char(kind)) || (self.bad_text && is_bad_text(kind))
+    }
+
+    // What was told behind one more piece.
+    fn behind(self, flaw: Option<Kind>) -> Told
+        ensures { result ≡ told_behind self flaw }
+    {
+        match flaw {
+            None => self,
+            Some(kind) => Told {
+                bad_char: self.bad_char || is_bad_char(kind),
+                bad_text: self.bad_text || is_bad_text(kind),
+            },
+        }
+    }
+}
+
+/// Adds a fault without a detail.
+pub(crate) fn push_bare(
+    alloc: Global,
+    items: &mut Items,
+    kind: Kind,
+    span: Span,
+) -> Result<(), NoMemory>
+    ensures { OnOk result (items.new ≡ items.old ++ faults_as_items (bare_faults (Some kind) span)) }
+{
+    items.push(Item::Fault(Fault {
+        span,
+        kind,
+        detail: Bytes::new(alloc),
+    }))?;
+    Ok(())
+}
+
+// Adds the fault of a piece, unless it was told.
+fn push_new(
+    alloc: Global,
+    items: &mut Items,
+    told: Told,
+    flaw: Option<Kind>,
+    span: Span,
+) -> Result<(), NoMemory>
+    ensures { OnOk result (items.new ≡ items.old ++ faults_as_items (new_faults told flaw span)) }
+{
+    if let Some(kind) = flaw {
+        if !told.has(kind) {
+            push_bare(alloc, items, kind, span)?;
+        }
+    }
+    Ok(())
+}
+
+/// Adds the faults of the characters and references in bytes that begin at the place `at`.
+pub(crate) fn push_character_faults(
+    alloc: Global,
+    items: &mut Items,
+    reading: Reading,
+    at: usize,
+    bytes: &[u8],
+) -> Result<(), NoMemory>
+    requires { at + length bytes.now < 2 ^ 64 }
+    ensures { OnOk result (items.new ≡ items.old ++ faults_as_items (character_faults reading at bytes.now)) }
+{
+    let mut told = Told {
+        bad_char: false,
+        bad_text: false,
+    };
+    let mut at = at;
+    let mut rest = bytes;
+    while !rest.is_empty() {
+        let piece = front_piece(reading, rest);
+        let flaw = piece_flaw(reading, piece);
+        let to = at + piece.len();
+        push_new(alloc, items, told, flaw, Span { from: at, to })?;
+        told = told.behind(flaw);
+        at = to;
+        rest = &rest[piece.len()..];
+    }
+    Ok(())
+}

@@ -1,0 +1,69 @@
+//! Laws of events and faults, by which the layers above know where they lie and that they move with the text. Nothing here runs.
+
+ghost use Rattle.nx_events.specs.Moves.{ItemsMoveWithTokens, StatesHoldNoPlace, ItemsMoveWithEnd};
+ghost use Rattle.nx_events.specs.Spelling.{TagsAreRead};
+ghost use Rattle.nx_events.specs.Texts.{TokensGiveText, FirstStateIsText, EndsGiveText, AllTokensGiveText};
+ghost use Rattle.nx_events.specs.Spans.{ItemsLieInTokens, ItemsLieInText, RunsGrowByTokens};
+
+/// What a start tag or an empty-element tag spells is what is read in it: its name, and its attributes with
+/// their places.
+pub fn tags_are_read()
+    ensures { TagsAreRead }
+{}
+
+/// The items of a token lie between the begin of the run that was pending and the token's end.
+#[tactic(auto, using(crate::proofs::Spans::items_lie_in_tokens))]
+pub fn items_lie_in_tokens()
+    ensures { ItemsLieInTokens }
+{}
+
+/// Those of the end of a text lie between the begin of that run and the end.
+#[tactic(auto, using(crate::proofs::Spans::items_lie_in_text))]
+pub fn items_lie_in_text()
+    ensures { ItemsLieInText }
+{}
+
+/// A token farther on gives the same items, as much farther on.
+#[tactic(auto, using(crate::proofs::Moves::items_move_with_tokens))]
+pub fn items_move_with_tokens()
+    ensures { ItemsMoveWithTokens }
+{}
+
+/// And it leads to the same state.
+#[tactic(auto, using(crate::proofs::Moves::states_hold_no_place))]
+pub fn states_hold_no_place()
+    ensures { StatesHoldNoPlace }
+{}
+
+/// A longer text gives the same items at its end, as much farther on.
+#[tactic(auto, using(crate::proofs::Moves::items_move_with_end))]
+pub fn items_move_with_end()
+    ensures { ItemsMoveWithEnd }
+{}
+
+/// A pending run reaches back farther by a token's length at most.
+#[tactic(auto, using(crate::proofs::Folding::back_grows))]
+pub fn runs_grow_by_tokens()
+    ensures { RunsGrowByTokens }
+{}
+
+/// A token that is UTF-8 and of its kind gives names, strings and details that are UTF-8, and leads from a
+/// state whose names and strings are UTF-8 to another such.
+pub fn tokens_give_text()
+    ensures { TokensGiveText }
+{}
+
+/// The first state is such a state.
+pub fn first_state_is_text()
+    ensures { FirstStateIsText }
+{}
+
+/// The end of a text gives such items.
+pub fn ends_give_text()
+    ensures { EndsGiveText }
+{}
+
+/// So all tokens of a text do.
+pub fn all_tokens_give_text()
+    ensures { AllTokensGiveText }
+{}

@@ -1,0 +1,148 @@
+//! The namespace declarations of a tag (Namespaces in XML 1.0, sections 2.2, 3 and 5).
+
+ghost use Rattle.std.specs.Prelude.{◌≡◌, ◌++◌, [], IfOk, OnOk};
+ghost use Rattle.nx_events.specs.Faults.{fault_of, faults_as_items};
+ghost use Rattle.nx_events.specs.Declarations.{is_declaration, declared_prefix, is_bad_binding, has_attribute, flaw_kind, declaration_flaw, flaw_faults, binding_unless, faults_at, bindings_at, declaration_faults, bindings};
+
+use crate::flaw::Flaw;
+use crate::item::{Item, Items};
+use crate::qname::is_qname;
+use crate::scope::{Binding, XML_URI, XMLNS_URI};
+use crate::tag::{Attribute, copy_of};
+use nx_base::fault::{Fault, Kind, Span};
+use nx_base::memory::NoMemory;
+use nx_base::sequence::TryCopy;
+use std::alloc::Global;
+
+/// Whether an attribute of this name is a declaration.
+#[tactic(auto, unfolding(crate::specs::Declarations::is_declaration))]
+pub(crate) fn is_declaration(name: &[u8]) -> bool
+    ensures { result ≡ is_declaration name.now }
+{
+    name == b"xmlns".as_slice() || name.starts_with(b"xmlns:")
+}
+
+// The prefix that a declaration of this name declares.
+#[tactic(auto, unfolding(crate::specs::Declarations::declared_prefix))]
+fn declared_prefix(name: &[u8]) -> &[u8]
+    ensures { result.now ≡ declared_prefix name.now }
+{
+    if name.len() < 6 { &[] } else { &name[6..] }
+}
+
+// Whether this prefix may not be bound to this URI.
+#[tactic(auto, unfolding(crate::specs::Declarations::is_bad_binding))]
+fn is_bad_binding(prefix: &[u8], uri: &[u8]) -> bool
+    ensures { result ≡ is_bad_binding prefix.now uri.now }
+{
+    if prefix == b"xmlns".as_slice() {
+        return true;
+    }
+    let is_xml = prefix == b"xml".as_slice();
+    let is_xml_uri = uri == XML_URI;
+    (is_xml && !is_xml_uri)
+        || (!is_xml && is_xml_uri)
+        || uri == XMLNS_URI
+        || (!prefix.is_empty() && uri.is_empty())
+}
+
+// Whether an attribute of this name is among these.
+fn has_attribute(attributes: &[Attribute], name: &[u8]) -> bool
+    ensures { result ≡ has_attribute attributes.now name.now }
+{
+    for other in attributes {
+        if other.name.as_slice() == name {
+            return true;
+        }
+    }
+    false
+}
+
+// What is wrong with a declaration behind these attributes of its tag.
+#[tactic(auto, unfolding(crate::specs::Declarations::flaw_kind))]
+fn flaw_kind(before: &[Attribute], it: &Attribute) -> Option<Kind>
+    ensures { result ≡ flaw_kind before.now it.now }
+{
+    if has_attribute(before, it.name.as_slice()) {
+        return Some(Kind::DuplicateAttribute);
+    }
+    if !is_qname(it.name.as_slice()) {
+        return Some(Kind::BadName);
+    }
+    if is_bad_binding(declared_prefix(it.name.as_slice()), it.string.as_slice()) {
+        return Some(Kind::BadBinding);
+    }
+    None
+}
+
+/// Adds a fault with this detail.
+pub(crate) fn push_flaw(items: &mut Items, span: Span, flaw: Flaw) -> Result<(), NoMemory>
+    ensures { OnOk result (items.new ≡ items.old ++ faults_as_items (flaw_faults span (Some flaw))) }
+{
+    items.push(Item::Fault(Fault {
+        span,
+        kind: flaw.kind,
+        detail: flaw.detail,
+    }))?;
+    Ok(())
+}
+
+// Adds the fault of a declaration to the items, or else its pair to the tag's own.
+fn declare(
+    alloc: Global,
+    items: &mut Items,
+    own: &mut Vec<Binding>,
+    before: &[Attribute],
+    it: &Attribute,
+) -> Result<(), NoMemory>
+    ensures faults { OnOk result (items.new ≡ items.old ++ faults_as_items (flaw_faults it.now.span (declaration_flaw before.now it.now))) }
+    ensures pairs { OnOk result (own.new.items ≡ own.old.items ++ binding_unless it.now (declaration_flaw before.now it.now)) }
+{
+    match flaw_kind(before, it) {
+        Some(kind) => {
+            let detail = it.name.copy()?;
+            push_flaw(items, it.span, Flaw { kind, detail })?;
+        }
+        None => {
+            own.push(Binding {
+                prefix: copy_of(alloc, declared_prefix(it.name.as_slice()))?,
+                uri: it.string.copy()?,
+            })?;
+        }
+    }
+    Ok(())
+}
+
+// The same of any attribute.
+#[tactic(auto, unfolding(crate::specs::Declarations::faults_at, crate::specs::Declarations::bindings_at))]
+fn declare_if(
+    alloc: Global,
+    items: &mut Items,
+    own: &mut Vec<Binding>,
+    before: &[Attribute],
+    it: &Attribute,
+) -> Result<(), NoMemory>
+    ensures faults { OnOk result (items.new ≡ items.old ++ faults_as_items (faults_at before.now it.now)) }
+    ensures pairs { OnOk result (own.new.items ≡ own.old.items ++ bindings_at before.now it.now) }
+{
+    if is_declaration(it.name.as_slice()) {
+        declare(alloc, items, own, before, it)?;
+    }
+    Ok(())
+}
+
+/// The pairs that the attributes of a tag declare. The faults of declarations are added to the items.
+pub(crate) fn declarations(
+    alloc: Global,
+    items: &mut Items,
+    attributes: &[Attribute],
+) -> Result<Vec<Binding>, NoMemory>
+    ensures faults { OnOk result (items.new ≡ items.old ++ faults_as_items (declaration_faults [] attributes.now)) }
+    ensures pairs { IfOk result (λ own. own.items ≡ bindings [] attributes.now) }
+{
+    let mut own = Vec::new(alloc);
+    for (i, it) in attributes.iter().enumerate() {
+        declare_if(alloc, items, &mut own, &attributes[..i], it)?;
+    }
+    Ok(own)
+}

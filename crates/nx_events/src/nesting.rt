@@ -1,0 +1,62 @@
+//! Open elements, the innermost last, and their ends (XML 1.0, 3, Element Type Match).
+
+ghost use Rattle.std.specs.Prelude.{◌≡◌, ◌++◌, ◌<◌, ◌≤◌, length, reverse, OnOk, IfSome};
+ghost use Rattle.std.specs.List.{flat_map};
+ghost use Rattle.nx_events.specs.Items.{around_innermost, left_out};
+
+use crate::item::{Event, Item, Items};
+use crate::state::OpenElement;
+use nx_base::fault::{Fault, Kind, Span};
+use nx_base::memory::NoMemory;
+use nx_base::sequence::TryCopy;
+
+/// How many elements stand around the innermost one with this written name, if there is one.
+pub(crate) fn around_innermost(name: &[u8], elements: &[OpenElement]) -> Option<usize>
+    ensures value { result ≡ around_innermost name.now elements.now }
+    ensures bound { IfSome result (λ n. n < length elements.now) }
+{
+    let mut n = elements.len();
+    while n > 0 {
+        n -= 1;
+        let element = &elements[n];
+        if element.written.as_slice() == name {
+            return Some(n);
+        }
+    }
+    None
+}
+
+// Adds the fault of an element without an end tag of its own, and its end.
+fn push_left_out(
+    items: &mut Items,
+    kind: Kind,
+    span: Span,
+    element: &OpenElement,
+) -> Result<(), NoMemory>
+    ensures { OnOk result (items.new ≡ items.old ++ left_out kind span element.now) }
+{
+    items.push(Item::Fault(Fault {
+        span,
+        kind,
+        detail: element.written.copy()?,
+    }))?;
+    items.push(Item::Event(Event::Leave, span))?;
+    Ok(())
+}
+
+/// Adds the same of all these elements, the innermost first.
+pub(crate) fn push_all_left_out(
+    items: &mut Items,
+    kind: Kind,
+    span: Span,
+    elements: &[OpenElement],
+) -> Result<(), NoMemory>
+    ensures { OnOk result (items.new ≡ items.old ++ flat_map (left_out kind span) (reverse elements.now)) }
+{
+    let mut n = elements.len();
+    while n > 0 {
+        n -= 1;
+        push_left_out(items, kind, span, &elements[n])?;
+    }
+    Ok(())
+}

@@ -1,0 +1,23 @@
+//! Where in a document a state is, and how a token passes.
+
+ghost use Rattle.std.specs.Prelude.{◌≡◌, ◌+◌, ◌<◌, ◌^◌, length};
+ghost use Rattle.nx_events.specs.Runs.{run_back};
+ghost use Rattle.nx_events.specs.Items.{is_inside, passed};
+
+use crate::state::{EventState, pass_run};
+use nx_base::token::Token;
+
+pub(crate) fn is_inside(state: &EventState) -> bool
+    ensures { result ≡ is_inside state.now }
+{
+    state.elements.len() > 0
+}
+
+/// The state behind a token that neither opens, closes nor adds to a run.
+pub(crate) fn pass(state: &mut EventState, token: &Token)
+    requires { run_back state.old.run + length token.now.bytes < 2 ^ 64 }
+    ensures { state.new ≡ passed state.old token.now }
+{
+    pass_run(&mut state.run, token.bytes.len());
+    state.came = true;
+}

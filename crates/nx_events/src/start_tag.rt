@@ -1,0 +1,160 @@
+//! Start tags and empty-element tags.
+
+ghost use Rattle.std.specs.Prelude.{◌≡◌, ◌+◌, ◌<◌, ◌≤◌, ◌^◌, ◌++◌, length, IfOk, OnOk, OnErr};
+ghost use Rattle.nx_events.specs.Faults.{faults_as_items};
+ghost use Rattle.nx_events.specs.CharacterFaults.{character_faults};
+ghost use Rattle.nx_events.specs.Elements.{element_items, element_resolved};
+ghost use Rattle.nx_events.specs.Tags.{start_name};
+ghost use Rattle.nx_events.specs.Runs.{run_back, run_items};
+ghost use Rattle.nx_events.specs.Items.{token_span, is_behind, own_bindings, start_items, empty_items, opened, emptied};
+
+use crate::append::append;
+use crate::character_fault::push_character_faults;
+use crate::element::{element_resolved, push_attributes, push_element};
+use crate::item::{Event, Item, Items};
+use crate::namespace::declarations;
+use crate::reading::Reading;
+use crate::scope::Binding;
+use crate::stage::is_inside;
+use crate::state::{EventState, OpenElement, push_run};
+use crate::tag::{copy_of, start_name, tag_attributes};
+use crate::token_fault::token_span;
+use nx_base::memory::NoMemory;
+use nx_base::token::Token;
+use std::alloc::Global;
+
+// What a start tag gives, and the pairs that it declares.
+#[derive(Drop)]
+struct Opening {
+    items: Items,
+    own: Vec<Binding>,
+}
+
+// Adds the run before a tag, and the faults of the tag's characters.
+fn push_before(
+    alloc: Global,
+    items: &mut Items,
+    state: &EventState,
+    token: &Token,
+) -> Result<(), NoMemory>
+    requires place { run_back state.now.run ≤ token.now.from }
+    requires room { token.now.from + length token.now.bytes < 2 ^ 64 }
+    ensures { OnOk result (items.new ≡ items.old ++ run_items token.now.from state.now.run
+        ++ faults_as_items (character_faults Reading.Value token.now.from token.now.bytes)) }
+{
+    push_run(items, token.from, &state.run)?;
+    push_character_faults(
+        alloc,
+        items,
+        Reading::Value,
+        token.from,
+        token.bytes.as_slice(),
+    )?;
+    Ok(())
+}
+
+// Adds the element of a tag that declares these pairs.
+fn push_tag_element(
+    alloc: Global,
+    items: &mut Items,
+    state: &EventState,
+    token: &Token,
+    own: &[Binding],
+) -> Result<(), NoMemory>
+    requires { token.now.from + length token.now.bytes < 2 ^ 64 }
+    ensures { OnOk result (items.new ≡ items.old ++ element_items (token_span token.now)
+        (element_resolved (is_behind state.now) (state.now.scope ++ own.now) (start_name token.now.bytes))) }
+{
+    let behind_root = state.started && !is_inside(state);
+    let written = start_name(token.bytes.as_slice());
+    let resolved = element_resolved(alloc, behind_root, state.scope.as_slice(), own, written)?;
+    push_element(items, token_span(token), resolved)?;
+    Ok(())
+}
+
+// The items of a start tag.
+#[tactic(auto, unfolding(crate::specs::Items::start_items))]
+fn start_items(alloc: Global, state: &EventState, token: &Token) -> Result<Opening, NoMemory>
+    requires place { run_back state.now.run ≤ token.now.from }
+    requires room { token.now.from + length token.now.bytes < 2 ^ 64 }
+    ensures items { IfOk result (λ opening. opening.items ≡ start_items state.now token.now) }
+    ensures pairs { IfOk result (λ opening. opening.own.items ≡ own_bindings token.now) }
+{
+    let mut items = Items::new(alloc);
+    push_before(alloc, &mut items, state, token)?;
+    let attributes = tag_attributes(alloc, token.from, token.bytes.as_slice())?;
+    let own = declarations(alloc, &mut items, attributes.as_slice())?;
+    push_tag_element(alloc, &mut items, state, token, own.as_slice())?;
+    push_attributes(
+        alloc,
+        &mut items,
+        state.scope.as_slice(),
+        own.as_slice(),
+        attributes.as_slice(),
+    )?;
+    items.push(Item::Event(Event::TagEnd, token_span(token)))?;
+    Ok(Opening { items, own })
+}
+
+// The state inside of an element that declares these pairs.
+fn open(
+    alloc: Global,
+    state: &mut EventState,
+    token: &Token,
+    own: &[Binding],
+) -> Result<(), NoMemory>
+    requires { own.now ≡ own_bindings token.now }
+    ensures ok { OnOk result (state.new ≡ opened state.old token.now) }
+    ensures err { OnErr result (state.new ≡ state.old) }
+{
+    let element = OpenElement {
+        written: copy_of(alloc, start_name(token.bytes.as_slice()))?,
+        outer: state.scope.len(),
+    };
+    state.elements.push(element)?;
+    if append(&mut state.scope, own).is_err() {
+        let n = state.elements.len();
+        state.elements.cut(n - 1, n);
+        return Err(NoMemory);
+    }
+    state.came = true;
+    state.started = true;
+    state.run = None;
+    Ok(())
+}
+
+pub(crate) fn take_start(
+    alloc: Global,
+    state: &mut EventState,
+    token: &Token,
+) -> Result<Items, NoMemory>
+    requires place { run_back state.old.run ≤ token.now.from }
+    requires room { token.now.from + length token.now.bytes < 2 ^ 64 }
+    ensures items { IfOk result (λ items. items ≡ start_items state.old token.now) }
+    ensures state { OnOk result (state.new ≡ opened state.old token.now) }
+    ensures unchanged { OnErr result (state.new ≡ state.old) }
+{
+    let Opening { items, own } = start_items(alloc, state, token)?;
+    open(alloc, state, token, own.as_slice())?;
+    Ok(items)
+}
+
+#[tactic(auto, unfolding(crate::specs::Items::empty_items))]
+pub(crate) fn take_empty(
+    alloc: Global,
+    state: &mut EventState,
+    token: &Token,
+) -> Result<Items, NoMemory>
+    requires place { run_back state.old.run ≤ token.now.from }
+    requires room { token.now.from + length token.now.bytes < 2 ^ 64 }
+    ensures items { IfOk result (λ items. items ≡ empty_items state.old token.now) }
+    ensures state { OnOk result (state.new ≡ emptied state.old) }
+    ensures unchanged { OnErr result (state.new ≡ state.old) }
+{
+    let Opening { mut items, own: _ } = start_items(alloc, state, token)?;
+    items.push(Item::Event(Event::Leave, token_span(token)))?;
+    state.came = true;
+    state.started = true;
+    state.run = None;
+    Ok(items)
+}

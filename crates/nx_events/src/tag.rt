@@ -1,0 +1,177 @@
+//! What is written in a tag (XML 1.0, 3.1).
+
+ghost use Rattle.std.specs.Prelude.{◌≡◌, ◌+◌, ◌<◌, ◌≤◌, ◌^◌, ◌++◌, true, false, length, IfOk, OnOk, MatchOption};
+ghost use Rattle.nx_events.specs.Tags.{written_name, quote_place, value_len, attribute_len, begins_attribute, attribute_at, front_attribute, front_len, attributes_from, start_name, end_name, tag_attributes};
+
+use crate::front::{byte_place, is_between, name_end, quote_place};
+use crate::piece::string_of;
+use crate::reading::Reading;
+use nx_base::fault::Span;
+use nx_base::memory::NoMemory;
+use nx_base::sequence::Bytes;
+use std::alloc::Global;
+
+/// An attribute of a tag.
+#[derive(Drop)]
+pub struct Attribute {
+    /// The name as it is written.
+    pub name: Bytes,
+    /// The value's string: line ends and references read, white space made spaces.
+    pub string: Bytes,
+    /// From the name through the closing quote.
+    pub span: Span,
+    /// Between the quotes.
+    pub value: Span,
+}
+
+// Where the opening quote of an attribute at the front stands, and how long its value is.
+#[derive(Clone, Copy)]
+struct Extent {
+    quote: usize,
+    value: usize,
+}
+
+/// The name that a part of a tag begins with.
+#[tactic(auto, unfolding(crate::specs::Tags::written_name))]
+pub(crate) fn written_name(bytes: &[u8]) -> &[u8]
+    ensures { result.now ≡ written_name bytes.now }
+{
+    &bytes[..name_end(bytes)]
+}
+
+/// The name of a start tag or an empty-element tag.
+pub(crate) fn start_name(bytes: &[u8]) -> &[u8]
+    ensures { result.now ≡ start_name bytes.now }
+{
+    if bytes.is_empty() {
+        return written_name(&[]);
+    }
+    written_name(&bytes[1..])
+}
+
+/// The name of an end tag.
+pub(crate) fn end_name(bytes: &[u8]) -> &[u8]
+    ensures { result.now ≡ end_name bytes.now }
+{
+    if bytes.len() < 2 {
+        return written_name(&[]);
+    }
+    written_name(&bytes[2..])
+}
+
+// The extent of the attribute at the front, if there is one.
+fn attribute_extent(bytes: &[u8]) -> Option<Extent>
+    ensures { MatchOption result (begins_attribute bytes.now ≡ false) (λ e. (begins_attribute bytes.now ≡ true)
+        × (e.quote ≡ quote_place bytes.now) × (e.value ≡ value_len bytes.now) × (e.quote + e.value + 2 ≤ length bytes.now)) }
+{
+    if bytes.is_empty() {
+        return None;
+    }
+    if is_between(bytes[0]) {
+        return None;
+    }
+    let quote = quote_place(bytes);
+    if quote == bytes.len() {
+        return None;
+    }
+    let rest = &bytes[quote + 1..];
+    let value = byte_place(rest, bytes[quote]);
+    if value == rest.len() {
+        return None;
+    }
+    Some(Extent { quote, value })
+}
+
+/// A copy of the bytes.
+pub(crate) fn copy_of(alloc: Global, bytes: &[u8]) -> Result<Bytes, NoMemory>
+    ensures { IfOk result (λ copied. copied ≡ bytes.now) }
+{
+    Ok(Bytes::from_vec(Vec::from_slice(alloc, bytes)?))
+}
+
+// The attribute at the front, which has this extent and begins at the place `at`.
+#[tactic(auto, unfolding(crate::specs::Tags::attribute_at, crate::specs::Tags::attribute_len, crate::specs::Tags::written_value))]
+fn attribute_at(
+    alloc: Global,
+    at: usize,
+    bytes: &[u8],
+    extent: Extent,
+) -> Result<Attribute, NoMemory>
+    requires quote { extent.quote ≡ quote_place bytes.now }
+    requires value { extent.value ≡ value_len bytes.now }
+    requires inside { extent.quote + extent.value + 2 ≤ length bytes.now }
+    requires room { at + length bytes.now < 2 ^ 64 }
+    ensures { IfOk result (λ it. it ≡ attribute_at at bytes.now) }
+{
+    let from = extent.quote + 1;
+    let to = from + extent.value;
+    Ok(Attribute {
+        name: copy_of(alloc, written_name(bytes))?,
+        string: string_of(alloc, Reading::Value, &bytes[from..to])?,
+        span: Span {
+            from: at,
+            to: at + to + 1,
+        },
+        value: Span {
+            from: at + from,
+            to: at + to,
+        },
+    })
+}
+
+// Adds the attribute at the front, if there is one, and says how many bytes were passed.
+#[tactic(auto, unfolding(crate::specs::Tags::front_attribute, crate::specs::Tags::front_len, crate::specs::Tags::attribute_len))]
+fn push_front(
+    alloc: Global,
+    out: &mut Vec<Attribute>,
+    at: usize,
+    bytes: &[u8],
+) -> Result<usize, NoMemory>
+    requires some { 0 < length bytes.now }
+    requires room { at + length bytes.now < 2 ^ 64 }
+    ensures pushed { OnOk result (out.new.items ≡ out.old.items ++ front_attribute at bytes.now) }
+    ensures passed { IfOk result (λ n. n ≡ front_len bytes.now) }
+    ensures positive { IfOk result (λ n. 0 < n) }
+    ensures bound { IfOk result (λ n. n ≤ length bytes.now) }
+{
+    match attribute_extent(bytes) {
+        None => Ok(1),
+        Some(extent) => {
+            out.push(attribute_at(alloc, at, bytes, extent)?)?;
+            Ok(extent.quote + extent.value + 2)
+        }
+    }
+}
+
+// The attributes in bytes that begin at the place `at`.
+fn attributes_from(alloc: Global, at: usize, bytes: &[u8]) -> Result<Vec<Attribute>, NoMemory>
+    requires { at + length bytes.now < 2 ^ 64 }
+    ensures { IfOk result (λ all. all.items ≡ attributes_from 0 at bytes.now) }
+{
+    let mut out = Vec::new(alloc);
+    let mut at = at;
+    let mut rest = bytes;
+    while !rest.is_empty() {
+        let n = push_front(alloc, &mut out, at, rest)?;
+        at += n;
+        rest = &rest[n..];
+    }
+    Ok(out)
+}
+
+/// The attributes of a tag that begins at the place `at`.
+pub(crate) fn tag_attributes(
+    alloc: Global,
+    at: usize,
+    bytes: &[u8],
+) -> Result<Vec<Attribute>, NoMemory>
+    requires { at + length bytes.now < 2 ^ 64 }
+    ensures { IfOk result (λ all. all.items ≡ tag_attributes at bytes.now) }
+{
+    if bytes.is_empty() {
+        return Ok(Vec::new(alloc));
+    }
+    let n = 1 + name_end(&bytes[1..]);
+    let all = attributes_from(alloc, at + n, &bytes[n..])?;
+    Ok(all)
+}

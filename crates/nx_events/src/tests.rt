@@ -1,0 +1,274 @@
+ghost use Rattle.std.specs.Prelude.{◌≤◌, ◌↔◌, IsTrue};
+ghost use Rattle.nx_events.specs.Runs.{run_back};
+
+use crate::equal::same;
+use crate::fold::items_of_tokens;
+use crate::item::{Event, Item, Items};
+use crate::reader::{begin, copy, depth, finish, pending, take};
+use crate::state::EventState;
+use nx_base::sequence::Bytes;
+use nx_base::token::{Token, TokenKind};
+use std::alloc::Global;
+use std::process::Abort;
+use std::test::Fail;
+
+// Whether the pending run begins at this place or before it.
+fn reaches_back(state: &EventState, at: usize) -> bool
+    ensures { IsTrue result ↔ (run_back state.now.run ≤ at) }
+{
+    match &state.run {
+        None => true,
+        Some(run) => run.gap <= at && run.len <= at - run.gap,
+    }
+}
+
+fn kind_of(mark: u8) -> TokenKind {
+    match mark {
+        b't' => TokenKind::Text,
+        b's' => TokenKind::Start,
+        b'm' => TokenKind::Empty,
+        b'e' => TokenKind::End,
+        b'c' => TokenKind::Comment,
+        b'p' => TokenKind::Pi,
+        b'd' => TokenKind::Cdata,
+        b'D' => TokenKind::Doctype,
+        b'x' => TokenKind::Decl,
+        b'b' => TokenKind::Bad,
+        b'u' => TokenKind::Unclosed,
+        _ => TokenKind::Bom,
+    }
+}
+
+fn text_of(alloc: Global, bytes: &Bytes) -> Result<String, Fail> {
+    let text = std::str::from_utf8(bytes.as_slice())?;
+    Ok(String::from_str(alloc, text)?)
+}
+
+fn print(alloc: Global, out: &mut String, item: &Item) -> Result<(), Fail> {
+    match item {
+        Item::Fault(fault) => {
+            let from = fault.span.from;
+            let to = fault.span.to;
+            let kind = fault.kind;
+            let detail = text_of(alloc, &fault.detail)?;
+            write!(out, "{from}-{to} {kind:?} {detail};")?;
+        }
+        Item::Event(event, span) => {
+            let from = span.from;
+            let to = span.to;
+            write!(out, "{from}-{to} ")?;
+            print_event(alloc, out, event)?;
+        }
+    }
+    Ok(())
+}
+
+fn print_event(alloc: Global, out: &mut String, event: &Event) -> Result<(), Fail> {
+    match event {
+        Event::Enter(name) => {
+            let ns = text_of(alloc, &name.ns)?;
+            let local = text_of(alloc, &name.local)?;
+            write!(out, "Enter {{{ns}}}{local};")?;
+        }
+        Event::EnterLost => write!(out, "EnterLost;")?,
+        Event::Att(name, value) => {
+            let ns = text_of(alloc, &name.ns)?;
+            let local = text_of(alloc, &name.local)?;
+            let value = text_of(alloc, value)?;
+            write!(out, "Att {{{ns}}}{local}={value};")?;
+        }
+        Event::TagEnd => write!(out, "TagEnd;")?,
+        Event::Chars(string) => {
+            let string = text_of(alloc, string)?;
+            write!(out, "Chars {string};")?;
+        }
+        Event::Leave => write!(out, "Leave;")?,
+    }
+    Ok(())
+}
+
+fn print_all(alloc: Global, out: &mut String, items: &Items, all: bool) -> Result<(), Fail> {
+    for item in items.as_slice() {
+        if all || matches!(item, Item::Fault(_)) {
+            print(alloc, out, item)?;
+        }
+    }
+    Ok(())
+}
+
+// The items of these tokens, each a mark of its kind and its text, one behind another.
+fn read(rt: &impl Abort, alloc: Global, parts: &str, all: bool) -> Result<String, Fail> {
+    let mut state = begin(alloc)?;
+    let mut out = String::new(alloc);
+    let mut at = 0;
+    for part in parts.split('|') {
+        let bytes = part.as_bytes();
+        if bytes.is_empty() {
+            continue;
+        }
+        let token = Token {
+            kind: kind_of(bytes[0]),
+            from: at,
+            bytes: Bytes::from_vec(Vec::from_slice(alloc, &bytes[1..])?),
+        };
+        assert!(rt; at < 1000 && token.bytes.len() < 1000 && reaches_back(&state, at));
+        at += token.bytes.len();
+        let items = take(alloc, &mut state, &token)?;
+        print_all(alloc, &mut out, &items, all)?;
+    }
+    assert!(rt; reaches_back(&state, at));
+    let items = finish(alloc, &state, at)?;
+    print_all(alloc, &mut out, &items, all)?;
+    Ok(out)
+}
+
+#[test]
+fn faults(rt: HostRuntime) -> Result<(), Fail> {
+    for (parts, expected) in [
+        ("s<a>|s<b>|e</a>", "6-10 MissingEnd b;"),
+        (
+            "s<a>|s<b>|s<c>|e</a>",
+            "9-13 MissingEnd c;9-13 MissingEnd b;",
+        ),
+        (
+            "s<a x='1' x='2'>|t&nbsp;|e</a>",
+            "9-14 DuplicateAttribute x;15-21 BadReference ;",
+        ),
+        ("s<a>|b<b |e</a>", "3-6 BadMarkup ;"),
+        ("b</|m<a/>", "0-2 BadMarkup ;"),
+        ("m<a/>|m<b/>", "4-8 SecondRoot b;"),
+        ("m<a/>|s<b>|tx|m<c/>|e</b>", "4-7 SecondRoot b;"),
+        ("m<p:a/>", "0-6 UndeclaredPrefix p;"),
+        ("", "0-0 NoRoot ;"),
+        ("c<!---->", "7-7 NoRoot ;"),
+        ("s<a>|u<!-- x", "3-9 Unclosed ;9-9 UnclosedElement a;"),
+        ("m<a/>|u<![CDATA[ x", "4-15 Unclosed ;"),
+        (
+            "s<a>|s<b>|tT",
+            "7-7 UnclosedElement b;7-7 UnclosedElement a;",
+        ),
+        ("s<a>|t\u{1}\u{2}|e</a>", "3-4 BadChar ;"),
+        ("s<a>|tx\u{ffff}y|e</a>", "4-7 BadChar ;"),
+        (
+            "m<a x='&#0;&#xD800;&#110000000;'/>",
+            "6-10 BadReference ;10-18 BadReference ;18-30 BadReference ;",
+        ),
+        (
+            "s<a>|t&x &#; & &;|e</a>",
+            "3-4 BadReference ;6-7 BadReference ;10-11 BadReference ;12-13 BadReference ;",
+        ),
+        ("s<a>|t]]]>]]>|e</a>", "4-7 BadText ;"),
+        ("s<a>|t]]|c<!---->|t>]]>|e</a>", "13-16 BadText ;"),
+        ("c<!-- a--b -->|m<a/>", "0-13 BadComment ;"),
+        ("c<!--a--->|m<a/>", "0-9 BadComment ;"),
+        (
+            "p<?xMl?>|p<??>|p<?a:b?>|p<?a+?>|p<?a?>|m<a/>",
+            "0-7 BadPi ;7-11 BadPi ;11-18 BadPi ;18-24 BadPi ;",
+        ),
+        ("x<?xml version='2.0'?>|m<a/>", "0-21 BadDecl ;"),
+        (
+            "x<?xml version='1.0' standalone='no' encoding='UTF-8'?>|m<a/>",
+            "0-54 BadDecl ;",
+        ),
+        (
+            "x<?xml version = \"1.1\" encoding='us-ascii' standalone='yes' ?>|m<a/>",
+            "",
+        ),
+        (
+            "c<!---->|x<?xml version='1.0'?>|m<a/>|D<!DOCTYPE a>",
+            "7-28 Misplaced ;32-44 Misplaced ;",
+        ),
+        (
+            "tx|m<a/>|d<![CDATA[]]>|t&#32;",
+            "0-1 TextOutside ;5-17 TextOutside ;17-22 TextOutside ;",
+        ),
+        ("m<a/>|e</a>", "4-8 ExtraEnd a;"),
+        (
+            "m<a:1 :b='' c:d:e='' xmlns:f:g='h'/>",
+            "20-33 BadName xmlns:f:g;0-35 BadName a:1;5-10 BadName :b;11-19 BadName c:d:e;",
+        ),
+        (
+            "m<a b:c='' xmlns:b='u' xmlns:d='u' d:c=''/>",
+            "34-40 DuplicateAttribute d:c;",
+        ),
+        ("s<a xmlns:b='u'>|e</a>|m<b:a/>", "19-25 SecondRoot b:a;"),
+        (
+            "s<a xmlns:p='u'>|m<p:b xmlns:p=''/>|e</a>",
+            "20-30 BadBinding xmlns:p;",
+        ),
+        (
+            "m<xmlns:a xml:b='' xmlns:xml='u' xmlns:c='http://www.w3.org/XML/1998/namespace' xmlns='http://www.w3.org/2000/xmlns/'/>",
+            "18-31 BadBinding xmlns:xml;32-78 BadBinding xmlns:c;79-116 BadBinding xmlns;0-118 UndeclaredPrefix xmlns;",
+        ),
+    ] {
+        let printed = read(&rt, rt.alloc(), parts, false)?;
+        assert_eq!(rt; printed.as_str(), expected, "for {parts}");
+    }
+    Ok(())
+}
+
+#[test]
+fn events(rt: HostRuntime) -> Result<(), Fail> {
+    for (parts, expected) in [
+        (
+            "s<p:a xmlns:p='u' x='1' p:x=\"a &lt; b\tc\">|ta&#65;\r\nb|c<!---->|d<![CDATA[&\r]]>|e</p:a>",
+            "0-40 Enter {u}a;20-21 Att {}x=1;28-38 Att {u}x=a < b c;0-40 TagEnd;40-70 Chars aA\nb&\n;70-76 Leave;",
+        ),
+        (
+            "s<a xmlns='u'>|s<b xmlns=''>|m<c/>|e</b>|m<d/>|e</a>",
+            "0-13 Enter {u}a;0-13 TagEnd;13-25 Enter {}b;13-25 TagEnd;25-29 Enter {}c;25-29 TagEnd;25-29 Leave;29-33 Leave;33-37 Enter {u}d;33-37 TagEnd;33-37 Leave;37-41 Leave;",
+        ),
+        (
+            "m<a x='1\r\n2&#13;&#10;3\r4'/>",
+            "0-26 Enter {}a;6-23 Att {}x=1 2\r\n3 4;0-26 TagEnd;0-26 Leave;",
+        ),
+        (
+            "s<a>|tx|e</b>|ty|e</a>",
+            "0-3 Enter {}a;0-3 TagEnd;4-8 ExtraEnd b;3-9 Chars xy;9-13 Leave;",
+        ),
+    ] {
+        let printed = read(&rt, rt.alloc(), parts, true)?;
+        assert_eq!(rt; printed.as_str(), expected, "for {parts}");
+    }
+    Ok(())
+}
+
+#[test]
+fn states(rt: HostRuntime) -> Result<(), Fail> {
+    let alloc = rt.alloc();
+    let mut state = begin(alloc)?;
+    let start = Token {
+        kind: TokenKind::Start,
+        from: 0,
+        bytes: Bytes::from_vec(Vec::from_slice(alloc, b"<a>")?),
+    };
+    assert!(rt; reaches_back(&state, 0));
+    take(alloc, &mut state, &start)?;
+    let kept = copy(alloc, &state)?;
+    assert!(rt; same(&state, &kept) && !pending(&state) && depth(&state) == 1);
+    let text = Token {
+        kind: TokenKind::Text,
+        from: 3,
+        bytes: Bytes::from_vec(Vec::from_slice(alloc, b"x")?),
+    };
+    assert!(rt; reaches_back(&state, 3));
+    take(alloc, &mut state, &text)?;
+    assert!(rt; !same(&state, &kept) && pending(&state));
+    Ok(())
+}
+
+#[test]
+#[tactic(auto, unfolding(nx_base::specs::Tokens::AreTokensFrom))]
+fn whole_texts(rt: HostRuntime) -> Result<(), Fail> {
+    let alloc = rt.alloc();
+    let tokens = [Token {
+        kind: TokenKind::Empty,
+        from: 0,
+        bytes: Bytes::from_vec(Vec::from_slice(alloc, b"<a/>")?),
+    }];
+    let items = items_of_tokens(alloc, &tokens, 4)?;
+    let mut printed = String::new(alloc);
+    print_all(alloc, &mut printed, &items, true)?;
+    assert_eq!(rt; printed.as_str(), "0-4 Enter {}a;0-4 TagEnd;0-4 Leave;");
+    Ok(())
+}

@@ -1,0 +1,88 @@
+//! Character data and CDATA sections.
+
+ghost use Rattle.std.specs.Prelude.{◌≡◌, ◌+◌, ◌<◌, ◌≤◌, ◌^◌, length, IfOk, OnOk, OnErr};
+ghost use Rattle.nx_events.specs.Strings.{cdata_content, string_of};
+ghost use Rattle.nx_events.specs.Runs.{run_back};
+ghost use Rattle.nx_events.specs.Items.{cdata_items, text_items, joined};
+
+use crate::front::are_spaces;
+use crate::item::Items;
+use crate::piece::string_of;
+use crate::reading::Reading;
+use crate::stage::{is_inside, pass};
+use crate::state::{EventState, join_run};
+use crate::token_fault::character_items;
+use nx_base::fault::Kind;
+use nx_base::memory::NoMemory;
+use nx_base::token::Token;
+use std::alloc::Global;
+
+// The content of a CDATA section.
+fn cdata_content(bytes: &[u8]) -> &[u8]
+    ensures { result.now ≡ cdata_content bytes.now }
+{
+    if bytes.len() < 12 {
+        return &[];
+    }
+    &bytes[9..bytes.len() - 3]
+}
+
+// The state behind character data with this content.
+fn join(
+    alloc: Global,
+    state: &mut EventState,
+    token: &Token,
+    reading: Reading,
+    content: &[u8],
+) -> Result<(), NoMemory>
+    requires { run_back state.old.run + length token.now.bytes < 2 ^ 64 }
+    ensures ok { OnOk result (state.new ≡ joined state.old token.now (string_of reading content.now)) }
+    ensures err { OnErr result (state.new ≡ state.old) }
+{
+    if is_inside(state) {
+        let string = string_of(alloc, reading, content)?;
+        join_run(&mut state.run, string, token.bytes.len())?;
+        state.came = true;
+    } else {
+        pass(state, token);
+    }
+    Ok(())
+}
+
+#[tactic(auto, unfolding(crate::specs::Items::text_items))]
+pub(crate) fn take_text(
+    alloc: Global,
+    state: &mut EventState,
+    token: &Token,
+) -> Result<Items, NoMemory>
+    requires place { run_back state.old.run ≤ token.now.from }
+    requires room { token.now.from + length token.now.bytes < 2 ^ 64 }
+    ensures items { IfOk result (λ items. items ≡ text_items state.old token.now) }
+    ensures state { OnOk result (state.new ≡ joined state.old token.now (string_of Reading.Text token.now.bytes)) }
+    ensures unchanged { OnErr result (state.new ≡ state.old) }
+{
+    let bytes = token.bytes.as_slice();
+    let outside = !is_inside(state) && !are_spaces(bytes);
+    let items = character_items(alloc, Reading::Text, outside, Kind::TextOutside, token)?;
+    join(alloc, state, token, Reading::Text, bytes)?;
+    Ok(items)
+}
+
+#[tactic(auto, unfolding(crate::specs::Items::cdata_items))]
+pub(crate) fn take_cdata(
+    alloc: Global,
+    state: &mut EventState,
+    token: &Token,
+) -> Result<Items, NoMemory>
+    requires place { run_back state.old.run ≤ token.now.from }
+    requires room { token.now.from + length token.now.bytes < 2 ^ 64 }
+    ensures items { IfOk result (λ items. items ≡ cdata_items state.old token.now) }
+    ensures state { OnOk result (state.new ≡ joined state.old token.now (string_of Reading.Plain (cdata_content token.now.bytes))) }
+    ensures unchanged { OnErr result (state.new ≡ state.old) }
+{
+    let bytes = token.bytes.as_slice();
+    let outside = !is_inside(state);
+    let items = character_items(alloc, Reading::Plain, outside, Kind::TextOutside, token)?;
+    join(alloc, state, token, Reading::Plain, cdata_content(bytes))?;
+    Ok(items)
+}
