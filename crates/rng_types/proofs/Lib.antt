@@ -1,0 +1,13 @@
+pub mod Names
+pub mod SplitWords
+pub mod Digits
+pub mod Comparing
+pub mod Splits
+pub mod Spaced
+pub mod Collapsed
+pub mod Lengths
+pub mod Replaced
+pub mod Blank
+pub mod FindRow
+pub mod LengthValue
+pub mod FacetList

@@ -1,0 +1,4 @@
+use Rattle.rng_types.proofs.table.builtin_type.Goals as goal
+
+pub returns : goal.returns
+returns c = c.find_row.ensures

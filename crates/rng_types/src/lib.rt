@@ -1,0 +1,24 @@
+//! Datatypes: which texts a type of a schema accepts, and which two of them have the same value.
+//!
+//! A type is put together from a treatment of white space, a form, and facets (`kind`, `facet`). The
+//! types that a schema can name are the rows of two tables (`table`), so a further type is a further
+//! row. Nothing here knows of patterns: `rng_core` stands above.
+#![tactic(auto)]
+
+pub mod datatype;
+pub mod facet;
+pub mod fault;
+mod form;
+pub mod kind;
+pub mod laws;
+mod length;
+mod meeting;
+mod naming;
+mod number;
+mod relation;
+mod sameness;
+pub mod spaces;
+mod table;
+#[cfg(test)]
+mod tests;
+pub mod word;
