@@ -1,0 +1,36 @@
+-- Names that a class doesn't mention are in it alike.
+use Rattle.std.specs.Prelude.{ℕ, Bool, true, false, not, ◌&&◌, ◌||◌, List}
+use Rattle.std.specs.Str.{bytes_eq}
+use Rattle.rng_core.specs.Names.{is_namespace, Class, any_name, ns_name, the_name, either, without, has_name}
+
+-- whether a class covers the names of a namespace that it doesn't mention
+abbrev pub covers_others_in : Class → List ℕ → Bool
+covers_others_in any_name ns = true
+covers_others_in (ns_name of) ns = bytes_eq ns of
+covers_others_in (the_name m) ns = false
+covers_others_in (either c d) ns = covers_others_in c ns || covers_others_in d ns
+covers_others_in (without c d) ns = covers_others_in c ns && not (covers_others_in d ns)
+
+-- whether it covers the names of the namespaces that it doesn't mention
+abbrev pub covers_others : Class → Bool
+covers_others any_name = true
+covers_others (ns_name of) = false
+covers_others (the_name m) = false
+covers_others (either c d) = covers_others c || covers_others d
+covers_others (without c d) = covers_others c && not (covers_others d)
+
+-- whether two classes share such names of a namespace
+abbrev pub share_others_in : Class → Class → List ℕ → Bool
+share_others_in c d ns = is_namespace ns && (covers_others_in c ns && covers_others_in d ns)
+
+-- whether two classes share a name that a third mentions, or such names of a namespace that it mentions
+abbrev pub meets_at : Class → Class → Class → Bool
+meets_at any_name c d = false
+meets_at (ns_name ns) c d = share_others_in c d ns
+meets_at (the_name m) c d = (has_name c m && has_name d m) || share_others_in c d m.ns
+meets_at (either x y) c d = meets_at x c d || meets_at y c d
+meets_at (without x y) c d = meets_at x c d || meets_at y c d
+
+-- whether two classes share one of all these
+abbrev pub overlaps : Class → Class → Bool
+overlaps c d = (covers_others c && covers_others d) || (meets_at c c d || meets_at d c d)
