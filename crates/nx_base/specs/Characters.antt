@@ -1,5 +1,7 @@
 -- The classes of characters of XML 1.0 (fifth edition), as ranges of code points with both ends.
-use Rattle.std.specs.Prelude.{ℕ, Bool, false, ◌||◌, ◌&&◌, nat_le, List, [], ◌∷◌}
+use Rattle.std.specs.Prelude.{ℕ, Bool, false, not, ◌||◌, ◌&&◌, ◌==◌, nat_le, List, [], ◌∷◌}
+use Rattle.std.specs.List.{list_all}
+use Rattle.std.specs.Str.{chars, is_utf8}
 
 -- the code point lies in one of the ranges
 abbrev pub is_in : List (ℕ × ℕ) → ℕ → Bool
@@ -36,3 +38,20 @@ is_name_start c = is_in name_start_ranges c
 
 unfoldable pub is_name_char : ℕ → Bool
 is_name_char c = is_name_start c || is_in further_name_ranges c
+
+-- nothing but white space, or nothing at all; each such character is one byte below 128, so that bytes serve for characters
+abbrev pub is_blank : List ℕ → Bool
+is_blank text = list_all is_space text
+
+-- UTF-8 whose characters XML allows
+abbrev pub is_of_chars : List ℕ → Bool
+is_of_chars text = is_utf8 text && list_all is_char (chars text)
+
+-- Name, section 2.3, over characters
+abbrev pub is_name : List ℕ → Bool
+is_name [] = false
+is_name (c ∷ cs) = is_name_start c && list_all is_name_char cs
+
+-- NCName, Namespaces in XML 1.0, section 3, over characters: a Name without `:` (58)
+abbrev pub is_nc_name : List ℕ → Bool
+is_nc_name cs = is_name cs && list_all (λ c. not (c == 58)) cs

@@ -4,6 +4,7 @@
 //! Nothing here reads a text. The crates above do, and hand these values to one another.
 #![tactic(auto)]
 
+pub mod cause;
 pub mod character;
 pub mod edit;
 pub mod fault;

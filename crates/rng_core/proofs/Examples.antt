@@ -13,7 +13,7 @@ use Rattle.rng_types.specs.declared.kind.Word.TheVariants.{Boolean}
 use Rattle.rng_types.specs.declared.kind.Form.TheVariants.{Any, One}
 use Rattle.rng_core.specs.Names.{Class, the_name, has_name, has_attribute_name}
 use Rattle.rng_core.specs.Patterns.{Pattern, Definition, not_allowed, empty, any_text, typed, literal, listed, attribute, ref, one_or_more, group, interleave}
-use Rattle.rng_core.specs.Trees.{Attribute, Children, nil, string, element}
+use Rattle.nx_base.specs.Trees.{Attribute, Children, nil, string, element}
 use Rattle.rng_core.specs.Matching.{Matches, no_attribute, to_first, to_second, then_second, string_of_first, element_of_first, no_child, string_to_first, element_to_first, element_to_second, AreStrings, no_string, one_string, as_they_stand, with_blanks_left_out, as_one_empty_string, by_group, by_empty, by_text, by_one, by_more, by_interleave, by_element, by_attribute, by_blank_attribute, by_data, by_value, by_list}
 
 abbrev in_no_namespace : List ℕ → Name

@@ -8,10 +8,10 @@ use Rattle.std.proofs.lemmas.Str.Ascii.{IsAscii-nil, IsAscii-cons}
 use Rattle.std.proofs.lemmas.List.{length-replicate}
 use Rattle.std.specs.List.{list_all}
 use Rattle.std.specs.Str.{chars, bytes_eq, is_utf8, IsAscii}
-use Rattle.nx_base.specs.Characters.{is_char, is_name_start, is_name_char}
+use Rattle.nx_base.specs.Characters.{is_char, is_name_start, is_name_char, is_of_chars, is_nc_name}
 use Rattle.nx_base.specs.declared.name.Name.{Name}
-use Rattle.rng_types.specs.Words.{is_of_chars, is_nc_name}
-use Rattle.rng_core.specs.Names.{xmlns_namespace, is_namespace, is_local, is_xml_name, same_name, Class, any_name, ns_name, the_name, either, without, covers, has_name, Overlap}
+use Rattle.nx_base.specs.Names.{xmlns_namespace, is_namespace, is_local, is_xml_name, same_name}
+use Rattle.rng_core.specs.Names.{Class, any_name, ns_name, the_name, either, without, covers, has_name, Overlap}
 use Rattle.rng_core.specs.Unmentioned.{covers_others_in, covers_others, share_others_in, meets_at, overlaps}
 
 -- whether a class mentions a name, and whether it mentions a namespace

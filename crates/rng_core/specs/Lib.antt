@@ -2,7 +2,6 @@ pub mod Names
 pub mod Unmentioned
 pub mod Patterns
 pub mod Meaning
-pub mod Trees
 pub mod Matching
 pub mod Validity
 pub mod Soundness

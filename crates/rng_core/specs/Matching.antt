@@ -2,13 +2,14 @@
 use Rattle.std.specs.Prelude.{◌≡◌, ℕ, List, [], ◌∷◌, Some, slice_get, IsTrue}
 use Rattle.std.specs.List.{AllByRecursion}
 use Rattle.nx_base.specs.declared.name.Name.{Name}
-use Rattle.rng_types.specs.Spaces.{is_blank, words}
+use Rattle.nx_base.specs.Characters.{is_blank}
+use Rattle.rng_types.specs.Spaces.{words}
 use Rattle.rng_types.specs.Types.{Accepts, SameValue, TakesAway}
 use Rattle.rng_types.specs.declared.datatype.Datatype.{Datatype}
 use Rattle.rng_types.specs.declared.datatype.Except.{Except}
 use Rattle.rng_core.specs.Names.{Class, has_name, has_attribute_name}
 use Rattle.rng_core.specs.Patterns.{Pattern, Definition, empty, any_text, typed, literal, listed, attribute, ref, one_or_more, choice, group, interleave}
-use Rattle.rng_core.specs.Trees.{Attribute, Children, nil, string, element, without_blanks, strings}
+use Rattle.nx_base.specs.Trees.{Attribute, Children, nil, string, element, without_blanks, strings}
 
 -- a set of attributes is split: each goes to one side
 pub data Split : List Attribute → List Attribute → List Attribute → Type 0 where

@@ -1,7 +1,7 @@
 -- Grammars whose references, literals and excepts are in order.
 use Rattle.std.specs.Prelude.{ℕ, ◌<◌, ◌≤◌, ◌^◌, List, length, IsTrue}
 use Rattle.std.specs.List.{AllByRecursion}
-use Rattle.rng_types.specs.Words.{is_of_chars}
+use Rattle.nx_base.specs.Characters.{is_of_chars}
 use Rattle.rng_types.specs.Types.{Accepts}
 use Rattle.rng_types.specs.declared.datatype.Datatype.{Datatype}
 use Rattle.rng_types.specs.declared.datatype.Except.{Except}

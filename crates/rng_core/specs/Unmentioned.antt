@@ -1,7 +1,8 @@
 -- Names that a class doesn't mention are in it alike.
 use Rattle.std.specs.Prelude.{ℕ, Bool, true, false, not, ◌&&◌, ◌||◌, List}
 use Rattle.std.specs.Str.{bytes_eq}
-use Rattle.rng_core.specs.Names.{is_namespace, Class, any_name, ns_name, the_name, either, without, has_name}
+use Rattle.nx_base.specs.Names.{is_namespace}
+use Rattle.rng_core.specs.Names.{Class, any_name, ns_name, the_name, either, without, has_name}
 
 -- whether a class covers the names of a namespace that it doesn't mention
 abbrev pub covers_others_in : Class → List ℕ → Bool

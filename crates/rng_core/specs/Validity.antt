@@ -1,7 +1,7 @@
 -- Lists of events that are valid, and those that can become so: ISO/IEC 19757-2, section 9.4.
 use Rattle.std.specs.Prelude.{◌≡◌, List, [], ◌++◌}
 use Rattle.rng_core.specs.Patterns.{Pattern, Definition}
-use Rattle.rng_core.specs.Trees.{Tree, Event, AreChildren, AreWritable, alone, flat}
+use Rattle.nx_base.specs.Trees.{Tree, Event, AreChildren, AreWritable, alone, flat}
 use Rattle.rng_core.specs.Matching.{Matches}
 
 -- the events of one tree that the pattern matches

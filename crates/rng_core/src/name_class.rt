@@ -1,7 +1,8 @@
 //! Name classes.
 
 ghost use Rattle.std.specs.Prelude.{◌≡◌, ◌&&◌, ◌||◌, ◌↔◌, IsTrue, IsOk, IfOk};
-ghost use Rattle.rng_core.specs.Names.{is_namespace as is_namespace_text, is_local as is_local_text, is_xml_name as is_name_of_xml, same_name as same_name_as, covers, has_name, Overlap};
+ghost use Rattle.nx_base.specs.Names.{is_namespace as is_namespace_text, is_local as is_local_text, is_xml_name as is_name_of_xml, same_name as same_name_as};
+ghost use Rattle.rng_core.specs.Names.{covers, has_name, Overlap};
 ghost use Rattle.rng_core.specs.Meaning.{class_of};
 ghost use Rattle.rng_core.specs.Unmentioned.{covers_others_in, covers_others, share_others_in as share_others_of, meets_at, overlaps as overlaps_of};
 

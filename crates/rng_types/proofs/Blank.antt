@@ -2,8 +2,8 @@
 use Rattle.std.specs.Prelude.{◌≡◌, ℕ, Bool, true, false, if◌then◌else◌, List, [], ◌∷◌}
 use Rattle.std.proofs.Common.{refl, sym, ap, ◌∙◌}
 use Rattle.std.proofs.lemmas.Bool.{false≢true, false_from_ne_true}
-use Rattle.nx_base.specs.Characters.{is_space}
-use Rattle.rng_types.specs.Spaces.{is_blank, words, collapsed, replaced_char, replaced, normalized}
+use Rattle.nx_base.specs.Characters.{is_space, is_blank}
+use Rattle.rng_types.specs.Spaces.{words, collapsed, replaced_char, replaced, normalized}
 use Rattle.rng_types.specs.Words.{is_word, are_words, has_form, whitespace_of}
 use Rattle.rng_types.specs.Types.{SameOfForm, SameAreBlankAlike}
 use Rattle.rng_types.specs.declared.kind.Whitespace.{Whitespace}

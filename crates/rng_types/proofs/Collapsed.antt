@@ -7,8 +7,8 @@ use Rattle.std.specs.Str.{IsUtf8}
 use Rattle.std.proofs.lemmas.Str.{IsUtf8-take}
 use Rattle.std.proofs.lemmas.List.Splits.{slice_split-cons_no, slice_split_none, slice_split_at}
 use Rattle.std.proofs.lemmas.List.Sums.{AllPass-from_list_all}
-use Rattle.nx_base.specs.Characters.{is_space}
-use Rattle.rng_types.specs.Spaces.{is_blank, is_some_text, words, collapsed}
+use Rattle.nx_base.specs.Characters.{is_space, is_blank}
+use Rattle.rng_types.specs.Spaces.{is_some_text, words, collapsed}
 use Rattle.rng_types.specs.Words.{is_word}
 use Rattle.rng_types.specs.declared.kind.Word.{Word}
 use Rattle.rng_types.proofs.Spaced.{is_word-spaced, is_word-empty}

@@ -6,8 +6,8 @@ use Rattle.std.specs.List.{list_all}
 use Rattle.std.specs.Str.{chars, IsUtf8, encode_utf8_all}
 use Rattle.std.proofs.lemmas.Bool.{false≢true}
 use Rattle.std.proofs.lemmas.Str.{chars-nil, encodes-chars, chars_past_char}
-use Rattle.nx_base.specs.Characters.{is_name_start, is_name_char}
-use Rattle.rng_types.specs.Words.{is_nm_token, is_name}
+use Rattle.nx_base.specs.Characters.{is_name_start, is_name_char, is_name}
+use Rattle.rng_types.specs.Words.{is_nm_token}
 
 -- a text with no character is empty
 length_from_no_chars : (bs cs : List ℕ) → encode_utf8_all cs ≡ bs → (length bs == 0) ≡ false → not (length cs == 0) ≡ true

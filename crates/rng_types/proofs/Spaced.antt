@@ -8,9 +8,9 @@ use Rattle.std.specs.Char.{is_ascii_digit, is_ascii_alphabetic, is_ascii_alphanu
 use Rattle.std.specs.Int.{is_in_range}
 use Rattle.std.proofs.lemmas.Str.{chars-append}
 use Rattle.std.proofs.lemmas.Slice.Eq.{bytes_eq-Decides}
-use Rattle.nx_base.specs.Characters.{is_name_start, is_name_char}
+use Rattle.nx_base.specs.Characters.{is_name_start, is_name_char, is_name}
 use Rattle.rng_types.specs.Numbers.{is_sign, is_point, unsigned, is_decimal, is_integer}
-use Rattle.rng_types.specs.Words.{is_name, is_subtag, are_subtags, is_language, is_true, is_false, is_word}
+use Rattle.rng_types.specs.Words.{is_subtag, are_subtags, is_language, is_true, is_false, is_word}
 use Rattle.rng_types.specs.declared.kind.Word.{Word}
 use Rattle.rng_types.specs.declared.kind.Word.TheVariants.{Name, NcName, NmToken, Language, Boolean, Decimal, Integer}
 

@@ -5,10 +5,6 @@ use Rattle.nx_base.specs.Characters.{is_space}
 use Rattle.rng_types.specs.declared.kind.Whitespace.{Whitespace}
 use Rattle.rng_types.specs.declared.kind.Whitespace.TheVariants.{Preserve, Replace, Collapse}
 
--- nothing but white space, or nothing at all
-abbrev pub is_blank : List ℕ → Bool
-is_blank text = list_all is_space text
-
 -- there is something
 abbrev pub is_some_text : List ℕ → Bool
 is_some_text text = not (length text == 0)

@@ -1,7 +1,8 @@
 -- What a type accepts, and which texts have the same value.
 use Rattle.std.specs.Prelude.{◌≡◌, ℕ, List, IsTrue}
 use Rattle.std.specs.List.{list_all}
-use Rattle.rng_types.specs.Spaces.{is_blank, collapsed, normalized}
+use Rattle.nx_base.specs.Characters.{is_blank}
+use Rattle.rng_types.specs.Spaces.{collapsed, normalized}
 use Rattle.rng_types.specs.Words.{whitespace_of, has_form, is_true}
 use Rattle.rng_types.specs.Numbers.{number_of, SameNumber}
 use Rattle.rng_types.specs.Facets.{meets}

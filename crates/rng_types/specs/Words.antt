@@ -1,9 +1,9 @@
 -- The forms of words, and of whole texts.
-use Rattle.std.specs.Prelude.{ℕ, Bool, true, false, not, nat_le, length, ◌==◌, ◌&&◌, ◌||◌, List, [], ◌∷◌, codes}
+use Rattle.std.specs.Prelude.{ℕ, Bool, true, false, nat_le, length, ◌==◌, ◌&&◌, ◌||◌, List, [], ◌∷◌, codes}
 use Rattle.std.specs.List.{list_all, slice_split}
-use Rattle.std.specs.Str.{chars, bytes_eq, is_utf8}
+use Rattle.std.specs.Str.{chars, bytes_eq}
 use Rattle.std.specs.Char.{is_ascii_alphabetic, is_ascii_alphanumeric}
-use Rattle.nx_base.specs.Characters.{is_char, is_name_start, is_name_char}
+use Rattle.nx_base.specs.Characters.{is_name_char, is_name, is_nc_name}
 use Rattle.rng_types.specs.Spaces.{words, is_some_text}
 use Rattle.rng_types.specs.Numbers.{is_decimal, is_integer}
 use Rattle.rng_types.specs.declared.kind.Whitespace.{Whitespace}
@@ -12,19 +12,6 @@ use Rattle.rng_types.specs.declared.kind.Word.{Word}
 use Rattle.rng_types.specs.declared.kind.Word.TheVariants.{Name, NcName, NmToken, Language, Boolean, Decimal, Integer}
 use Rattle.rng_types.specs.declared.kind.Form.{Form}
 use Rattle.rng_types.specs.declared.kind.Form.TheVariants.{Any, One, Several}
-
--- UTF-8 whose characters XML allows: Char, XML 1.0 section 2.2
-abbrev pub is_of_chars : List ℕ → Bool
-is_of_chars text = is_utf8 text && list_all is_char (chars text)
-
--- Name, over characters
-abbrev pub is_name : List ℕ → Bool
-is_name [] = false
-is_name (c ∷ cs) = is_name_start c && list_all is_name_char cs
-
--- NCName, over characters: a Name without `:` (58)
-abbrev pub is_nc_name : List ℕ → Bool
-is_nc_name cs = is_name cs && list_all (λ c. not (c == 58)) cs
 
 -- Nmtoken, over characters
 abbrev pub is_nm_token : List ℕ → Bool

@@ -2,7 +2,7 @@ use Rattle.std.proofs.Common.{◌≡◌, true, ap, sym, ◌∙◌, List, ℕ}
 use Rattle.std.proofs.lemmas.Bool.{and_left, false_from_ne_true}
 use Rattle.std.proofs.lemmas.Str.{is_utf8-from_IsUtf8, IsUtf8-from_is_utf8}
 use Rattle.std.specs.Str.{chars, is_utf8}
-use Rattle.rng_types.specs.Words.{is_nc_name}
+use Rattle.nx_base.specs.Characters.{is_nc_name}
 use Rattle.rng_core.proofs.name_class.is_local.Goals as goal
 
 pub returns-in-Ok : goal.returns-in-Ok

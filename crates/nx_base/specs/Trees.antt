@@ -2,9 +2,8 @@
 use Rattle.std.specs.Prelude.{◌≡◌, ℕ, List, [], ◌∷◌, if◌then◌else◌, IsTrue}
 use Rattle.std.specs.List.{AllByRecursion}
 use Rattle.nx_base.specs.declared.name.Name.{Name}
-use Rattle.rng_types.specs.Spaces.{is_blank}
-use Rattle.rng_types.specs.Words.{is_of_chars}
-use Rattle.rng_core.specs.Names.{is_xml_name, is_attribute_name}
+use Rattle.nx_base.specs.Characters.{is_blank, is_of_chars}
+use Rattle.nx_base.specs.Names.{is_xml_name, is_attribute_name}
 
 -- an attribute of an element
 pub record Attribute : Type 0 where
