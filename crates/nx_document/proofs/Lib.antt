@@ -1,0 +1,10 @@
+pub mod Told
+pub mod Characters
+pub mod Tags
+pub mod Trees
+pub mod Frames
+pub mod Blank
+pub mod Steps
+pub mod Nesting
+pub mod Faultless
+pub mod Borders
