@@ -28,7 +28,7 @@ use Rattle.nx_events.specs.declared.state.OpenElement.{OpenElement}
 use Rattle.nx_events.specs.declared.state.Run.{Run}
 use Rattle.nx_document.specs.Constraints.{IsMark, IsXmlDeclaration, IsDoctype, IsComment, IsInstruction, IsCharacterData, IsSection, declared, written_in, in_force, IsTag, Closes}
 use Rattle.nx_document.specs.Document.{Optional, absent, present, Repeated, no_further, further, IsMisc, comment, instruction, white_space, with_text, Element, by_empty, by_tags, Content, no_more, by_element, by_text, by_section, by_comment, by_instruction, Document}
-use Rattle.nx_document.specs.WellFormed.{faults_of}
+use Rattle.nx_document.specs.WellFormed.{faults_among}
 use Rattle.nx_document.proofs.Told.{Clean, clean_nil, clean_first, clean_second, faulty}
 use Rattle.nx_document.proofs.Frames.{Frame, scope_of, open_of, elements_of, at, inside_some, around_other, around_within}
 use Rattle.nx_document.proofs.Steps.{items_kind, state_kind, by_kind, comment_silent, instruction_silent, mark_silent, declaration_silent, doctype_silent, blank_silent, text_silent, section_silent, declaration_kept, doctype_kept, comment_kept, instruction_kept, text_kept, section_kept, blank_kept, section_outside, bad_never, unclosed_never, TagKept, tag_kept}
@@ -429,7 +429,7 @@ whole all behind mark d = (d.rest.rest.rest.tree, record {
   last_misc = d.rest.rest.rest.last;
 })
 
-pub faultless_is_document : (all : List Token) (len : ℕ) → MarkFirst all → faults_of (items_of all len) ≡ [] → (tree : Tree) × Document all tree
+pub faultless_is_document : (all : List Token) (len : ℕ) → MarkFirst all → faults_among (items_of all len) ≡ [] → (tree : Tree) × Document all tree
 faultless_is_document all len (no_mark unmarked) e = whole all all absent (begin all len unmarked (record { none = e }))
 faultless_is_document all len (marked {token = token} {others = others} kind unmarked) e =
     whole (token ∷ others) others (present kind)

@@ -17,7 +17,7 @@ use Rattle.nx_events.specs.declared.scope.Binding.{Binding}
 use Rattle.nx_events.specs.declared.state.EventState.{EventState}
 use Rattle.nx_events.specs.declared.state.OpenElement.{OpenElement}
 use Rattle.nx_events.specs.declared.state.Run.{Run}
-use Rattle.nx_document.specs.WellFormed.{faults_of}
+use Rattle.nx_document.specs.WellFormed.{faults_among}
 use Rattle.nx_document.proofs.Told.{Clean, clean_first, faulty}
 
 -- an open element by its written name and what its tag declares

@@ -8,3 +8,11 @@ pub mod Steps
 pub mod Nesting
 pub mod Faultless
 pub mod Borders
+pub mod OneTree
+pub mod OfChars
+pub mod Places
+pub mod Legal
+pub mod Strings
+pub mod Values
+pub mod Names
+pub mod Proper

@@ -23,7 +23,7 @@ use Rattle.nx_events.specs.declared.state.OpenElement.{OpenElement}
 use Rattle.nx_events.specs.declared.state.Run.{Run}
 use Rattle.nx_document.specs.Constraints.{IsMark, IsXmlDeclaration, IsDoctype, declared, written_in, in_force, IsTag, Closes}
 use Rattle.nx_document.specs.Document.{Optional, absent, present, Repeated, no_further, further, IsMisc, comment, instruction, white_space, with_text, Element, by_empty, by_tags, Content, no_more, by_element, by_text, by_section, by_comment, by_instruction, Document}
-use Rattle.nx_document.specs.WellFormed.{faults_of, events_of, as_event, AreOfTree}
+use Rattle.nx_document.specs.WellFormed.{faults_among, events_among, as_event, AreOfTree}
 use Rattle.nx_document.proofs.Told.{Clean, clean_nil, clean_both, events_append, events_skip}
 use Rattle.nx_document.proofs.Trees.{pending, pending_passed, pending_joined, text_flat, run_clean, run_events, text_twice, element_flat}
 use Rattle.nx_document.proofs.Frames.{Frame, scope_of, open_of, elements_of, at, inside_some, found_here, take_front, drop_front, drop_last}
@@ -40,7 +40,7 @@ pub record ElementRead (frames : List Frame) (came doctype started : Bool) (run 
   pub items : List Item
   pub are : (len : ℕ) → items_from (at frames came doctype started run) all len ≡ items ++ items_from (at frames true doctype true None) rest len
   pub clean : Clean items
-  pub events : (x : List trees.Event) → events_of items ++ map as_event x ≡ map as_event (text_flat (pending run) (children_flat (alone tree) x))
+  pub events : (x : List trees.Event) → events_among items ++ map as_event x ≡ map as_event (text_flat (pending run) (children_flat (alone tree) x))
 
 -- the items of content in an open element, up to what follows
 pub record ContentRead (frame : Frame) (outer : List Frame) (doctype : Bool) (run : Option Run) (all rest : List Token) (children : Children) : Type 0 where
@@ -48,9 +48,9 @@ pub record ContentRead (frame : Frame) (outer : List Frame) (doctype : Bool) (ru
   pub items : List Item
   pub are : (len : ℕ) → items_from (at (frame ∷ outer) true doctype true run) all len ≡ items ++ items_from (at (frame ∷ outer) true doctype true left) rest len
   pub clean : Clean items
-  pub events : (x : List trees.Event) → events_of items ++ map as_event (text_flat (pending left) x) ≡ map as_event (children_flat (with_text (pending run) children) x)
+  pub events : (x : List trees.Event) → events_among items ++ map as_event (text_flat (pending left) x) ≡ map as_event (children_flat (with_text (pending run) children) x)
 
-joined_events : (xs ys : List Item) (z : List Event) → events_of (xs ++ ys) ++ z ≡ events_of xs ++ (events_of ys ++ z)
+joined_events : (xs ys : List Item) (z : List Event) → events_among (xs ++ ys) ++ z ≡ events_among xs ++ (events_among ys ++ z)
 joined_events xs ys z = simp (events_append, append_assoc)
 
 module _ (frames : List Frame) (came doctype started : Bool) (run : Option Run) (tag : Token) (name : Name) (attributes : List trees.Attribute)
@@ -94,7 +94,7 @@ start_behind frames came doctype started run tag kind own =
 -- the end tag of the innermost element
 pub record EndTold (frame : Frame) (outer : List Frame) (doctype : Bool) (run : Option Run) (end : Token) : Type 0 where
   pub clean : Clean (items_of_token (at (frame ∷ outer) true doctype true run) end)
-  pub events : (x : List trees.Event) → events_of (items_of_token (at (frame ∷ outer) true doctype true run) end) ++ map as_event x
+  pub events : (x : List trees.Event) → events_among (items_of_token (at (frame ∷ outer) true doctype true run) end) ++ map as_event x
     ≡ map as_event (text_flat (pending run) (trees.Leave ∷ x))
   pub behind : state_behind (at (frame ∷ outer) true doctype true run) end ≡ at outer true doctype true None
 
@@ -133,7 +133,7 @@ end_told frame outer doctype run end kind named =
     record {
       clean = subst Clean (sym are) (clean_both (run_clean end.from run) (record { none = refl }));
       events = λ x.
-      ap (λ (xs : List Item). events_of xs ++ map as_event x) are
+      ap (λ (xs : List Item). events_among xs ++ map as_event x) are
       ∙ joined_events (run_items end.from run) leave (map as_event x) ∙ run_events end.from run (trees.Leave ∷ x);
       behind = state_kind state end kinds.End kind ∙ ap (closed state end) found ∙ closed_at frame outer doctype run end;
     }
@@ -161,9 +161,9 @@ tags_read frames came doctype started run tag end inner rest name attributes chi
       clean = clean_both (subst Clean (sym start_is) told.clean) (clean_both content.clean end_is.clean);
       events = λ x.
       joined_events start (content.items ++ ended) (map as_event x)
-      ∙ ap (λ (es : List Event). events_of start ++ es)
-      (joined_events content.items ended (map as_event x) ∙ ap (λ (es : List Event). events_of content.items ++ es) (end_is.events x) ∙ content.events (trees.Leave ∷ x))
-      ∙ ap (λ (xs : List Item). events_of xs ++ map as_event (children_flat children (trees.Leave ∷ x))) start_is
+      ∙ ap (λ (es : List Event). events_among start ++ es)
+      (joined_events content.items ended (map as_event x) ∙ ap (λ (es : List Event). events_among content.items ++ es) (end_is.events x) ∙ content.events (trees.Leave ∷ x))
+      ∙ ap (λ (xs : List Item). events_among xs ++ map as_event (children_flat children (trees.Leave ∷ x))) start_is
       ∙ told.events (children_flat children (trees.Leave ∷ x));
     }
 
@@ -210,7 +210,7 @@ module _ (frame : Frame) (outer : List Frame) (doctype : Bool) where
     clean = clean_both one.clean more.clean;
     events = λ x.
     joined_events one.items more.items (map as_event (text_flat (pending more.left) x))
-    ∙ ap (λ (es : List Event). events_of one.items ++ es) (more.events x)
+    ∙ ap (λ (es : List Event). events_among one.items ++ es) (more.events x)
     ∙ one.events (children_flat children x)
     ∙ ap (λ (es : List trees.Event). map as_event es) (sym (element_flat (pending run) tree children x));
   }
@@ -259,7 +259,7 @@ record Passing (from : EventState) (all : List Token) (to : EventState) (rest : 
   items : List Item
   are : (len : ℕ) → items_from from all len ≡ items ++ items_from to rest len
   clean : Clean items
-  silent : events_of items ≡ []
+  silent : events_among items ≡ []
 
 pass_none : (state : EventState) (all : List Token) → Passing state all state all
 pass_none state all = record { items = []; are = λ len. refl; clean = clean_nil; silent = refl }
@@ -338,7 +338,7 @@ end_outside : (came doctype : Bool) (len : ℕ) → items_from (outside came doc
 unfolding items_from items_at_end run_items
 end_outside came doctype len = refl
 
-pub document_reads : (all : List Token) (tree : Tree) (len : ℕ) → Document all tree → (faults_of (items_of all len) ≡ []) × AreOfTree tree (items_of all len)
+pub document_reads : (all : List Token) (tree : Tree) (len : ℕ) → Document all tree → (faults_among (items_of all len) ≡ []) × AreOfTree tree (items_of all len)
 document_reads all tree len is =
     let before = prolog all tree is in
     let root = element_reads is.element [] before.came before.doctype false None refl refl in
@@ -351,6 +351,6 @@ document_reads all tree len is =
     let whole : items_of all len ≡ a ++ (b ++ c) =
     before.passing.are len ∙ ap (λ (xs : List Item). a ++ xs) (root.are len ∙ ap (λ (xs : List Item). b ++ xs) rest) in
     let clean : Clean (a ++ (b ++ c)) = clean_both before.passing.clean (clean_both root.clean behind.passing.clean) in
-    let events : events_of (a ++ (b ++ c)) ≡ map as_event (flat tree) =
-    events_skip a (b ++ c) before.passing.silent ∙ events_append b c ∙ ap (λ (es : List Event). events_of b ++ es) behind.passing.silent ∙ root.events [] in
-    (ap faults_of whole ∙ clean.none, ap events_of whole ∙ events)
+    let events : events_among (a ++ (b ++ c)) ≡ map as_event (flat tree) =
+    events_skip a (b ++ c) before.passing.silent ∙ events_append b c ∙ ap (λ (es : List Event). events_among b ++ es) behind.passing.silent ∙ root.events [] in
+    (ap faults_among whole ∙ clean.none, ap events_among whole ∙ events)

@@ -33,7 +33,7 @@ use Rattle.nx_events.specs.declared.scope.Binding.{Binding}
 use Rattle.nx_events.specs.declared.state.EventState.{EventState}
 use Rattle.nx_events.specs.declared.state.Run.{Run}
 use Rattle.nx_document.specs.Constraints.{IsXmlDeclaration, IsComment, IsInstruction, IsWhiteSpace, IsCharacterData, IsSection, IsLegal, declared, written_in, in_force, IsTag, Expand}
-use Rattle.nx_document.specs.WellFormed.{events_of, as_event}
+use Rattle.nx_document.specs.WellFormed.{events_among, as_event}
 use Rattle.nx_document.proofs.Told.{Clean, clean_nil, clean_both, clean_first, clean_second, faulty, no_faults, clean_faults, fault_events, no_fault_if, clean_if, if_events, events_append, events_skip}
 use Rattle.nx_document.proofs.Characters.{is_legal, legal_faultless}
 use Rattle.nx_document.proofs.Blank.{blank_legal}
@@ -69,7 +69,7 @@ characters_clean : (reading : Reading) (test : Bool) (kind : Kind) (token : Toke
 characters_clean reading test kind token c t =
     clean_both (clean_faults (character_faults reading token.from token.bytes) (legal_faultless reading token.from token.bytes c)) (clean_if test kind token t)
 
-characters_silent : (reading : Reading) (test : Bool) (kind : Kind) (token : Token) → events_of (character_items reading test kind token) ≡ []
+characters_silent : (reading : Reading) (test : Bool) (kind : Kind) (token : Token) → events_among (character_items reading test kind token) ≡ []
 characters_silent reading test kind token =
     events_skip (faults_as_items (character_faults reading token.from token.bytes)) (token_fault_if test kind token) (fault_events (character_faults reading token.from token.bytes))
     ∙ if_events test kind token
@@ -77,14 +77,14 @@ characters_silent reading test kind token =
 -- a token without events
 pub record Silent (state : EventState) (token : Token) (next : EventState) : Type 0 where
   pub clean : Clean (items_of_token state token)
-  pub silent : events_of (items_of_token state token) ≡ []
+  pub silent : events_among (items_of_token state token) ≡ []
   pub behind : state_behind state token ≡ next
 
 silently : (state : EventState) (token : Token) (next : EventState) (kind : TokenKind) → token.kind ≡ kind → Clean (items_by_kind kind state token) →
-    events_of (items_by_kind kind state token) ≡ [] → state_by_kind kind state token ≡ next → Silent state token next
+    events_among (items_by_kind kind state token) ≡ [] → state_by_kind kind state token ≡ next → Silent state token next
 silently state token next kind e c s b = record {
   clean = subst Clean (sym (items_kind state token kind e)) c;
-  silent = ap events_of (items_kind state token kind e) ∙ s;
+  silent = ap events_among (items_kind state token kind e) ∙ s;
   behind = state_kind state token kind e ∙ b;
 }
 
@@ -275,14 +275,14 @@ tag_kept state token h =
       };
     }
 
-six_events : (r c d e a t : List Item) (x : List Event) → events_of c ≡ [] → events_of d ≡ [] →
-    events_of (((((r ++ c) ++ d) ++ e) ++ a) ++ t) ++ x ≡ events_of r ++ (events_of e ++ (events_of a ++ (events_of t ++ x)))
+six_events : (r c d e a t : List Item) (x : List Event) → events_among c ≡ [] → events_among d ≡ [] →
+    events_among (((((r ++ c) ++ d) ++ e) ++ a) ++ t) ++ x ≡ events_among r ++ (events_among e ++ (events_among a ++ (events_among t ++ x)))
 six_events r c d e a t x h k = simp (events_append, append_assoc, h, k)
 
 pub record TagTold (state : EventState) (token : Token) (name : Name) (attributes : List trees.Attribute) : Type 0 where
   pub clean : Clean (start_items state token)
   pub own : own_bindings token ≡ declared (written_in token)
-  pub events : (x : List trees.Event) → events_of (start_items state token) ++ map as_event x
+  pub events : (x : List trees.Event) → events_among (start_items state token) ++ map as_event x
     ≡ map as_event (text_flat (pending state.run) (trees.Enter name ∷ attributes_flat attributes (trees.TagEnd ∷ x)))
 
 pub tag_told : (state : EventState) (token : Token) (name : Name) (attributes : List trees.Attribute) → is_behind state ≡ false → IsTag state.scope token name attributes →
@@ -311,7 +311,7 @@ tag_told state token name attributes inside tag =
       (subst Clean (sym enter) (record { none = refl }))) all.clean) (record { none = refl });
       events = λ x.
       six_events run characters declarations element others end (map as_event x) (fault_events (character_faults Value token.from token.bytes)) (fault_events (declaration_faults [] written))
-      ∙ ap (λ (es : List Item). events_of run ++ (events_of es ++ (events_of others ++ (TagEnd ∷ map as_event x)))) enter
-      ∙ ap (λ (es : List Event). events_of run ++ (Enter name ∷ es)) (all.events (trees.TagEnd ∷ x))
+      ∙ ap (λ (es : List Item). events_among run ++ (events_among es ++ (events_among others ++ (TagEnd ∷ map as_event x)))) enter
+      ∙ ap (λ (es : List Event). events_among run ++ (Enter name ∷ es)) (all.events (trees.TagEnd ∷ x))
       ∙ run_events token.from state.run (trees.Enter name ∷ attributes_flat attributes (trees.TagEnd ∷ x));
     }

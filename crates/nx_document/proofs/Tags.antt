@@ -26,7 +26,7 @@ use Rattle.nx_events.specs.declared.item.Item.TheVariants as items
 use Rattle.nx_events.specs.declared.scope.Binding.{Binding}
 use Rattle.nx_events.specs.declared.tag.Attribute.{Attribute}
 use Rattle.nx_document.specs.Constraints.{NoTwoShare, AreWrittenOnce, IsLegalDeclaration, DeclareLegally, declared, Expand, no_attribute, declaration, attribute, AreDistinct}
-use Rattle.nx_document.specs.WellFormed.{events_of, as_event}
+use Rattle.nx_document.specs.WellFormed.{events_among, as_event}
 use Rattle.nx_document.proofs.Told.{Clean, clean_nil, clean_both, clean_first, clean_second, faulty, events_append}
 
 pub not_nothing : {A B : Type 0} (x : A) (xs : List A) → x ∷ xs ≡ [] → B
@@ -317,14 +317,14 @@ module _ (scope : List Binding) where
   -- and back: no fault, and the events
   pub record Told (kept : List Name) (xs : List Attribute) (attributes : List trees.Attribute) : Type 0 where
     pub clean : Clean (attribute_items scope kept xs)
-    pub events : (x : List trees.Event) → events_of (attribute_items scope kept xs) ++ map as_event x ≡ map as_event (attributes_flat attributes x)
+    pub events : (x : List trees.Event) → events_among (attribute_items scope kept xs) ++ map as_event x ≡ map as_event (attributes_flat attributes x)
 
   pass_declaration : (kept : List Name) (it : Attribute) (xs : List Attribute) (attributes : List trees.Attribute) → is_declaration it.name ≡ true →
       Told (kept ++ []) xs attributes → Told kept (it ∷ xs) attributes
   unfolding attribute_items
   pass_declaration kept it xs attributes d told =
       let P : Option Resolved → Type 0 = λ r. Clean (attribute_item it r ++ attribute_items scope (kept ++ kept_name r) xs) in
-      let Q : Option Resolved → Type 0 = λ r. (x : List trees.Event) → events_of (attribute_item it r ++ attribute_items scope (kept ++ kept_name r) xs) ++ map as_event x ≡ map as_event (attributes_flat attributes x) in
+      let Q : Option Resolved → Type 0 = λ r. (x : List trees.Event) → events_among (attribute_item it r ++ attribute_items scope (kept ++ kept_name r) xs) ++ map as_event x ≡ map as_event (attributes_flat attributes x) in
       let same = sym (declaration_passed scope kept it d) in
       record { clean = subst P same told.clean; events = subst Q same told.events }
 
@@ -333,7 +333,7 @@ module _ (scope : List Binding) where
   unfolding attribute_items
   pass_attribute kept it xs attributes k d told =
       let P : Option Resolved → Type 0 = λ r. Clean (attribute_item it r ++ attribute_items scope (kept ++ kept_name r) xs) in
-      let Q : Option Resolved → Type 0 = λ r. (x : List trees.Event) → events_of (attribute_item it r ++ attribute_items scope (kept ++ kept_name r) xs) ++ map as_event x
+      let Q : Option Resolved → Type 0 = λ r. (x : List trees.Event) → events_among (attribute_item it r ++ attribute_items scope (kept ++ kept_name r) xs) ++ map as_event x
       ≡ map as_event (attributes_flat (record { name = k.name; value = it.string } ∷ attributes) x) in
       let same = sym (attribute_named scope kept it k d) in
       let inner : Clean (attribute_items scope (kept ++ k.name ∷ []) xs) = told.clean in

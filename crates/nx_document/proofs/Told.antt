@@ -11,21 +11,21 @@ use Rattle.nx_events.specs.Items.{token_span, token_fault_if}
 use Rattle.nx_events.specs.declared.item.Event.{Event}
 use Rattle.nx_events.specs.declared.item.Item.{Item}
 use Rattle.nx_events.specs.declared.item.Item.TheVariants as items
-use Rattle.nx_document.specs.WellFormed.{faults_of, events_of, as_event}
+use Rattle.nx_document.specs.WellFormed.{faults_among, events_among, as_event}
 
 -- no fault is among the items
 pub record Clean (all : List Item) : Type 0 where
-  pub none : faults_of all ≡ []
+  pub none : faults_among all ≡ []
 
 pub clean_nil : Clean []
 clean_nil = record { none = refl }
 
-pub faults_append : (xs ys : List Item) → faults_of (xs ++ ys) ≡ faults_of xs ++ faults_of ys
+pub faults_append : (xs ys : List Item) → faults_among (xs ++ ys) ≡ faults_among xs ++ faults_among ys
 faults_append [] ys = refl
 faults_append (items.Event event span ∷ xs) ys = faults_append xs ys
 faults_append (items.Fault fault ∷ xs) ys = ap (λ (fs : List Fault). fault ∷ fs) (faults_append xs ys)
 
-pub events_append : (xs ys : List Item) → events_of (xs ++ ys) ≡ events_of xs ++ events_of ys
+pub events_append : (xs ys : List Item) → events_among (xs ++ ys) ≡ events_among xs ++ events_among ys
 events_append [] ys = refl
 events_append (items.Event event span ∷ xs) ys = ap (λ (es : List Event). event ∷ es) (events_append xs ys)
 events_append (items.Fault fault ∷ xs) ys = events_append xs ys
@@ -39,16 +39,16 @@ nothing_second [] ys e = e
 nothing_second (x ∷ xs) ys e = let bad : x ∷ (xs ++ ys) ≡ [] = e in cc
 
 pub clean_both : {xs ys : List Item} → Clean xs → Clean ys → Clean (xs ++ ys)
-clean_both {xs} {ys} h k = record { none = faults_append xs ys ∙ ap (λ fs. fs ++ faults_of ys) h.none ∙ k.none }
+clean_both {xs} {ys} h k = record { none = faults_append xs ys ∙ ap (λ fs. fs ++ faults_among ys) h.none ∙ k.none }
 
 pub clean_first : (xs ys : List Item) → Clean (xs ++ ys) → Clean xs
-clean_first xs ys h = record { none = nothing_first (faults_of xs) (faults_of ys) (sym (faults_append xs ys) ∙ h.none) }
+clean_first xs ys h = record { none = nothing_first (faults_among xs) (faults_among ys) (sym (faults_append xs ys) ∙ h.none) }
 
 pub clean_second : (xs ys : List Item) → Clean (xs ++ ys) → Clean ys
-clean_second xs ys h = record { none = nothing_second (faults_of xs) (faults_of ys) (sym (faults_append xs ys) ∙ h.none) }
+clean_second xs ys h = record { none = nothing_second (faults_among xs) (faults_among ys) (sym (faults_append xs ys) ∙ h.none) }
 
 pub faulty : {A : Type 0} (fault : Fault) (others : List Item) → Clean (items.Fault fault ∷ others) → A
-faulty fault others h = let bad : fault ∷ faults_of others ≡ [] = h.none in absurd (cc)
+faulty fault others h = let bad : fault ∷ faults_among others ≡ [] = h.none in absurd (cc)
 
 -- faults alone
 pub no_faults : (fs : List Fault) → Clean (faults_as_items fs) → fs ≡ []
@@ -58,7 +58,7 @@ no_faults (f ∷ fs) h = faulty f (faults_as_items fs) h
 pub clean_faults : (fs : List Fault) → fs ≡ [] → Clean (faults_as_items fs)
 clean_faults fs e = rw e clean_nil
 
-pub fault_events : (fs : List Fault) → events_of (faults_as_items fs) ≡ []
+pub fault_events : (fs : List Fault) → events_among (faults_as_items fs) ≡ []
 fault_events [] = refl
 fault_events (f ∷ fs) = fault_events fs
 
@@ -69,10 +69,10 @@ no_fault_if false kind token h = refl
 pub clean_if : (test : Bool) (kind : Kind) (token : Token) → test ≡ false → Clean (token_fault_if test kind token)
 clean_if test kind token e = rw e clean_nil
 
-pub if_events : (test : Bool) (kind : Kind) (token : Token) → events_of (token_fault_if test kind token) ≡ []
+pub if_events : (test : Bool) (kind : Kind) (token : Token) → events_among (token_fault_if test kind token) ≡ []
 if_events true kind token = refl
 if_events false kind token = refl
 
 -- events of parts of which the first has none
-pub events_skip : (xs ys : List Item) → events_of xs ≡ [] → events_of (xs ++ ys) ≡ events_of ys
-events_skip xs ys e = events_append xs ys ∙ ap (λ es. es ++ events_of ys) e
+pub events_skip : (xs ys : List Item) → events_among xs ≡ [] → events_among (xs ++ ys) ≡ events_among ys
+events_skip xs ys e = events_append xs ys ∙ ap (λ es. es ++ events_among ys) e

@@ -14,7 +14,7 @@ use Rattle.nx_events.specs.declared.item.Item.{Item}
 use Rattle.nx_events.specs.declared.item.Item.TheVariants as items
 use Rattle.nx_events.specs.declared.state.Run.{Run}
 use Rattle.nx_document.specs.Document.{with_text}
-use Rattle.nx_document.specs.WellFormed.{faults_of, events_of, as_event}
+use Rattle.nx_document.specs.WellFormed.{faults_among, events_among, as_event}
 use Rattle.nx_document.proofs.Told.{Clean, clean_nil}
 
 -- the string of a run that is pending, empty where there is none
@@ -43,14 +43,14 @@ unfolding run_items
 run_clean at None = clean_nil
 run_clean at (Some run) = either_clean (length run.string == 0) (Chars run.string) _
 
-run_told : (text : List ℕ) (at len gap : ℕ) (x : List trees.Event) → events_of (run_items at (Some (record { string = text; len = len; gap = gap }))) ++ map as_event x ≡ map as_event (text_flat text x)
+run_told : (text : List ℕ) (at len gap : ℕ) (x : List trees.Event) → events_among (run_items at (Some (record { string = text; len = len; gap = gap }))) ++ map as_event x ≡ map as_event (text_flat text x)
 unfolding run_items
 run_told [] at len gap x = refl
 run_told (b ∷ text) at len gap x =
     let some : (suc (length text) == 0) ≡ false = ne_eqb (suc (length text)) 0 (λ e. absurd (omega (arith, e))) in
     rw some refl
 
-pub run_events : (at : ℕ) (run : Option Run) (x : List trees.Event) → events_of (run_items at run) ++ map as_event x ≡ map as_event (text_flat (pending run) x)
+pub run_events : (at : ℕ) (run : Option Run) (x : List trees.Event) → events_among (run_items at run) ++ map as_event x ≡ map as_event (text_flat (pending run) x)
 unfolding run_items
 run_events at None x = refl
 run_events at (Some run) x = run_told run.string at run.len run.gap x

@@ -1,12 +1,14 @@
 -- A text has no fault exactly where it is a document, and its events are then those of its tree.
 use Rattle.std.specs.Prelude.{◌≡◌, ◌↔◌, ℕ, List, [], ◌∷◌, map}
-use Rattle.std.specs.Str.{IsUtf8}
+use Rattle.std.specs.Str.{IsUtf8, chars}
+use Rattle.nx_base.specs.Characters.{is_nc_name}
 use Rattle.nx_base.specs.Tokens.{tokens_of}
-use Rattle.nx_base.specs.Trees.{Tree, AreChildren, alone, flat}
+use Rattle.nx_base.specs.Trees.{Tree, AreChildren, AreWritable, alone, flat}
 use Rattle.nx_base.specs.Trees as trees
 use Rattle.nx_base.specs.declared.fault.Fault.{Fault}
 use Rattle.nx_base.specs.declared.token.Token.{Token}
 use Rattle.nx_events.specs.Items.{items_of, items_of_text}
+use Rattle.nx_events.specs.Names.{is_ncname}
 use Rattle.nx_events.specs.declared.item.Event.{Event}
 use Rattle.nx_events.specs.declared.item.Event.TheVariants.{Enter, Att, TagEnd, Chars, Leave}
 use Rattle.nx_events.specs.declared.item.Item.{Item}
@@ -14,16 +16,16 @@ use Rattle.nx_events.specs.declared.item.Item.TheVariants as items
 use Rattle.nx_document.specs.Document.{Document}
 
 -- the faults among items, in order
-abbrev pub faults_of : List Item → List Fault
-faults_of [] = []
-faults_of (items.Event event span ∷ others) = faults_of others
-faults_of (items.Fault fault ∷ others) = fault ∷ faults_of others
+abbrev pub faults_among : List Item → List Fault
+faults_among [] = []
+faults_among (items.Event event span ∷ others) = faults_among others
+faults_among (items.Fault fault ∷ others) = fault ∷ faults_among others
 
 -- and the events
-abbrev pub events_of : List Item → List Event
-events_of [] = []
-events_of (items.Event event span ∷ others) = event ∷ events_of others
-events_of (items.Fault fault ∷ others) = events_of others
+abbrev pub events_among : List Item → List Event
+events_among [] = []
+events_among (items.Event event span ∷ others) = event ∷ events_among others
+events_among (items.Fault fault ∷ others) = events_among others
 
 -- an event of a tree among the events of texts, which can also enter an element without a name
 abbrev pub as_event : trees.Event → Event
@@ -35,20 +37,18 @@ as_event trees.Leave = Leave
 
 -- these events are those of this tree
 abbrev pub AreOfTree : Tree → List Item → Type 0
-AreOfTree tree all = events_of all ≡ map as_event (flat tree)
+AreOfTree tree all = events_among all ≡ map as_event (flat tree)
 
 -- a text holds no fault exactly where its tokens are a document, and then its events are those of the document's tree
-pub record IsWellFormed (text : List ℕ) : Type 0 where
-  pub exactly : (faults_of (items_of_text text) ≡ []) ↔ ((tree : Tree) × Document (tokens_of text) tree)
-  pub events : (tree : Tree) → Document (tokens_of text) tree → AreOfTree tree (items_of_text text)
-
 abbrev pub WellFormedIsDocument : Type 0
-WellFormedIsDocument = (text : List ℕ) → IsUtf8 text → IsWellFormed text
+WellFormedIsDocument = (text : List ℕ) → IsUtf8 text →
+    ((faults_among (items_of_text text) ≡ []) ↔ ((tree : Tree) × Document (tokens_of text) tree))
+    × ((tree : Tree) → Document (tokens_of text) tree → AreOfTree tree (items_of_text text))
 
 -- any tokens that are a document have no fault, and the events of its tree
 abbrev pub DocumentsHaveNoFault : Type 0
 DocumentsHaveNoFault = (all : List Token) (tree : Tree) (len : ℕ) → Document all tree →
-    (faults_of (items_of all len) ≡ []) × AreOfTree tree (items_of all len)
+    (faults_among (items_of all len) ≡ []) × AreOfTree tree (items_of all len)
 
 -- tokens are a document of one tree at most
 abbrev pub DocumentsHaveOneTree : Type 0
@@ -57,3 +57,11 @@ DocumentsHaveOneTree = (all : List Token) (tree other : Tree) → Document all t
 -- the tree of a text has names that a document can have, and attributes with distinct names that attributes can have
 abbrev pub DocumentsHaveProperNames : Type 0
 DocumentsHaveProperNames = (text : List ℕ) (tree : Tree) → IsUtf8 text → Document (tokens_of text) tree → AreChildren (alone tree)
+
+-- and its strings, too, are of characters that XML allows
+abbrev pub DocumentsAreWritable : Type 0
+DocumentsAreWritable = (text : List ℕ) (tree : Tree) → IsUtf8 text → Document (tokens_of text) tree → AreWritable (flat tree)
+
+-- names without a colon are one notion, of the bytes of a name and of its characters (Namespaces, 3 [4])
+abbrev pub UnprefixedNamesAgree : Type 0
+UnprefixedNamesAgree = (name : List ℕ) → is_ncname name ≡ is_nc_name (chars name)

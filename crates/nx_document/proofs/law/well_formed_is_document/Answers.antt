@@ -7,11 +7,10 @@ use Rattle.nx_document.proofs.law.well_formed_is_document.Goals as goal
 
 pub returns : goal.returns
 returns c text utf8 =
-    let all = tokens_of text in
-    record {
-      exactly = (
+    let all = tokens_of text in (
+      (
         (λ e. faultless_is_document all (length text) (tokens_mark_first text utf8) e),
         (λ is. (document_reads all is.0 (length text) is.1).0),
-      );
-      events = λ tree is. (document_reads all tree (length text) is).1;
-    }
+      ),
+      (λ tree is. (document_reads all tree (length text) is).1),
+    )
