@@ -1,13 +1,11 @@
 -- White space alone has no fault of characters.
-use Rattle.std.proofs.Common.{◌≡◌, ℕ, zero, suc, ◌+◌, ◌-◌, ◌<◌, Bool, true, false, cond, ◌⊎◌, inl, inr, Option, Some, None, List, [], ◌∷◌, take, length, refl, ap, sym, subst, ◌∙◌, arith}
-use Rattle.std.specs.Prelude.{◌&&◌, ◌||◌, ◌==◌}
+use Rattle.std.proofs.Common.{◌≡◌, ℕ, zero, suc, ◌+◌, ◌-◌, ◌<◌, true, ◌⊎◌, inl, inr, None, List, [], ◌∷◌, take, refl, sym, subst, arith}
 use Rattle.std.specs.List.{AllByRecursion, list_all}
 use Rattle.std.proofs.lemmas.Bool.{and_parts}
 use Rattle.std.proofs.lemmas.Bool.Decides.{nat_tests}
 use Rattle.nx_base.specs.Characters.{is_space, is_char}
-use Rattle.nx_base.specs.declared.fault.Kind.{Kind}
 use Rattle.nx_events.specs.CharacterFaults.{piece_flaw, text_flaw, tag_flaw, character_flaw}
-use Rattle.nx_events.specs.Strings.{Piece, cut_by, pieces, text_piece_len}
+use Rattle.nx_events.specs.Strings.{Piece, cut_by, text_piece_len}
 use Rattle.nx_events.specs.Utf8.{front_char}
 use Rattle.nx_events.specs.declared.reading.Reading.TheVariants.{Text}
 use Rattle.nx_events.proofs.Pieces.{piece_positive}

@@ -1,5 +1,5 @@
 -- The tokens of a text: a byte order mark is the first or none, and each is UTF-8 and of its kind.
-use Rattle.std.proofs.Common.{◌≡◌, ℕ, zero, suc, ◌+◌, ◌-◌, ◌<◌, ◌≤◌, Bool, true, false, cond, List, [], ◌∷◌, length, take, drop, refl, sym, subst, arith}
+use Rattle.std.proofs.Common.{◌≡◌, ℕ, zero, suc, ◌+◌, ◌-◌, ◌<◌, ◌≤◌, Bool, true, false, cond, List, [], ◌∷◌, length, refl, sym, subst, arith}
 use Rattle.std.specs.Prelude.{nat_le}
 use Rattle.std.specs.List.{AllByRecursion}
 use Rattle.std.specs.Str.{IsUtf8, IsCharBoundary}
@@ -9,11 +9,11 @@ use Rattle.nx_base.specs.Tokens.{cut, end_of, tokens_within, tokens_of, IsOfKind
 use Rattle.nx_base.specs.declared.token.Token.{Token}
 use Rattle.nx_base.specs.declared.token.TokenKind.{TokenKind}
 use Rattle.nx_base.specs.declared.token.TokenKind.TheVariants as kinds
-use Rattle.nx_scan.specs.Borders.{IsTokenOf}
 use Rattle.nx_scan.proofs.Ends.{cut-at_ends}
 use Rattle.nx_scan.proofs.Every.{cut-is_token}
 use Rattle.nx_scan.proofs.OwnBytes.{cut-own}
-use Rattle.nx_document.proofs.Faultless.{NoMark, MarkFirst, marked, no_mark}
+use Rattle.nx_document.proofs.Faultless.{NoMark}
+use Rattle.nx_document.proofs.Prologs.{MarkFirst, marked, no_mark}
 
 -- tokens from a border on
 abbrev pub IsText : Token → Type 0

@@ -1,6 +1,5 @@
--- Tokens without faults are a document.
-use Rattle.std.proofs.Common.{◌≡◌, ℕ, zero, suc, ◌+◌, ◌-◌, ◌<◌, Bool, true, false, cond, ◌⊎◌, inl, inr, Option, Some, None, List, [], ◌∷◌, ◌++◌, length, take, drop, reverse, map, refl, ap, sym, subst, ◌∙◌, arith, length-append, length-drop}
-use Rattle.std.specs.Prelude.{nat_lt, ◌&&◌, not}
+-- Tokens without faults, inside of the root and behind it: what they are, by the elements that are open.
+use Rattle.std.proofs.Common.{◌≡◌, ℕ, suc, ◌<◌, Bool, true, false, Option, Some, None, List, [], ◌∷◌, ◌++◌, length, drop, reverse, refl, ap, sym, subst, ◌∙◌, arith, length-append, length-drop}
 use Rattle.std.specs.List.{AllByRecursion, flat_map}
 use Rattle.std.specs.Str.{bytes_eq}
 use Rattle.std.proofs.lemmas.List.{length-reverse}
@@ -14,35 +13,32 @@ use Rattle.nx_base.specs.declared.name.Name.{Name}
 use Rattle.nx_base.specs.declared.token.Token.{Token}
 use Rattle.nx_base.specs.declared.token.TokenKind.{TokenKind}
 use Rattle.nx_base.specs.declared.token.TokenKind.TheVariants as kinds
-use Rattle.nx_events.specs.Items.{token_span, is_inside, is_behind, declaration_items, doctype_items, cdata_items, text_items, start_items, empty_items, around_innermost, left_out, closing_items, end_items, items_by_kind, items_of_token, state_by_kind, state_behind, items_at_end, items_from, items_of}
+use Rattle.nx_events.specs.Items.{token_span, is_behind, start_items, empty_items, around_innermost, left_out, closing_items, end_items, items_of_token, state_behind, items_at_end, items_from}
 use Rattle.nx_events.specs.Runs.{run_items, run_passed, run_joined}
 use Rattle.nx_events.specs.Strings.{string_of, cdata_content}
-use Rattle.nx_events.specs.Tags.{start_name, end_name}
+use Rattle.nx_events.specs.Tags.{end_name}
 use Rattle.nx_events.specs.declared.item.Event.TheVariants.{Leave}
-use Rattle.nx_events.specs.declared.item.Item.{Item}
 use Rattle.nx_events.specs.declared.item.Item.TheVariants as items
 use Rattle.nx_events.specs.declared.reading.Reading.TheVariants.{Plain, Text}
-use Rattle.nx_events.specs.declared.scope.Binding.{Binding}
 use Rattle.nx_events.specs.declared.state.EventState.{EventState}
 use Rattle.nx_events.specs.declared.state.OpenElement.{OpenElement}
 use Rattle.nx_events.specs.declared.state.Run.{Run}
-use Rattle.nx_document.specs.Constraints.{IsMark, IsXmlDeclaration, IsDoctype, IsComment, IsInstruction, IsCharacterData, IsSection, declared, written_in, in_force, IsTag, Closes}
-use Rattle.nx_document.specs.Document.{Optional, absent, present, Repeated, no_further, further, IsMisc, comment, instruction, white_space, with_text, Element, by_empty, by_tags, Content, no_more, by_element, by_text, by_section, by_comment, by_instruction, Document}
-use Rattle.nx_document.specs.WellFormed.{faults_among}
-use Rattle.nx_document.proofs.Told.{Clean, clean_nil, clean_first, clean_second, faulty}
-use Rattle.nx_document.proofs.Frames.{Frame, scope_of, open_of, elements_of, at, inside_some, around_other, around_within}
-use Rattle.nx_document.proofs.Steps.{items_kind, state_kind, by_kind, comment_silent, instruction_silent, mark_silent, declaration_silent, doctype_silent, blank_silent, text_silent, section_silent, declaration_kept, doctype_kept, comment_kept, instruction_kept, text_kept, section_kept, blank_kept, section_outside, bad_never, unclosed_never, TagKept, tag_kept}
+use Rattle.nx_document.specs.Constraints.{IsComment, IsInstruction, IsTag}
+use Rattle.nx_document.specs.Document.{Repeated, no_further, further, IsMisc, comment, instruction, white_space, with_text, Element, by_empty, by_tags, Content, no_more, by_element, by_text, by_section, by_comment, by_instruction}
+use Rattle.nx_document.proofs.Told.{Clean, clean_first, clean_second, faulty}
+use Rattle.nx_document.proofs.Frames.{Frame, scope_of, open_of, elements_of, at, around_other, around_within}
+use Rattle.nx_document.proofs.Steps.{state_kind, by_kind, comment_silent, instruction_silent, blank_silent, text_silent, section_silent, declaration_kept, doctype_kept, comment_kept, instruction_kept, text_kept, section_kept, blank_kept, section_outside, bad_never, unclosed_never, TagKept, tag_kept}
 use Rattle.nx_document.proofs.Nesting.{frame_of, start_behind, end_told}
 
 -- no byte order mark is among the tokens
 abbrev pub NoMark : List Token → Type 0
 NoMark all = AllByRecursion (λ (token : Token). token.kind ≡ kinds.Bom → ⊥) all
 
-first_clean : (state : EventState) (token : Token) (others : List Token) (len : ℕ) → Clean (items_from state (token ∷ others) len) → Clean (items_of_token state token)
+pub first_clean : (state : EventState) (token : Token) (others : List Token) (len : ℕ) → Clean (items_from state (token ∷ others) len) → Clean (items_of_token state token)
 unfolding items_from
 first_clean state token others len h = clean_first (items_of_token state token) (items_from (state_behind state token) others len) h
 
-rest_clean : (state next : EventState) (token : Token) (others : List Token) (len : ℕ) → state_behind state token ≡ next → Clean (items_from state (token ∷ others) len) → Clean (items_from next others len)
+pub rest_clean : (state next : EventState) (token : Token) (others : List Token) (len : ℕ) → state_behind state token ≡ next → Clean (items_from state (token ∷ others) len) → Clean (items_from next others len)
 unfolding items_from
 rest_clean state next token others len e h =
     subst (λ s. Clean (items_from s others len)) e (clean_second (items_of_token state token) (items_from (state_behind state token) others len) h)
@@ -56,7 +52,7 @@ no_length : {A : Type 0} (xs : List A) → reverse xs ≡ [] → length xs ≡ 0
 no_length xs e = sym (length-reverse xs) ∙ ap length e
 
 -- what the rest of the tokens is, with these elements open
-data Rest : List Frame → List Token → Type 0 where
+pub data Rest : List Frame → List Token → Type 0 where
   outside_all : {all : List Token} → Repeated IsMisc all [] → Rest [] all
   inside_one : {frame : Frame} {outer : List Frame} {all others : List Token} {end : Token} {children : Children} →
       Content (scope_of (frame ∷ outer)) all (end ∷ others) children → end.kind ≡ kinds.End → end_name end.bytes ≡ frame.written → Rest outer others → Rest (frame ∷ outer) all
@@ -72,11 +68,11 @@ misc_more : {all : List Token} (token : Token) → IsMisc token → Rest [] all 
 misc_more token is (outside_all more) = outside_all (further is more)
 
 -- an element in front, by its two tags
-record Rooted (frames : List Frame) (all : List Token) : Type 0 where
-  tree : Tree
-  behind : List Token
-  one : Element (scope_of frames) all behind tree
-  rest : Rest frames behind
+pub record Rooted (frames : List Frame) (all : List Token) : Type 0 where
+  pub tree : Tree
+  pub behind : List Token
+  pub one : Element (scope_of frames) all behind tree
+  pub rest : Rest frames behind
 
 rooted : (frames : List Frame) (token : Token) (others : List Token) (name : Name) (attributes : List trees.Attribute) → token.kind ≡ kinds.Start → IsTag (scope_of frames) token name attributes →
     Rest (frame_of token ∷ frames) others → Rooted frames (token ∷ others)
@@ -121,9 +117,6 @@ unfolding end_items
 end_named frame outer doctype run end kind h =
     by_test (bytes_eq frame.written (end_name end.bytes)) refl
   where
-    state : EventState
-    state = at (frame ∷ outer) true doctype true run
-
     by_place : (found : Option ℕ) → ((n : ℕ) → found ≡ Some n → n < length (elements_of outer)) → Clean (closing_items (at (frame ∷ outer) true doctype true run) end found) → end_name end.bytes ≡ frame.written
     by_place None within c = faulty _ _ c
     by_place (Some n) within c =
@@ -139,7 +132,7 @@ end_named frame outer doctype run end kind h =
         (subst (λ o. Clean (closing_items (at (frame ∷ outer) true doctype true run) end o)) (around_other frame outer (end_name end.bytes) e)
         (by_kind (at (frame ∷ outer) true doctype true run) end kinds.End kind h))
 
-end_extra : {A : Type 0} (came doctype started : Bool) (run : Option Run) (end : Token) → end.kind ≡ kinds.End → Clean (items_of_token (at [] came doctype started run) end) → A
+pub end_extra : {A : Type 0} (came doctype started : Bool) (run : Option Run) (end : Token) → end.kind ≡ kinds.End → Clean (items_of_token (at [] came doctype started run) end) → A
 unfolding end_items around_innermost
 end_extra came doctype started run end kind h = faulty _ _ (by_kind (at [] came doctype started run) end kinds.End kind h)
 
@@ -210,23 +203,19 @@ module _ (doctype : Bool) (token : Token) (others : List Token) (len : ℕ) (mor
 -- an element that begins with this tag, in any state that isn't behind the root
 module _ (frames : List Frame) (came doctype started : Bool) (run : Option Run) (token : Token) (others : List Token) (len : ℕ)
     (more : (frames : List Frame) (run : Option Run) → Clean (items_from (at frames true doctype true run) others len) → Rest frames others) where
-  with_start : token.kind ≡ kinds.Start → Clean (items_from (at frames came doctype started run) (token ∷ others) len) → Rooted frames (token ∷ others)
+  pub with_start : token.kind ≡ kinds.Start → Clean (items_from (at frames came doctype started run) (token ∷ others) len) → Rooted frames (token ∷ others)
   with_start kind h =
       let state = at frames came doctype started run in
       let tag = start_clean state token kind (first_clean state token others len h) in
       rooted frames token others tag.name tag.attributes kind tag.tag
       (more (frame_of token ∷ frames) None (rest_clean state (at (frame_of token ∷ frames) true doctype true None) token others len (start_behind frames came doctype started run token kind tag.own) h))
 
-  with_empty : token.kind ≡ kinds.Empty → Clean (items_from (at frames came doctype started run) (token ∷ others) len) → Rooted frames (token ∷ others)
+  pub with_empty : token.kind ≡ kinds.Empty → Clean (items_from (at frames came doctype started run) (token ∷ others) len) → Rooted frames (token ∷ others)
   with_empty kind h =
       let state = at frames came doctype started run in
       let tag = empty_clean state token kind (first_clean state token others len h) in
       empty_rooted frames token others tag.name tag.attributes kind tag.tag
       (more frames None (rest_clean state (at frames true doctype true None) token others len (state_kind state token kinds.Empty kind) h))
-
-  -- none stands behind the root
-  tag_inside : TagKept (at frames came doctype started run) token → is_behind (at frames came doctype started run) ≡ false
-  tag_inside tag = tag.inside
 
 behind_never : {A : Type 0} (doctype : Bool) (run : Option Run) → is_behind (at [] true doctype true run) ≡ false → A
 behind_never doctype run e = let bad : true ≡ false = e in absurd (cc)
@@ -254,183 +243,8 @@ by_token kinds.Empty [] doctype run token others len kind unmarked more h =
 by_token kinds.Empty (f ∷ fs) doctype run token others len kind unmarked more h = element_more f fs (token ∷ others) (with_empty (f ∷ fs) true doctype true run token others len more kind h)
 by_token kinds.End frames doctype run token others len kind unmarked more h = with_end doctype token others len more frames run kind h
 
-rest_of : (all : List Token) (len : ℕ) (doctype : Bool) → NoMark all → (frames : List Frame) (run : Option Run) → Clean (items_from (at frames true doctype true run) all len) → Rest frames all
+pub rest_of : (all : List Token) (len : ℕ) (doctype : Bool) → NoMark all → (frames : List Frame) (run : Option Run) → Clean (items_from (at frames true doctype true run) all len) → Rest frames all
 rest_of [] len doctype unmarked [] run h = outside_all no_further
 rest_of [] len doctype unmarked (f ∷ fs) run h = ends_open f fs doctype run len h
 rest_of (token ∷ others) len doctype unmarked frames run h =
     by_token token.kind frames doctype run token others len refl unmarked.0 (λ fs r c. rest_of others len doctype unmarked.1 fs r c) h
-
--- before the root
-abbrev outside : Bool → Bool → EventState
-outside came doctype = at [] came doctype false None
-
-record RootRest (all : List Token) : Type 0 where
-  tree : Tree
-  behind : List Token
-  root : Element [] all behind tree
-  last : Repeated IsMisc behind []
-
-misc_of : {all : List Token} → Rest [] all → Repeated IsMisc all []
-misc_of (outside_all more) = more
-
-root_of : (all : List Token) → Rooted [] all → RootRest all
-root_of all r = record { tree = r.tree; behind = r.behind; root = r.one; last = misc_of r.rest }
-
--- what the first of some tokens in front of the root is
-data Front (doctype : Bool) (token : Token) (others : List Token) (len : ℕ) : Type 0 where
-  is_misc : IsMisc token → Clean (items_from (outside true doctype) others len) → Front doctype token others len
-  is_doctype : token.kind ≡ kinds.Doctype → doctype ≡ false → Clean (items_from (outside true true) others len) → Front doctype token others len
-  is_root : RootRest (token ∷ others) → Front doctype token others len
-
-front : (kind : TokenKind) (doctype : Bool) (token : Token) (others : List Token) (len : ℕ) → token.kind ≡ kind → NoMark (token ∷ others) → Clean (items_from (outside true doctype) (token ∷ others) len) → Front doctype token others len
-front kinds.Bom doctype token others len kind unmarked h = absurd (unmarked.0 kind)
-front kinds.Decl doctype token others len kind unmarked h =
-    let bad : true ≡ false = (declaration_kept [] true doctype false None token kind (first_clean (outside true doctype) token others len h)).0 in absurd (cc)
-front kinds.Doctype doctype token others len kind unmarked h =
-    let free = (doctype_kept [] true doctype false None token kind (first_clean (outside true doctype) token others len h)).1 in
-    is_doctype kind free (rest_clean (outside true false) (outside true true) token others len (doctype_silent [] true None token kind).behind
-    (subst (λ d. Clean (items_from (outside true d) (token ∷ others) len)) free h))
-front kinds.Comment doctype token others len kind unmarked h =
-    let is = comment_kept (outside true doctype) token kind (first_clean (outside true doctype) token others len h) in
-    is_misc (comment is) (rest_clean (outside true doctype) (outside true doctype) token others len (comment_silent [] true doctype false None token is).behind h)
-front kinds.Pi doctype token others len kind unmarked h =
-    let is = instruction_kept (outside true doctype) token kind (first_clean (outside true doctype) token others len h) in
-    is_misc (instruction is) (rest_clean (outside true doctype) (outside true doctype) token others len (instruction_silent [] true doctype false None token is).behind h)
-front kinds.Text doctype token others len kind unmarked h =
-    let is = blank_kept true doctype false None token kind (first_clean (outside true doctype) token others len h) in
-    is_misc (white_space is) (rest_clean (outside true doctype) (outside true doctype) token others len (blank_silent true doctype false None token is).behind h)
-front kinds.Cdata doctype token others len kind unmarked h = section_outside true doctype false None token kind (first_clean (outside true doctype) token others len h)
-front kinds.Bad doctype token others len kind unmarked h = bad_never (outside true doctype) token kind (first_clean (outside true doctype) token others len h)
-front kinds.Unclosed doctype token others len kind unmarked h = unclosed_never (outside true doctype) token kind (first_clean (outside true doctype) token others len h)
-front kinds.End doctype token others len kind unmarked h = end_extra true doctype false None token kind (first_clean (outside true doctype) token others len h)
-front kinds.Start doctype token others len kind unmarked h =
-    is_root (root_of (token ∷ others) (with_start [] true doctype false None token others len (λ fs r c. rest_of others len doctype unmarked.1 fs r c) kind h))
-front kinds.Empty doctype token others len kind unmarked h =
-    is_root (root_of (token ∷ others) (with_empty [] true doctype false None token others len (λ fs r c. rest_of others len doctype unmarked.1 fs r c) kind h))
-
-no_root : {A : Type 0} (came doctype : Bool) (len : ℕ) → Clean (items_from (outside came doctype) [] len) → A
-unfolding items_from items_at_end run_items
-no_root came doctype len h = faulty _ _ h
-
-record MiscRoot (all : List Token) : Type 0 where
-  root : List Token
-  misc : Repeated IsMisc all root
-  rest : RootRest root
-
-record DoctypeRest (all : List Token) : Type 0 where
-  before : List Token
-  behind : List Token
-  misc : Repeated IsMisc all before
-  doctype : Optional IsDoctype before behind
-  rest : MiscRoot behind
-
-behind_doctype : (all : List Token) (len : ℕ) → NoMark all → Clean (items_from (outside true true) all len) → MiscRoot all
-behind_doctype [] len unmarked h = no_root true true len h
-behind_doctype (token ∷ others) len unmarked h =
-    by_front (λ c. behind_doctype others len unmarked.1 c) (front token.kind true token others len refl unmarked h)
-  where
-    by_front : (Clean (items_from (outside true true) others len) → MiscRoot others) → Front true token others len → MiscRoot (token ∷ others)
-    by_front more (is_misc is c) = let w = more c in record { root = w.root; misc = further is w.misc; rest = w.rest }
-    by_front more (is_doctype kind free c) = absurd (cc)
-    by_front more (is_root r) = record { root = token ∷ others; misc = no_further; rest = r }
-
-before_doctype : (all : List Token) (len : ℕ) → NoMark all → Clean (items_from (outside true false) all len) → DoctypeRest all
-before_doctype [] len unmarked h = no_root true false len h
-before_doctype (token ∷ others) len unmarked h =
-    by_front (λ c. before_doctype others len unmarked.1 c) (front token.kind false token others len refl unmarked h)
-  where
-    by_front : (Clean (items_from (outside true false) others len) → DoctypeRest others) → Front false token others len → DoctypeRest (token ∷ others)
-    by_front more (is_misc is c) = let w = more c in record { before = w.before; behind = w.behind; misc = further is w.misc; doctype = w.doctype; rest = w.rest }
-    by_front more (is_doctype kind free c) = record { before = token ∷ others; behind = others; misc = no_further; doctype = present kind; rest = behind_doctype others len unmarked.1 c }
-    by_front more (is_root r) = record { before = token ∷ others; behind = token ∷ others; misc = no_further; doctype = absent; rest = record { root = token ∷ others; misc = no_further; rest = r } }
-
--- but for a declaration a first token is as any other
-record Alike (token : Token) : Type 0 where
-  items : items_of_token (outside false false) token ≡ items_of_token (outside true false) token
-  states : state_behind (outside false false) token ≡ state_behind (outside true false) token
-
-alike_by_kind : (kind : TokenKind) (token : Token) → (kind ≡ kinds.Bom → ⊥) → (kind ≡ kinds.Decl → ⊥) →
-    (items_by_kind kind (outside false false) token ≡ items_by_kind kind (outside true false) token) × (state_by_kind kind (outside false false) token ≡ state_by_kind kind (outside true false) token)
-unfolding doctype_items cdata_items text_items start_items empty_items end_items around_innermost
-alike_by_kind kinds.Bom token b d = absurd (b refl)
-alike_by_kind kinds.Decl token b d = absurd (d refl)
-alike_by_kind kinds.Doctype token b d = (refl, refl)
-alike_by_kind kinds.Comment token b d = (refl, refl)
-alike_by_kind kinds.Pi token b d = (refl, refl)
-alike_by_kind kinds.Text token b d = (refl, refl)
-alike_by_kind kinds.Cdata token b d = (refl, refl)
-alike_by_kind kinds.Bad token b d = (refl, refl)
-alike_by_kind kinds.Unclosed token b d = (refl, refl)
-alike_by_kind kinds.Start token b d = (refl, refl)
-alike_by_kind kinds.Empty token b d = (refl, refl)
-alike_by_kind kinds.End token b d = (refl, refl)
-
-alike : (token : Token) (others : List Token) (len : ℕ) → (token.kind ≡ kinds.Bom → ⊥) → (token.kind ≡ kinds.Decl → ⊥) →
-    items_from (outside false false) (token ∷ others) len ≡ items_from (outside true false) (token ∷ others) len
-unfolding items_from items_of_token state_behind
-alike token others len b d =
-    let same = alike_by_kind token.kind token b d in
-    ap (λ (xs : List Item). xs ++ items_from (state_by_kind token.kind (outside false false) token) others len) same.0
-    ∙ ap (λ s. items_by_kind token.kind (outside true false) token ++ items_from s others len) same.1
-
-record DeclarationRest (all : List Token) : Type 0 where
-  behind : List Token
-  declaration : Optional IsXmlDeclaration all behind
-  rest : DoctypeRest behind
-
-is_declaration_kind : (kind : TokenKind) → (kind ≡ kinds.Decl → ⊥) ⊎ (kind ≡ kinds.Decl)
-is_declaration_kind kinds.Decl = inr refl
-is_declaration_kind kinds.Bom = inl (λ e. cc)
-is_declaration_kind kinds.Doctype = inl (λ e. cc)
-is_declaration_kind kinds.Comment = inl (λ e. cc)
-is_declaration_kind kinds.Pi = inl (λ e. cc)
-is_declaration_kind kinds.Text = inl (λ e. cc)
-is_declaration_kind kinds.Cdata = inl (λ e. cc)
-is_declaration_kind kinds.Bad = inl (λ e. cc)
-is_declaration_kind kinds.Unclosed = inl (λ e. cc)
-is_declaration_kind kinds.Start = inl (λ e. cc)
-is_declaration_kind kinds.Empty = inl (λ e. cc)
-is_declaration_kind kinds.End = inl (λ e. cc)
-
-begin : (all : List Token) (len : ℕ) → NoMark all → Clean (items_from (outside false false) all len) → DeclarationRest all
-begin [] len unmarked h = no_root false false len h
-begin (token ∷ others) len unmarked h = by_kind_of (is_declaration_kind token.kind)
-  where
-    by_kind_of : (token.kind ≡ kinds.Decl → ⊥) ⊎ (token.kind ≡ kinds.Decl) → DeclarationRest (token ∷ others)
-    by_kind_of (inl not_one) =
-        record { behind = token ∷ others; declaration = absent; rest = before_doctype (token ∷ others) len unmarked (subst Clean (alike token others len unmarked.0 not_one) h) }
-    by_kind_of (inr kind) =
-        let is = (declaration_kept [] false false false None token kind (first_clean (outside false false) token others len h)).1 in
-        record {
-          behind = others;
-          declaration = present is;
-          rest = before_doctype others len unmarked.1 (rest_clean (outside false false) (outside true false) token others len (declaration_silent [] false false None token is).behind h);
-        }
-
--- a byte order mark is the first token or none
-pub data MarkFirst : List Token → Type 0 where
-  marked : {token : Token} {others : List Token} → token.kind ≡ kinds.Bom → NoMark others → MarkFirst (token ∷ others)
-  no_mark : {all : List Token} → NoMark all → MarkFirst all
-
-whole : (all behind : List Token) → Optional IsMark all behind → DeclarationRest behind → (tree : Tree) × Document all tree
-whole all behind mark d = (d.rest.rest.rest.tree, record {
-  behind_mark = behind;
-  behind_declaration = d.behind;
-  before_doctype = d.rest.before;
-  behind_doctype = d.rest.behind;
-  root = d.rest.rest.root;
-  behind_root = d.rest.rest.rest.behind;
-  mark = mark;
-  declaration = d.declaration;
-  first_misc = d.rest.misc;
-  doctype = d.rest.doctype;
-  second_misc = d.rest.rest.misc;
-  element = d.rest.rest.rest.root;
-  last_misc = d.rest.rest.rest.last;
-})
-
-pub faultless_is_document : (all : List Token) (len : ℕ) → MarkFirst all → faults_among (items_of all len) ≡ [] → (tree : Tree) × Document all tree
-faultless_is_document all len (no_mark unmarked) e = whole all all absent (begin all len unmarked (record { none = e }))
-faultless_is_document all len (marked {token = token} {others = others} kind unmarked) e =
-    whole (token ∷ others) others (present kind)
-    (begin others len unmarked (rest_clean (outside false false) (outside false false) token others len (mark_silent [] false false false None token kind).behind (record { none = e })))

@@ -1,24 +1,15 @@
 -- The elements that are open around a place, innermost first, and the state of events that they make.
-use Rattle.std.proofs.Common.{◌≡◌, ℕ, zero, suc, ◌+◌, ◌<◌, Bool, true, false, cond, Option, Some, None, List, [], ◌∷◌, ◌++◌, length, take, drop, reverse, refl, ap, sym, subst, ◌∙◌, arith, length-append, append_assoc}
-use Rattle.std.specs.Prelude.{nat_lt, ◌&&◌, not}
-use Rattle.std.specs.List.{flat_map}
+use Rattle.std.proofs.Common.{◌≡◌, ℕ, suc, ◌<◌, Bool, true, false, cond, Option, Some, None, List, [], ◌∷◌, ◌++◌, length, take, drop, refl, ap, sym, ◌∙◌, arith, length-append}
+use Rattle.std.specs.Prelude.{nat_lt}
 use Rattle.std.specs.Str.{bytes_eq}
 use Rattle.std.proofs.lemmas.Bool.{lt-ltb}
 use Rattle.std.proofs.lemmas.Slice.Eq.{bytes_eq-Decides}
-use Rattle.nx_base.specs.declared.fault.Kind.{Kind}
-use Rattle.nx_base.specs.declared.fault.Kind.TheVariants as faults
-use Rattle.nx_base.specs.declared.fault.Span.{Span}
-use Rattle.nx_base.specs.declared.token.Token.{Token}
 use Rattle.nx_events.specs.Scopes.{or_else}
-use Rattle.nx_events.specs.Items.{is_inside, is_behind, one_more, around_innermost, left_out, outer_of_first}
-use Rattle.nx_events.specs.declared.item.Item.{Item}
-use Rattle.nx_events.specs.declared.item.Item.TheVariants as items
+use Rattle.nx_events.specs.Items.{one_more, around_innermost}
 use Rattle.nx_events.specs.declared.scope.Binding.{Binding}
 use Rattle.nx_events.specs.declared.state.EventState.{EventState}
 use Rattle.nx_events.specs.declared.state.OpenElement.{OpenElement}
 use Rattle.nx_events.specs.declared.state.Run.{Run}
-use Rattle.nx_document.specs.WellFormed.{faults_among}
-use Rattle.nx_document.proofs.Told.{Clean, clean_first, faulty}
 
 -- an open element by its written name and what its tag declares
 pub record Frame : Type 0 where

@@ -1,10 +1,10 @@
 -- Legal bytes are characters that XML allows.
-use Rattle.std.proofs.Common.{◌≡◌, ℕ, zero, suc, ◌+◌, ◌-◌, ◌<◌, ◌≤◌, Bool, true, false, cond, Option, Some, None, List, [], ◌∷◌, ◌++◌, length, take, drop, get_or, refl, ap, sym, subst, ◌∙◌, arith, take-append-drop, length-drop}
-use Rattle.std.specs.Prelude.{◌==◌, ◌&&◌, ◌||◌, nat_lt, nat_eq, slice_index, codes, is_some}
+use Rattle.std.proofs.Common.{◌≡◌, ℕ, zero, suc, ◌+◌, ◌-◌, ◌<◌, Bool, true, false, cond, Option, Some, None, List, [], ◌∷◌, ◌++◌, length, take, drop, get_or, refl, ap, sym, subst, ◌∙◌, arith, take-append-drop}
+use Rattle.std.specs.Prelude.{◌==◌, ◌&&◌, nat_lt, nat_eq, slice_index, codes, is_some}
 use Rattle.std.specs.Char.{is_ascii_digit, is_ascii_hexdigit}
 use Rattle.std.specs.List.{AllByRecursion, list_all, starts_with, prefix_len}
-use Rattle.std.specs.Str.{IsUtf8, IsCharBoundary, bytes_eq, chars, continuation_len}
-use Rattle.std.proofs.lemmas.Bool.{and_parts, and_from, or_cases, eqb-true, eqb-false, both_ways}
+use Rattle.std.specs.Str.{IsUtf8, bytes_eq, chars, continuation_len}
+use Rattle.std.proofs.lemmas.Bool.{and_parts, and_from, eqb-true, both_ways}
 use Rattle.std.proofs.lemmas.Bool.Decides.{nat_tests}
 use Rattle.std.proofs.lemmas.Grind.{common_steps}
 use Rattle.std.proofs.lemmas.List.{drop_all, length-take-le, take_more}
@@ -15,7 +15,7 @@ use Rattle.nx_base.specs.declared.fault.Kind.{Kind}
 use Rattle.nx_base.specs.declared.fault.Kind.TheVariants.{BadChar, BadReference, BadText}
 use Rattle.nx_events.specs.CharacterFaults.{character_flaw, tag_flaw, text_flaw, piece_flaw}
 use Rattle.nx_events.specs.References.{behind_mark, name_len, reference_body_len, reference_len, char_or_none, number_of, numbered, character_named, referenced}
-use Rattle.nx_events.specs.Strings.{Piece, cut_by, pieces, line_piece_len, text_piece_len, piece_len}
+use Rattle.nx_events.specs.Strings.{Piece, cut_by, line_piece_len, text_piece_len, piece_len}
 use Rattle.nx_events.specs.Utf8.{front_char}
 use Rattle.nx_events.specs.declared.reading.Reading.{Reading}
 use Rattle.nx_events.specs.declared.reading.Reading.TheVariants.{Plain, Text, Value}
@@ -24,7 +24,7 @@ use Rattle.nx_events.proofs.Pieces.{piece_positive}
 use Rattle.nx_events.proofs.Texts.{test_is}
 use Rattle.nx_document.specs.Constraints.{IsLegal}
 use Rattle.nx_document.proofs.OfChars.{OfChars, of_nothing, of_both, IsPlain, of_plain}
-use Rattle.nx_document.proofs.Places.{lead_border, read_within, begins_so, line_border, piece_border}
+use Rattle.nx_document.proofs.Places.{lead_border, read_within, begins_so, piece_border}
 
 -- bytes of ASCII that stand in references
 hexdigit_plain : (b : ℕ) → is_ascii_hexdigit b ≡ true → IsPlain b
@@ -49,9 +49,6 @@ plain_prefix p (b ∷ bs) h = by_test (p b) (h b) (plain_prefix p bs h)
     by_test : (t : Bool) → (t ≡ true → IsPlain b) → AllByRecursion IsPlain (take (prefix_len p bs) bs) → AllByRecursion IsPlain (take (cond t (1 + prefix_len p bs) 0) (b ∷ bs))
     by_test true f more = subst (λ n. AllByRecursion IsPlain (take n (b ∷ bs))) (let e : suc (prefix_len p bs) ≡ 1 + prefix_len p bs = omega arith in e) (f refl, more)
     by_test false f more = tt
-
-abbrev letter : (b : ℕ) → Type 0
-letter b = IsPlain b
 
 known : (b : ℕ) → is_char b ≡ true → nat_lt b 128 ≡ true → IsPlain b
 known b h k = (h, grind (arith, nat_tests))
@@ -172,10 +169,12 @@ reference_plain bs h =
     let P : ℕ → Type 0 = λ k. is_some (character_named (take (length (38 ∷ take k bs) - 2) (drop 1 (38 ∷ take k bs)))) ≡ true → AllByRecursion IsPlain (38 ∷ take k bs) in
     test_is P (nat_lt 0 n && slice_index bs n == 59) (n + 1) 0
     (λ e k.
-      let r = read_within bs n 58 (and_parts (nat_lt 0 n) (slice_index bs n == 59) e).1 in
-      let body = body_plain bs (subst (λ (xs : List ℕ). is_some (character_named xs) ≡ true) (reference_body n bs r.0) k) in
-      (ampersand, subst (λ (xs : List ℕ). AllByRecursion IsPlain xs) (sym (take_more bs n 59 r.0 ∙ ap (λ b. take n bs ++ b ∷ []) (get_is bs n 59 r.0 r.1)))
-      (plain_both (take n bs) (59 ∷ []) body (semicolon, tt))))
+    let r = read_within bs n 58 (and_parts (nat_lt 0 n) (slice_index bs n == 59) e).1 in
+    let body = body_plain bs (subst (λ (xs : List ℕ). is_some (character_named xs) ≡ true) (reference_body n bs r.0) k) in (
+      ampersand,
+      subst (λ (xs : List ℕ). AllByRecursion IsPlain xs) (sym (take_more bs n 59 r.0 ∙ ap (λ b. take n bs ++ b ∷ []) (get_is bs n 59 r.0 r.1)))
+          (plain_both (take n bs) (59 ∷ []) body (semicolon, tt)),
+    ))
     (λ _ _. (ampersand, tt)) h
   where
     get_is : (bs : List ℕ) (n d : ℕ) → n < length bs → get_or bs n 0 ≡ d → get_or bs n d ≡ d

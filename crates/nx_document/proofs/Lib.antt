@@ -1,3 +1,4 @@
+mod Examples
 pub mod Told
 pub mod Characters
 pub mod Tags
@@ -7,6 +8,7 @@ pub mod Blank
 pub mod Steps
 pub mod Nesting
 pub mod Faultless
+pub mod Prologs
 pub mod Borders
 pub mod OneTree
 pub mod OfChars

@@ -1,14 +1,14 @@
 -- Names that a tag's names expand to are names that a document can have.
-use Rattle.std.proofs.Common.{◌≡◌, ℕ, zero, suc, Bool, true, false, cond, Option, Some, None, unwrap_or, List, [], ◌∷◌, ◌++◌, length, refl, ap, sym, subst, ◌∙◌, arith, ◌<◌}
+use Rattle.std.proofs.Common.{◌≡◌, ℕ, suc, Bool, true, false, cond, Option, Some, None, unwrap_or, List, [], ◌∷◌, ◌++◌, length, refl, ap, sym, subst, ◌∙◌, arith, ◌<◌}
 use Rattle.std.specs.Prelude.{◌==◌, ◌&&◌, ◌||◌, not, codes}
-use Rattle.std.specs.List.{AllByRecursion, list_all, before_first, after_first, starts_with}
+use Rattle.std.specs.List.{AllByRecursion, list_all, after_first, starts_with}
 use Rattle.std.specs.Prelude.{nat_eq}
 use Rattle.std.specs.Str.{IsUtf8, bytes_eq, chars}
 use lib.Utf8.{encode}
 use Rattle.std.proofs.lemmas.Bool.{and_parts, and_from, and_left, and_right, or_parts, not_from_false, both_ways, eqb-true, ne_eqb}
 use Rattle.std.proofs.lemmas.Slice.Eq.{bytes_eq-Decides}
 use Rattle.std.proofs.lemmas.Str.{is_utf8-from_IsUtf8}
-use Rattle.nx_base.specs.Characters.{is_char, is_name_start, is_name_char, is_name, is_nc_name}
+use Rattle.nx_base.specs.Characters.{is_char, is_name_start, is_name_char, is_nc_name}
 use Rattle.nx_base.specs.Names.{is_namespace, is_local, is_xml_name, is_attribute_name}
 use Rattle.nx_base.specs.declared.name.Name.{Name}
 use Rattle.nx_events.specs.Declarations.{is_declaration, declared_prefix, is_bad_binding}

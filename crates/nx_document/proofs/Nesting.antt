@@ -1,5 +1,5 @@
 -- Tokens that are a document have no fault, and the events of its tree.
-use Rattle.std.proofs.Common.{◌≡◌, ℕ, zero, suc, ◌+◌, Bool, true, false, cond, Option, Some, None, List, [], ◌∷◌, ◌++◌, length, take, drop, reverse, map, refl, ap, sym, subst, ◌∙◌, append_assoc}
+use Rattle.std.proofs.Common.{◌≡◌, ℕ, Bool, true, false, Option, Some, None, List, [], ◌∷◌, ◌++◌, length, take, drop, reverse, map, refl, ap, sym, subst, ◌∙◌, append_assoc}
 use Rattle.std.specs.List.{flat_map}
 use Rattle.std.proofs.lemmas.List.{append-nil}
 use Rattle.nx_base.specs.Trees.{Tree, Children, nil, element, children_flat, attributes_flat, alone, flat}
@@ -8,7 +8,7 @@ use Rattle.nx_base.specs.declared.fault.Kind.TheVariants as faults
 use Rattle.nx_base.specs.declared.name.Name.{Name}
 use Rattle.nx_base.specs.declared.token.Token.{Token}
 use Rattle.nx_base.specs.declared.token.TokenKind.TheVariants as kinds
-use Rattle.nx_events.specs.Items.{token_span, is_behind, first_state, own_bindings, start_items, empty_items, around_innermost, left_out, closing_items, end_items, items_of_token, outer_of_first, closed, opened, state_behind, items_at_end, items_from, items_of}
+use Rattle.nx_events.specs.Items.{token_span, is_behind, own_bindings, start_items, empty_items, left_out, closing_items, end_items, items_of_token, outer_of_first, closed, opened, state_behind, items_at_end, items_from, items_of}
 use Rattle.nx_events.specs.Runs.{run_items, run_passed, run_joined}
 use Rattle.nx_events.specs.Strings.{string_of, cdata_content}
 use Rattle.nx_events.specs.Tags.{start_name, end_name}
@@ -21,7 +21,7 @@ use Rattle.nx_events.specs.declared.scope.Binding.{Binding}
 use Rattle.nx_events.specs.declared.state.EventState.{EventState}
 use Rattle.nx_events.specs.declared.state.OpenElement.{OpenElement}
 use Rattle.nx_events.specs.declared.state.Run.{Run}
-use Rattle.nx_document.specs.Constraints.{IsMark, IsXmlDeclaration, IsDoctype, declared, written_in, in_force, IsTag, Closes}
+use Rattle.nx_document.specs.Constraints.{IsMark, IsXmlDeclaration, IsDoctype, declared, written_in, IsTag, Closes}
 use Rattle.nx_document.specs.Document.{Optional, absent, present, Repeated, no_further, further, IsMisc, comment, instruction, white_space, with_text, Element, by_empty, by_tags, Content, no_more, by_element, by_text, by_section, by_comment, by_instruction, Document}
 use Rattle.nx_document.specs.WellFormed.{faults_among, events_among, as_event, AreOfTree}
 use Rattle.nx_document.proofs.Told.{Clean, clean_nil, clean_both, events_append, events_skip}
@@ -64,8 +64,8 @@ module _ (frames : List Frame) (came doctype started : Bool) (run : Option Run) 
       record {
         items = start_items state tag ++ leave;
         are = λ len.
-        one_step state (at frames true doctype true None) tag rest len (state_kind state tag kinds.Empty kind)
-        ∙ ap (λ (xs : List Item). xs ++ items_from (at frames true doctype true None) rest len) (items_kind state tag kinds.Empty kind);
+            one_step state (at frames true doctype true None) tag rest len (state_kind state tag kinds.Empty kind)
+            ∙ ap (λ (xs : List Item). xs ++ items_from (at frames true doctype true None) rest len) (items_kind state tag kinds.Empty kind);
         clean = clean_both told.clean (record { none = refl });
         events = λ x. joined_events (start_items state tag) leave (map as_event x) ∙ told.events (trees.Leave ∷ x);
       }
@@ -95,7 +95,7 @@ start_behind frames came doctype started run tag kind own =
 pub record EndTold (frame : Frame) (outer : List Frame) (doctype : Bool) (run : Option Run) (end : Token) : Type 0 where
   pub clean : Clean (items_of_token (at (frame ∷ outer) true doctype true run) end)
   pub events : (x : List trees.Event) → events_among (items_of_token (at (frame ∷ outer) true doctype true run) end) ++ map as_event x
-    ≡ map as_event (text_flat (pending run) (trees.Leave ∷ x))
+      ≡ map as_event (text_flat (pending run) (trees.Leave ∷ x))
   pub behind : state_behind (at (frame ∷ outer) true doctype true run) end ≡ at outer true doctype true None
 
 closed_at : (frame : Frame) (outer : List Frame) (doctype : Bool) (run : Option Run) (end : Token) →
@@ -133,8 +133,8 @@ end_told frame outer doctype run end kind named =
     record {
       clean = subst Clean (sym are) (clean_both (run_clean end.from run) (record { none = refl }));
       events = λ x.
-      ap (λ (xs : List Item). events_among xs ++ map as_event x) are
-      ∙ joined_events (run_items end.from run) leave (map as_event x) ∙ run_events end.from run (trees.Leave ∷ x);
+          ap (λ (xs : List Item). events_among xs ++ map as_event x) are
+          ∙ joined_events (run_items end.from run) leave (map as_event x) ∙ run_events end.from run (trees.Leave ∷ x);
       behind = state_kind state end kinds.End kind ∙ ap (closed state end) found ∙ closed_at frame outer doctype run end;
     }
 
@@ -154,17 +154,17 @@ tags_read frames came doctype started run tag end inner rest name attributes chi
     record {
       items = start ++ (content.items ++ ended);
       are = λ len.
-      one_step state within tag inner len (start_behind frames came doctype started run tag kind told.own)
-      ∙ ap (λ (xs : List Item). start ++ xs) (content.are len ∙ ap (λ (xs : List Item). content.items ++ xs) (one_step last behind end rest len end_is.behind)
-      ∙ sym (append_assoc content.items ended (items_from behind rest len)))
-      ∙ sym (append_assoc start (content.items ++ ended) (items_from behind rest len));
+          one_step state within tag inner len (start_behind frames came doctype started run tag kind told.own)
+          ∙ ap (λ (xs : List Item). start ++ xs) (content.are len ∙ ap (λ (xs : List Item). content.items ++ xs) (one_step last behind end rest len end_is.behind)
+          ∙ sym (append_assoc content.items ended (items_from behind rest len)))
+          ∙ sym (append_assoc start (content.items ++ ended) (items_from behind rest len));
       clean = clean_both (subst Clean (sym start_is) told.clean) (clean_both content.clean end_is.clean);
       events = λ x.
-      joined_events start (content.items ++ ended) (map as_event x)
-      ∙ ap (λ (es : List Event). events_among start ++ es)
-      (joined_events content.items ended (map as_event x) ∙ ap (λ (es : List Event). events_among content.items ++ es) (end_is.events x) ∙ content.events (trees.Leave ∷ x))
-      ∙ ap (λ (xs : List Item). events_among xs ++ map as_event (children_flat children (trees.Leave ∷ x))) start_is
-      ∙ told.events (children_flat children (trees.Leave ∷ x));
+          joined_events start (content.items ++ ended) (map as_event x)
+          ∙ ap (λ (es : List Event). events_among start ++ es)
+          (joined_events content.items ended (map as_event x) ∙ ap (λ (es : List Event). events_among content.items ++ es) (end_is.events x) ∙ content.events (trees.Leave ∷ x))
+          ∙ ap (λ (xs : List Item). events_among xs ++ map as_event (children_flat children (trees.Leave ∷ x))) start_is
+          ∙ told.events (children_flat children (trees.Leave ∷ x));
     }
 
 -- content, from the left
@@ -182,15 +182,15 @@ module _ (frame : Frame) (outer : List Frame) (doctype : Bool) where
         left = more.left;
         items = first ++ more.items;
         are = λ len.
-        one_step state (at (frame ∷ outer) true doctype true next) token others len silent.behind
-        ∙ ap (λ (xs : List Item). first ++ xs) (more.are len)
-        ∙ sym (append_assoc first more.items (items_from (at (frame ∷ outer) true doctype true more.left) rest len));
+            one_step state (at (frame ∷ outer) true doctype true next) token others len silent.behind
+            ∙ ap (λ (xs : List Item). first ++ xs) (more.are len)
+            ∙ sym (append_assoc first more.items (items_from (at (frame ∷ outer) true doctype true more.left) rest len));
         clean = clean_both silent.clean more.clean;
         events = λ x.
-        ap (λ (es : List Event). es ++ map as_event (text_flat (pending more.left) x)) (events_skip first more.items silent.silent)
-        ∙ more.events x
-        ∙ ap (λ (t : List ℕ). map as_event (children_flat (with_text t children) x)) joins
-        ∙ ap (λ (c : Children). map as_event (children_flat c x)) (text_twice (pending run) text children);
+            ap (λ (es : List Event). es ++ map as_event (text_flat (pending more.left) x)) (events_skip first more.items silent.silent)
+            ∙ more.events x
+            ∙ ap (λ (t : List ℕ). map as_event (children_flat (with_text t children) x)) joins
+            ∙ ap (λ (c : Children). map as_event (children_flat c x)) (text_twice (pending run) text children);
       }
 
   passed_read : (run : Option Run) (token : Token) (others rest : List Token) (children : Children) →
@@ -205,14 +205,14 @@ module _ (frame : Frame) (outer : List Frame) (doctype : Bool) where
     left = more.left;
     items = one.items ++ more.items;
     are = λ len.
-    one.are len ∙ ap (λ (xs : List Item). one.items ++ xs) (more.are len)
-    ∙ sym (append_assoc one.items more.items (items_from (at (frame ∷ outer) true doctype true more.left) rest len));
+        one.are len ∙ ap (λ (xs : List Item). one.items ++ xs) (more.are len)
+        ∙ sym (append_assoc one.items more.items (items_from (at (frame ∷ outer) true doctype true more.left) rest len));
     clean = clean_both one.clean more.clean;
     events = λ x.
-    joined_events one.items more.items (map as_event (text_flat (pending more.left) x))
-    ∙ ap (λ (es : List Event). events_among one.items ++ es) (more.events x)
-    ∙ one.events (children_flat children x)
-    ∙ ap (λ (es : List trees.Event). map as_event es) (sym (element_flat (pending run) tree children x));
+        joined_events one.items more.items (map as_event (text_flat (pending more.left) x))
+        ∙ ap (λ (es : List Event). events_among one.items ++ es) (more.events x)
+        ∙ one.events (children_flat children x)
+        ∙ ap (λ (es : List trees.Event). map as_event es) (sym (element_flat (pending run) tree children x));
   }
 
 inside_not_behind : (frame : Frame) (outer : List Frame) (doctype : Bool) (run : Option Run) → is_behind (at (frame ∷ outer) true doctype true run) ≡ false

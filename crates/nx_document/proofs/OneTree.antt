@@ -1,14 +1,13 @@
 -- The events of a tree are those of no other.
-use Rattle.std.proofs.Common.{◌≡◌, ℕ, List, [], ◌∷◌, ◌++◌, map, refl, ap, sym, subst, ◌∙◌}
+use Rattle.std.proofs.Common.{◌≡◌, ℕ, List, [], ◌∷◌, map, refl, ap, sym, subst, ◌∙◌}
 use Rattle.nx_base.specs.Trees.{Tree, Children, nil, string, element, attributes_flat, children_flat, alone, flat}
 use Rattle.nx_base.specs.Trees as trees
 use Rattle.nx_base.specs.declared.name.Name.{Name}
 use Rattle.nx_base.specs.declared.token.Token.{Token}
-use Rattle.nx_events.specs.Items.{items_of}
 use Rattle.nx_events.specs.declared.item.Event.{Event}
 use Rattle.nx_events.specs.declared.item.Event.TheVariants as events
 use Rattle.nx_document.specs.Document.{Document}
-use Rattle.nx_document.specs.WellFormed.{events_among, as_event}
+use Rattle.nx_document.specs.WellFormed.{as_event}
 use Rattle.nx_document.proofs.Nesting.{document_reads}
 
 -- the events of a tree, back from the events of a text
@@ -29,6 +28,9 @@ there_and_back (trees.Att name value ∷ others) = ap (λ (es : List trees.Event
 there_and_back (trees.TagEnd ∷ others) = ap (λ (es : List trees.Event). trees.TagEnd ∷ es) (there_and_back others)
 there_and_back (trees.Chars text ∷ others) = ap (λ (es : List trees.Event). trees.Chars text ∷ es) (there_and_back others)
 there_and_back (trees.Leave ∷ others) = ap (λ (es : List trees.Event). trees.Leave ∷ es) (there_and_back others)
+
+pub stay_apart : (one other : List trees.Event) → map as_event one ≡ map as_event other → one ≡ other
+stay_apart one other e = sym (there_and_back one) ∙ ap back e ∙ there_and_back other
 
 -- the children end here
 abbrev Stops : List trees.Event → Type 0
@@ -54,10 +56,12 @@ same_attributes (a ∷ more) (b ∷ others) x y e =
     let name : a.name ≡ b.name = cc in
     let value : a.value ≡ b.value = cc in
     let tails : attributes_flat more (trees.TagEnd ∷ x) ≡ attributes_flat others (trees.TagEnd ∷ y) = cc in
-    let rest = same_attributes more others x y tails in
-    (ap (λ (n : Name). let it : trees.Attribute = record { name = n; value = a.value } in it ∷ more) name
-    ∙ ap (λ (v : List ℕ). let it : trees.Attribute = record { name = b.name; value = v } in it ∷ more) value
-    ∙ ap (λ (xs : List trees.Attribute). b ∷ xs) rest.0, rest.1)
+    let rest = same_attributes more others x y tails in (
+      ap (λ (n : Name). let it : trees.Attribute = record { name = n; value = a.value } in it ∷ more) name
+          ∙ ap (λ (v : List ℕ). let it : trees.Attribute = record { name = b.name; value = v } in it ∷ more) value
+          ∙ ap (λ (xs : List trees.Attribute). b ∷ xs) rest.0,
+      rest.1,
+    )
 
 same_children : (c d : Children) (x y : List trees.Event) → Stops x → Stops y → children_flat c x ≡ children_flat d y → (c ≡ d) × (x ≡ y)
 same_children nil nil x y s t e = (refl, e)
@@ -99,5 +103,4 @@ same_tree tree other e =
 pub one_tree : (all : List Token) (tree other : Tree) → Document all tree → Document all other → tree ≡ other
 one_tree all tree other one two =
     let same : map as_event (flat tree) ≡ map as_event (flat other) = sym (document_reads all tree 0 one).1 ∙ (document_reads all other 0 two).1 in
-    let events : flat tree ≡ flat other = sym (there_and_back (flat tree)) ∙ ap back same ∙ there_and_back (flat other) in
-    same_tree tree other (same_children (alone tree) (alone other) [] [] tt tt events).0
+    same_tree tree other (same_children (alone tree) (alone other) [] [] tt tt (stay_apart (flat tree) (flat other) same)).0

@@ -1,9 +1,9 @@
 -- The tree of a text has names that a document can have, and strings of characters that XML allows.
-use Rattle.std.proofs.Common.{◌≡◌, ℕ, true, List, [], ◌∷◌, ◌++◌, length, drop, ◌-◌, refl, sym, subst}
+use Rattle.std.proofs.Common.{◌≡◌, ℕ, true, List, [], ◌∷◌, length, drop, ◌-◌, sym, subst}
 use Rattle.std.specs.List.{AllByRecursion}
 use Rattle.std.specs.Str.{IsUtf8}
-use Rattle.nx_base.specs.Names.{is_xml_name, is_attribute_name}
-use Rattle.nx_base.specs.Tokens.{IsOfKind, tokens_of}
+use Rattle.nx_base.specs.Names.{is_xml_name}
+use Rattle.nx_base.specs.Tokens.{tokens_of}
 use Rattle.nx_base.specs.Trees.{Tree, Children, nil, string, element, HasAttribute, here, further, AreAttributes, no_attributes, one_more, AreChildren, no_children, string_first, element_first, attributes_flat, children_flat, alone, flat, AreWritable}
 use Rattle.nx_base.specs.Trees as trees
 use Rattle.nx_base.specs.declared.name.Name.{Name}
@@ -11,14 +11,14 @@ use Rattle.nx_base.specs.declared.token.Token.{Token}
 use Rattle.nx_base.specs.declared.token.TokenKind.{TokenKind}
 use Rattle.nx_base.specs.declared.token.TokenKind.TheVariants as kinds
 use Rattle.nx_events.specs.Strings.{string_of, cdata_content}
-use Rattle.nx_events.specs.Tags.{start_name, tag_attributes}
+use Rattle.nx_events.specs.Tags.{start_name}
 use Rattle.nx_events.specs.declared.reading.Reading.TheVariants.{Plain, Text, Value}
 use Rattle.nx_events.specs.declared.scope.Binding.{Binding}
 use Rattle.nx_events.specs.declared.tag.Attribute.{Attribute}
 use Rattle.nx_events.proofs.TextKinds.{HasContent, content_text}
 use Rattle.nx_events.proofs.TextTags.{AttributesAreText, name_text, tag_text}
 use Rattle.nx_document.specs.Constraints.{written_in, in_force, IsTag, Expand, no_attribute, declaration, attribute, AreDistinct}
-use Rattle.nx_document.specs.Document.{Optional, absent, present, Repeated, no_further, further, IsMisc, with_text, Element, by_empty, by_tags, Content, no_more, by_element, by_text, by_section, by_comment, by_instruction, Document}
+use Rattle.nx_document.specs.Document.{Optional, absent, present, Repeated, no_further, further, with_text, Element, by_empty, by_tags, Content, no_more, by_element, by_text, by_section, by_comment, by_instruction, Document}
 use Rattle.nx_document.proofs.Borders.{IsText, tokens_are_text}
 use Rattle.nx_document.proofs.Legal.{legal_of_chars}
 use Rattle.nx_document.proofs.Names.{AreProper, in_force_proper, element_name, attribute_name}
@@ -111,18 +111,22 @@ mutual
   content_proper no_more p text = (record { names = no_children; texts = no_text }, text)
   content_proper (by_element one more) p text =
       let first = element_proper one p text in
-      let others = content_proper more p first.1 in
-      (record {
-        names = element_first first.0.name first.0.attributes first.0.children.names others.0.names;
-        texts = element_then first.0.values first.0.children.texts others.0.texts;
-      }, others.1)
+      let others = content_proper more p first.1 in (
+        record {
+          names = element_first first.0.name first.0.attributes first.0.children.names others.0.names;
+          texts = element_then first.0.values first.0.children.texts others.0.texts;
+        },
+        others.1,
+      )
   content_proper (by_text {token = token} is more) p text =
       let others = content_proper more p text.1 in
       (with_string (string_of Text token.bytes) (string_chars Text token.bytes (legal_of_chars Text token.bytes text.0.0 is.characters)) others.0, others.1)
   content_proper (by_section {token = token} is more) p text =
-      let others = content_proper more p text.1 in
-      (with_string (string_of Plain (cdata_content token.bytes))
-      (string_chars Plain (cdata_content token.bytes) (all_parts token.bytes (legal_of_chars Plain token.bytes text.0.0 is.characters) 9 (length token.bytes - 12) (content_of token kinds.Cdata text.0 is.kind))) others.0, others.1)
+      let others = content_proper more p text.1 in (
+        with_string (string_of Plain (cdata_content token.bytes))
+            (string_chars Plain (cdata_content token.bytes) (all_parts token.bytes (legal_of_chars Plain token.bytes text.0.0 is.characters) 9 (length token.bytes - 12) (content_of token kinds.Cdata text.0 is.kind))) others.0,
+        others.1,
+      )
   content_proper (by_comment is more) p text = content_proper more p text.1
   content_proper (by_instruction is more) p text = content_proper more p text.1
 

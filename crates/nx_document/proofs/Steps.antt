@@ -1,8 +1,8 @@
 -- Each kind of token: no fault exactly where it keeps its constraints, and what it does to the state.
-use Rattle.std.proofs.Common.{◌≡◌, ℕ, zero, suc, ◌+◌, Bool, true, false, cond, Option, Some, None, List, [], ◌∷◌, ◌++◌, length, map, refl, ap, sym, subst, ◌∙◌, append_assoc}
-use Rattle.std.specs.Prelude.{◌&&◌, ◌||◌, not, nat_lt}
+use Rattle.std.proofs.Common.{◌≡◌, ℕ, Bool, true, false, cond, Option, Some, List, [], ◌∷◌, ◌++◌, length, map, refl, ap, sym, subst, ◌∙◌, append_assoc}
+use Rattle.std.specs.Prelude.{◌&&◌, ◌||◌, not}
 use Rattle.std.specs.List.{list_all}
-use Rattle.std.proofs.lemmas.Bool.{or_parts, and_cases}
+use Rattle.std.proofs.lemmas.Bool.{or_parts}
 use Rattle.nx_base.specs.Characters.{is_space}
 use Rattle.nx_base.specs.Trees as trees
 use Rattle.nx_base.specs.Trees.{attributes_flat}
@@ -13,7 +13,7 @@ use Rattle.nx_base.specs.declared.token.Token.{Token}
 use Rattle.nx_base.specs.declared.token.TokenKind.{TokenKind}
 use Rattle.nx_base.specs.declared.token.TokenKind.TheVariants as kinds
 use Rattle.nx_events.specs.CharacterFaults.{character_faults}
-use Rattle.nx_events.specs.Declarations.{declaration_faults, bindings}
+use Rattle.nx_events.specs.Declarations.{declaration_faults}
 use Rattle.nx_events.specs.Elements.{element_resolved, element_items, attribute_items}
 use Rattle.nx_events.specs.Faults.{faults_as_items}
 use Rattle.nx_events.specs.Items.{token_span, token_fault_if, is_inside, is_behind, declaration_items, doctype_items, character_items, comment_items, pi_items, cdata_items, text_items, own_bindings, start_items, items_by_kind, items_of_token, passed, is_doctype, passed_other, joined, state_by_kind, state_behind}
@@ -29,7 +29,6 @@ use Rattle.nx_events.specs.declared.item.Item.{Item}
 use Rattle.nx_events.specs.declared.item.Item.TheVariants as items
 use Rattle.nx_events.specs.declared.reading.Reading.{Reading}
 use Rattle.nx_events.specs.declared.reading.Reading.TheVariants.{Plain, Text, Value}
-use Rattle.nx_events.specs.declared.scope.Binding.{Binding}
 use Rattle.nx_events.specs.declared.state.EventState.{EventState}
 use Rattle.nx_events.specs.declared.state.Run.{Run}
 use Rattle.nx_document.specs.Constraints.{IsXmlDeclaration, IsComment, IsInstruction, IsWhiteSpace, IsCharacterData, IsSection, IsLegal, declared, written_in, in_force, IsTag, Expand}
@@ -37,9 +36,9 @@ use Rattle.nx_document.specs.WellFormed.{events_among, as_event}
 use Rattle.nx_document.proofs.Told.{Clean, clean_nil, clean_both, clean_first, clean_second, faulty, no_faults, clean_faults, fault_events, no_fault_if, clean_if, if_events, events_append, events_skip}
 use Rattle.nx_document.proofs.Characters.{is_legal, legal_faultless}
 use Rattle.nx_document.proofs.Blank.{blank_legal}
-use Rattle.nx_document.proofs.Tags.{declares_legally, bindings_declared, all_faultless, Expanded, expanded, written_once, attributes_told, entered, enters}
+use Rattle.nx_document.proofs.Tags.{declares_legally, bindings_declared, all_faultless, expanded, written_once, attributes_told, entered, enters}
 use Rattle.nx_document.proofs.Trees.{pending, text_flat, run_clean, run_events}
-use Rattle.nx_document.proofs.Frames.{Frame, scope_of, elements_of, at, inside_some}
+use Rattle.nx_document.proofs.Frames.{Frame, at, inside_some}
 
 pub items_kind : (state : EventState) (token : Token) (kind : TokenKind) → token.kind ≡ kind → items_of_token state token ≡ items_by_kind kind state token
 unfolding items_of_token
@@ -283,7 +282,7 @@ pub record TagTold (state : EventState) (token : Token) (name : Name) (attribute
   pub clean : Clean (start_items state token)
   pub own : own_bindings token ≡ declared (written_in token)
   pub events : (x : List trees.Event) → events_among (start_items state token) ++ map as_event x
-    ≡ map as_event (text_flat (pending state.run) (trees.Enter name ∷ attributes_flat attributes (trees.TagEnd ∷ x)))
+      ≡ map as_event (text_flat (pending state.run) (trees.Enter name ∷ attributes_flat attributes (trees.TagEnd ∷ x)))
 
 pub tag_told : (state : EventState) (token : Token) (name : Name) (attributes : List trees.Attribute) → is_behind state ≡ false → IsTag state.scope token name attributes →
     TagTold state token name attributes
@@ -306,12 +305,12 @@ tag_told state token name attributes inside tag =
     record {
       own = own;
       clean = clean_both (clean_both (clean_both (clean_both (clean_both (run_clean token.from state.run)
-      (clean_faults (character_faults Value token.from token.bytes) (legal_faultless Value token.from token.bytes tag.characters)))
-      (clean_faults (declaration_faults [] written) legal))
-      (subst Clean (sym enter) (record { none = refl }))) all.clean) (record { none = refl });
+          (clean_faults (character_faults Value token.from token.bytes) (legal_faultless Value token.from token.bytes tag.characters)))
+          (clean_faults (declaration_faults [] written) legal))
+          (subst Clean (sym enter) (record { none = refl }))) all.clean) (record { none = refl });
       events = λ x.
-      six_events run characters declarations element others end (map as_event x) (fault_events (character_faults Value token.from token.bytes)) (fault_events (declaration_faults [] written))
-      ∙ ap (λ (es : List Item). events_among run ++ (events_among es ++ (events_among others ++ (TagEnd ∷ map as_event x)))) enter
-      ∙ ap (λ (es : List Event). events_among run ++ (Enter name ∷ es)) (all.events (trees.TagEnd ∷ x))
-      ∙ run_events token.from state.run (trees.Enter name ∷ attributes_flat attributes (trees.TagEnd ∷ x));
+          six_events run characters declarations element others end (map as_event x) (fault_events (character_faults Value token.from token.bytes)) (fault_events (declaration_faults [] written))
+          ∙ ap (λ (es : List Item). events_among run ++ (events_among es ++ (events_among others ++ (TagEnd ∷ map as_event x)))) enter
+          ∙ ap (λ (es : List Event). events_among run ++ (Enter name ∷ es)) (all.events (trees.TagEnd ∷ x))
+          ∙ run_events token.from state.run (trees.Enter name ∷ attributes_flat attributes (trees.TagEnd ∷ x));
     }

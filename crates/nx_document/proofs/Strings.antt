@@ -1,5 +1,5 @@
 -- The string of characters that XML allows is of such characters.
-use Rattle.std.proofs.Common.{◌≡◌, ℕ, zero, suc, ◌+◌, ◌-◌, Bool, true, false, cond, Option, Some, None, List, [], ◌∷◌, ◌++◌, length, take, drop, refl, ap, sym, subst, ◌∙◌, arith}
+use Rattle.std.proofs.Common.{◌≡◌, ℕ, zero, suc, ◌+◌, ◌-◌, true, Option, Some, None, List, [], ◌∷◌, length, take, drop, refl, subst, arith}
 use Rattle.std.specs.Prelude.{◌==◌, slice_index, nat_eq, codes}
 use Rattle.std.specs.List.{flat_map, starts_with}
 use Rattle.std.specs.Str.{bytes_eq}

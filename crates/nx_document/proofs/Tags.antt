@@ -1,15 +1,13 @@
 -- Declarations, element and attributes of a tag: no fault among their items exactly where they keep the constraints.
-use Rattle.std.proofs.Common.{◌≡◌, ℕ, Bool, true, false, cond, Option, Some, None, List, [], ◌∷◌, ◌++◌, map, refl, ap, sym, subst, ◌∙◌, append_assoc}
-use Rattle.std.specs.Prelude.{◌&&◌, ◌||◌, not}
-use Rattle.std.specs.List.{AllByRecursion, list_any}
+use Rattle.std.proofs.Common.{◌≡◌, ℕ, Bool, true, false, cond, Option, Some, None, List, [], ◌∷◌, ◌++◌, map, refl, ap, sym, subst, ◌∙◌}
+use Rattle.std.specs.Prelude.{◌||◌, not}
+use Rattle.std.specs.List.{AllByRecursion}
 use Rattle.std.specs.Str.{bytes_eq}
 use Rattle.std.proofs.lemmas.Bool.{or_parts, or_from, or_right, or_left, and_parts, and_from, false_from_ne_true, both_ways}
 use Rattle.std.proofs.lemmas.List.Folds.{list_any-append}
 use Rattle.std.proofs.lemmas.Slice.Eq.{bytes_eq-Decides}
 use Rattle.nx_base.specs.Trees as trees
 use Rattle.nx_base.specs.Trees.{attributes_flat}
-use Rattle.nx_base.specs.declared.fault.Fault.{Fault}
-use Rattle.nx_base.specs.declared.fault.Kind.{Kind}
 use Rattle.nx_base.specs.declared.fault.Kind.TheVariants.{DuplicateAttribute, BadName, BadBinding, SecondRoot}
 use Rattle.nx_base.specs.declared.fault.Span.{Span}
 use Rattle.nx_base.specs.declared.name.Name.{Name}
@@ -18,16 +16,15 @@ use Rattle.nx_events.specs.Elements.{flawed_as, declared_or_flaw, element_resolv
 use Rattle.nx_events.specs.Names.{is_qname}
 use Rattle.nx_events.specs.Scopes.{expand_element, expand_attribute}
 use Rattle.nx_events.specs.declared.flaw.Resolved.{Resolved}
-use Rattle.nx_events.specs.declared.flaw.Resolved.TheVariants.{Named, Flawed}
+use Rattle.nx_events.specs.declared.flaw.Resolved.TheVariants.{Named}
 use Rattle.nx_events.specs.declared.item.Event.{Event}
 use Rattle.nx_events.specs.declared.item.Event.TheVariants.{Enter, Att}
-use Rattle.nx_events.specs.declared.item.Item.{Item}
 use Rattle.nx_events.specs.declared.item.Item.TheVariants as items
 use Rattle.nx_events.specs.declared.scope.Binding.{Binding}
 use Rattle.nx_events.specs.declared.tag.Attribute.{Attribute}
-use Rattle.nx_document.specs.Constraints.{NoTwoShare, AreWrittenOnce, IsLegalDeclaration, DeclareLegally, declared, Expand, no_attribute, declaration, attribute, AreDistinct}
+use Rattle.nx_document.specs.Constraints.{AreWrittenOnce, IsLegalDeclaration, DeclareLegally, declared, Expand, no_attribute, declaration, attribute, AreDistinct}
 use Rattle.nx_document.specs.WellFormed.{events_among, as_event}
-use Rattle.nx_document.proofs.Told.{Clean, clean_nil, clean_both, clean_first, clean_second, faulty, events_append}
+use Rattle.nx_document.proofs.Told.{Clean, clean_nil, clean_first, clean_second, faulty}
 
 pub not_nothing : {A B : Type 0} (x : A) (xs : List A) → x ∷ xs ≡ [] → B
 not_nothing x xs e = let bad : x ∷ xs ≡ [] = e in absurd (cc)
@@ -72,7 +69,7 @@ apart_more : (before : List Attribute) (it : Attribute) (xs : List Attribute) �
 apart_more before it [] h k = tt
 apart_more before it (x ∷ xs) h k = (
   has_more before it x.name ∙ or_from (has_attribute before x.name) (bytes_eq it.name x.name || false) h.0
-  (or_from (bytes_eq it.name x.name) false (unlike_test it.name x.name k.0) refl),
+      (or_from (bytes_eq it.name x.name) false (unlike_test it.name x.name k.0) refl),
   apart_more before it xs h.1 k.1,
 )
 
@@ -146,8 +143,8 @@ unfolding declaration_faults
 declared_once before [] name e d h = tt
 declared_once before (x ∷ xs) name e d h = (
   (λ same. both_ways (has_attribute before x.name)
-  (sound_declaration before x (subst (λ n. is_declaration n ≡ true) same d) (append_nothing_first (faults_at before x) (declaration_faults (before ++ x ∷ []) xs) e)).fresh
-  (subst (λ n. has_attribute before n ≡ true) same h)),
+      (sound_declaration before x (subst (λ n. is_declaration n ≡ true) same d) (append_nothing_first (faults_at before x) (declaration_faults (before ++ x ∷ []) xs) e)).fresh
+      (subst (λ n. has_attribute before n ≡ true) same h)),
   declared_once (before ++ x ∷ []) xs name (append_nothing_second (faults_at before x) (declaration_faults (before ++ x ∷ []) xs) e) d (has_still before x name h),
 )
 
@@ -210,8 +207,8 @@ unkept_new : (kept : List Name) (name : Name) (attributes : List trees.Attribute
 unkept_new kept name [] h = tt
 unkept_new kept name (a ∷ attributes) h = (
   (λ same. both_ways (is_same_name name a.name)
-  (or_parts (is_same_name name a.name) false (or_parts (has_name kept a.name) (has_name (name ∷ []) a.name) (sym (kept_more kept (name ∷ []) a.name) ∙ h.0)).1).0
-  (names_same name a.name same)),
+      (or_parts (is_same_name name a.name) false (or_parts (has_name kept a.name) (has_name (name ∷ []) a.name) (sym (kept_more kept (name ∷ []) a.name) ∙ h.0)).1).0
+      (names_same name a.name same)),
   unkept_new kept name attributes h.1,
 )
 
@@ -220,7 +217,7 @@ unkept_more : (kept : List Name) (name : Name) (attributes : List trees.Attribut
 unkept_more kept name [] h k = tt
 unkept_more kept name (a ∷ attributes) h k = (
   kept_more kept (name ∷ []) a.name ∙ or_from (has_name kept a.name) (is_same_name name a.name || false) h.0
-  (or_from (is_same_name name a.name) false (false_from_ne_true (is_same_name name a.name) (λ e. k.0 (same_names name a.name e))) refl),
+      (or_from (is_same_name name a.name) false (false_from_ne_true (is_same_name name a.name) (λ e. k.0 (same_names name a.name e))) refl),
   unkept_more kept name attributes h.1 k.1,
 )
 

@@ -1,17 +1,14 @@
 -- Faults and events of items that are joined.
-use Rattle.std.proofs.Common.{◌≡◌, ℕ, Bool, true, false, cond, List, [], ◌∷◌, ◌++◌, map, refl, ap, sym, ◌∙◌, append_assoc}
-use Rattle.std.proofs.lemmas.List.{append-nil}
+use Rattle.std.proofs.Common.{◌≡◌, Bool, true, false, List, [], ◌∷◌, ◌++◌, refl, ap, sym, ◌∙◌}
 use Rattle.nx_base.specs.declared.fault.Fault.{Fault}
 use Rattle.nx_base.specs.declared.fault.Kind.{Kind}
-use Rattle.nx_base.specs.declared.fault.Span.{Span}
 use Rattle.nx_base.specs.declared.token.Token.{Token}
-use Rattle.nx_base.specs.Trees as trees
 use Rattle.nx_events.specs.Faults.{bare_fault, faults_as_items}
 use Rattle.nx_events.specs.Items.{token_span, token_fault_if}
 use Rattle.nx_events.specs.declared.item.Event.{Event}
 use Rattle.nx_events.specs.declared.item.Item.{Item}
 use Rattle.nx_events.specs.declared.item.Item.TheVariants as items
-use Rattle.nx_document.specs.WellFormed.{faults_among, events_among, as_event}
+use Rattle.nx_document.specs.WellFormed.{faults_among, events_among}
 
 -- no fault is among the items
 pub record Clean (all : List Item) : Type 0 where

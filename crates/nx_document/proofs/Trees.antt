@@ -1,20 +1,18 @@
 -- Children with a string in front, and their events.
-use Rattle.std.proofs.Common.{◌≡◌, ℕ, Bool, true, false, cond, Option, Some, None, List, [], ◌∷◌, ◌++◌, map, refl, ap, sym, ◌∙◌, append_assoc, length, suc, arith}
+use Rattle.std.proofs.Common.{◌≡◌, ℕ, Bool, true, false, cond, Option, Some, None, List, [], ◌∷◌, ◌++◌, map, refl, ap, append_assoc, length, suc, arith}
 use Rattle.std.specs.Prelude.{◌==◌}
 use Rattle.std.proofs.lemmas.Bool.{ne_eqb}
 use Rattle.std.proofs.lemmas.List.{append-nil}
 use Rattle.nx_base.specs.Trees.{Tree, Children, nil, string, element, children_flat, alone}
 use Rattle.nx_base.specs.Trees as trees
 use Rattle.nx_base.specs.declared.fault.Span.{Span}
-use Rattle.nx_base.specs.declared.name.Name.{Name}
 use Rattle.nx_events.specs.Runs.{run_items, run_passed, run_joined}
 use Rattle.nx_events.specs.declared.item.Event.{Event}
 use Rattle.nx_events.specs.declared.item.Event.TheVariants.{Chars}
-use Rattle.nx_events.specs.declared.item.Item.{Item}
 use Rattle.nx_events.specs.declared.item.Item.TheVariants as items
 use Rattle.nx_events.specs.declared.state.Run.{Run}
 use Rattle.nx_document.specs.Document.{with_text}
-use Rattle.nx_document.specs.WellFormed.{faults_among, events_among, as_event}
+use Rattle.nx_document.specs.WellFormed.{events_among, as_event}
 use Rattle.nx_document.proofs.Told.{Clean, clean_nil}
 
 -- the string of a run that is pending, empty where there is none

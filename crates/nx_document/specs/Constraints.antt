@@ -1,4 +1,4 @@
--- What the standards ask of one token of a document, and of a tag with the namespace declarations around it.
+-- What XML 1.0 and Namespaces in XML 1.0 ask of one token of a document, and of a tag inside of the namespace declarations around it.
 use Rattle.std.specs.Prelude.{◌≡◌, ℕ, true, false, if◌then◌else◌, List, [], ◌∷◌, ◌++◌, Some, None}
 use Rattle.std.specs.List.{AllByRecursion}
 use Rattle.nx_base.specs.Characters.{is_blank}
@@ -33,7 +33,7 @@ pub record IsXmlDeclaration (token : Token) : Type 0 where
   pub kind : token.kind ≡ kinds.Decl
   pub form : is_xml_declaration token.bytes ≡ true
 
--- doctypedecl (2.8 [28])
+-- doctypedecl (2.8 [28]), of which its marks alone are asked
 abbrev pub IsDoctype : Token → Type 0
 IsDoctype token = token.kind ≡ kinds.Doctype
 
@@ -92,7 +92,7 @@ declared (it ∷ others) =
 abbrev pub written_in : Token → List Attribute
 written_in token = tag_attributes token.from token.bytes
 
--- what is declared around a tag or in it (6.1)
+-- what is declared around a tag and in it, the innermost last (6.1)
 abbrev pub in_force : List Binding → Token → List Binding
 in_force around token = around ++ declared (written_in token)
 
@@ -113,11 +113,16 @@ AreDistinct attributes = NoTwoShare (λ (a : trees.Attribute). a.name) attribute
 -- a start tag or an empty-element tag (XML 1.0, 3.1 [40] and [44]) inside of these declarations, of an element with this expanded
 -- name and these attributes
 pub record IsTag (around : List Binding) (token : Token) (name : Name) (attributes : List trees.Attribute) : Type 0 where
+  -- its characters, and the references in its values (2.2, 4.1)
   pub characters : IsLegal Value token.bytes
+  -- Unique Att Spec (3.1)
   pub once : AreWrittenOnce (written_in token)
+  -- its namespace declarations (Namespaces, 3 and 5)
   pub declarations : DeclareLegally (written_in token)
+  -- the element's name is a QName (4 [12] and [14], 7), its prefix is declared (5, Prefix Declared), and it expands so (6.2)
   pub qualified : is_qname (start_name token.bytes) ≡ true
   pub named : expand_element (in_force around token) (start_name token.bytes) ≡ Some name
+  -- and so are and do the names of its attributes (4 [15], 5, 6.2), no two alike (6.3)
   pub expanded : Expand (in_force around token) (written_in token) attributes
   pub distinct : AreDistinct attributes
 

@@ -62,6 +62,10 @@ DocumentsHaveProperNames = (text : List ℕ) (tree : Tree) → IsUtf8 text → D
 abbrev pub DocumentsAreWritable : Type 0
 DocumentsAreWritable = (text : List ℕ) (tree : Tree) → IsUtf8 text → Document (tokens_of text) tree → AreWritable (flat tree)
 
+-- the events of trees stay apart among those of texts
+abbrev pub TreeEventsStayApart : Type 0
+TreeEventsStayApart = (one other : List trees.Event) → map as_event one ≡ map as_event other → one ≡ other
+
 -- names without a colon are one notion, of the bytes of a name and of its characters (Namespaces, 3 [4])
 abbrev pub UnprefixedNamesAgree : Type 0
 UnprefixedNamesAgree = (name : List ℕ) → is_ncname name ≡ is_nc_name (chars name)

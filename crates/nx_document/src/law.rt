@@ -1,6 +1,6 @@
 //! Laws of well-formed documents. Nothing here runs.
 
-ghost use Rattle.nx_document.specs.WellFormed.{WellFormedIsDocument, DocumentsHaveNoFault, DocumentsHaveOneTree, DocumentsHaveProperNames, DocumentsAreWritable, UnprefixedNamesAgree};
+ghost use Rattle.nx_document.specs.WellFormed.{WellFormedIsDocument, DocumentsHaveNoFault, DocumentsHaveOneTree, DocumentsHaveProperNames, DocumentsAreWritable, TreeEventsStayApart, UnprefixedNamesAgree};
 
 /// A text holds no fault exactly where its tokens are a document, and its events are then those of the
 /// document's tree.
@@ -27,6 +27,11 @@ pub fn documents_have_proper_names()
 /// Its strings, too, are of characters that XML allows.
 pub fn documents_are_writable()
     ensures { DocumentsAreWritable }
+{}
+
+/// The events of trees stay apart among those of texts.
+pub fn tree_events_stay_apart()
+    ensures { TreeEventsStayApart }
 {}
 
 /// Names without a colon are one notion, of the bytes of a name and of its characters.

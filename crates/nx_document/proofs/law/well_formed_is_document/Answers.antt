@@ -1,7 +1,7 @@
 use Rattle.std.proofs.Common.{length}
 use Rattle.nx_base.specs.Tokens.{tokens_of}
 use Rattle.nx_document.proofs.Borders.{tokens_mark_first}
-use Rattle.nx_document.proofs.Faultless.{faultless_is_document}
+use Rattle.nx_document.proofs.Prologs.{faultless_is_document}
 use Rattle.nx_document.proofs.Nesting.{document_reads}
 use Rattle.nx_document.proofs.law.well_formed_is_document.Goals as goal
 
