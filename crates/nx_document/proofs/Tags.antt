@@ -38,9 +38,6 @@ append_nothing_second [] ys e = e
 append_nothing_second (x ∷ xs) ys e = not_nothing x (xs ++ ys) e
 
 -- names that aren't among attributes
-unlike : (a b : List ℕ) → bytes_eq a b ≡ false → a ≡ b → ⊥
-unlike a b e same = both_ways (bytes_eq a b) e ((bytes_eq-Decides a b).1 same)
-
 unlike_test : (a b : List ℕ) → (a ≡ b → ⊥) → bytes_eq a b ≡ false
 unlike_test a b h = false_from_ne_true (bytes_eq a b) (λ e. h ((bytes_eq-Decides a b).0 e))
 
@@ -96,14 +93,6 @@ sound_declaration before it d e =
 no_flaw : (before : List Attribute) (it : Attribute) → Sound before it → declaration_flaw before it ≡ None
 unfolding flaw_kind
 no_flaw before it s = rw (s.fresh, s.legal.name, s.legal.binding) refl
-
-sound_faults : (before : List Attribute) (it : Attribute) → Sound before it → faults_at before it ≡ []
-unfolding faults_at
-sound_faults before it s = by_test (is_declaration it.name)
-  where
-    by_test : (t : Bool) → cond t (flaw_faults it.span (declaration_flaw before it)) [] ≡ []
-    by_test true = ap (flaw_faults it.span) (no_flaw before it s)
-    by_test false = refl
 
 -- the pair that an attribute declares, if it is a declaration
 abbrev pair_of : Attribute → List Binding

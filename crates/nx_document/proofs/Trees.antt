@@ -68,11 +68,3 @@ pub element_flat : (text : List ℕ) (tree : Tree) (c : Children) (x : List tree
     children_flat (with_text text (element tree.name tree.attributes tree.children c)) x ≡ text_flat text (children_flat (alone tree) (children_flat c x))
 element_flat [] tree c x = refl
 element_flat (b ∷ text) tree c x = refl
-
-pub element_alone : (text : List ℕ) (tree : Tree) (x : List trees.Event) → children_flat (with_text text (alone tree)) x ≡ text_flat text (children_flat (alone tree) x)
-element_alone [] tree x = refl
-element_alone (b ∷ text) tree x = refl
-
--- children without a string in front
-pub text_nothing : (c : Children) → with_text [] c ≡ c
-text_nothing c = refl
