@@ -16,3 +16,6 @@ pub mod Texts
 pub mod TextTags
 pub mod TextKinds
 pub mod TextItems
+pub mod FormWords
+pub mod DeclarationReads
+pub mod DeclarationPasses

@@ -15,7 +15,7 @@ use Rattle.nx_events.specs.Spelling.{Written, AreSpaces, IsNameByte, IsWritten, 
 use Rattle.nx_events.proofs.Tags.{attributes_step, one_begins}
 
 -- the first byte that passes
-first_at : (p : ℕ → Bool) (ys zs : List ℕ) (b : ℕ) → AllByRecursion (λ (y : ℕ). p y ≡ false) ys → p b ≡ true → position_or_len p (ys ++ b ∷ zs) ≡ length ys
+pub first_at : (p : ℕ → Bool) (ys zs : List ℕ) (b : ℕ) → AllByRecursion (λ (y : ℕ). p y ≡ false) ys → p b ≡ true → position_or_len p (ys ++ b ∷ zs) ≡ length ys
 first_at p [] zs b h e = ap (λ (t : Bool). cond (not t) (1 + prefix_len (λ x. not (p x)) zs) 0) e
 first_at p (y ∷ ys) zs b h e =
     let rest = first_at p ys zs b h.1 e in

@@ -5,6 +5,8 @@ pub mod Faults
 pub mod CharacterFaults
 pub mod Markup
 pub mod XmlDeclaration
+pub mod Words
+pub mod DeclarationForm
 pub mod Names
 pub mod Tags
 pub mod Scopes

@@ -1,5 +1,6 @@
 //! Laws of events and faults, by which the layers above know where they lie and that they move with the text. Nothing here runs.
 
+ghost use Rattle.nx_events.specs.DeclarationForm.{DeclarationsAreSpelled};
 ghost use Rattle.nx_events.specs.Moves.{ItemsMoveWithTokens, StatesHoldNoPlace, ItemsMoveWithEnd};
 ghost use Rattle.nx_events.specs.Spelling.{TagsAreRead};
 ghost use Rattle.nx_events.specs.Texts.{TokensGiveText, FirstStateIsText, EndsGiveText, AllTokensGiveText};
@@ -66,4 +67,9 @@ pub fn ends_give_text()
 /// So all tokens of a text do.
 pub fn all_tokens_give_text()
     ensures { AllTokensGiveText }
+{}
+
+/// Of bytes that are UTF-8, those are taken for an XML declaration that its grammar spells.
+pub fn declarations_are_spelled()
+    ensures { DeclarationsAreSpelled }
 {}
