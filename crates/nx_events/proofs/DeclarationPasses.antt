@@ -1,10 +1,10 @@
 -- What the grammar of an XML declaration spells is read.
-use Rattle.std.proofs.Common.{◌≡◌, ℕ, zero, suc, ◌+◌, Bool, true, false, cond, inl, inr, Some, None, option_and_then, List, [], ◌∷◌, ◌++◌, length, take, drop, refl, ap, sym, subst, ◌∙◌, arith, append_assoc, codes}
+use Rattle.std.proofs.Common.{◌≡◌, ℕ, suc, ◌+◌, Bool, true, false, cond, inl, inr, Some, None, option_and_then, List, [], ◌∷◌, ◌++◌, length, take, drop, refl, ap, sym, subst, ◌∙◌, arith, append_assoc, codes}
 use Rattle.std.specs.Prelude.{◌&&◌, ◌==◌, not, nat_eq, nat_lt, slice_index, is_some}
 use Rattle.std.specs.List.{AllByRecursion, position_or_len, before_first, starts_with, list_all}
-use Rattle.std.specs.Str.{chars, bytes_eq, str_eq_ignore_ascii_case, IsAscii}
+use Rattle.std.specs.Str.{chars, bytes_eq, str_eq_ignore_ascii_case}
 use Rattle.std.specs.Char.{is_ascii_digit}
-use Rattle.std.proofs.lemmas.Bool.{cases_Bool, and_from, or_left, or_right, eqb-true, lt-ltb, ltb-true, eq-eqb}
+use Rattle.std.proofs.lemmas.Bool.{cases_Bool, and_from, or_left, or_right, eqb-true, lt-ltb, eq-eqb}
 use Rattle.std.proofs.lemmas.Bool.Decides.{Decides-eqb, nat_tests}
 use Rattle.std.proofs.lemmas.Slice.Eq.{starts_is, bytes_eq-Decides}
 use Rattle.std.proofs.lemmas.List.{drop_at, take_at, length-append}
@@ -18,7 +18,7 @@ use Rattle.nx_events.specs.XmlDeclaration.{after_spaces, after_some_spaces, afte
 use Rattle.nx_events.specs.declared.declaration.Setting.{Setting}
 use Rattle.nx_events.specs.declared.declaration.Setting.TheVariants.{Version, Encoding, Standalone}
 use Rattle.nx_events.proofs.Spelling.{first_at}
-use Rattle.nx_events.proofs.FormWords.{AllPass, one-of_one, many-to, word-to, any_case-to, digit-of_one, form_passes, form_pass}
+use Rattle.nx_events.proofs.FormWords.{AllPass, one-of_one, many-to, word-to, any_case-to, digit-of_one, form_passes, form_pass, is_small, small_ascii}
 use Rattle.nx_events.proofs.DeclarationReads.{value_form, setting_form, space_on, space_off, declaration_read}
 
 -- what follows doesn't begin with white space
@@ -318,17 +318,9 @@ declaration_pass xs h =
     ∙ closing_passes end end_spelled
 
 -- every character is one byte
-abbrev is_small : ℕ → Bool
-is_small c = nat_lt c 128
-
 declaration_small : (cs : List ℕ) → Spells declaration_form cs → AllPass is_small cs
 unfolding form_passes word one_of in_any_case
 declaration_small cs h = form_pass is_small declaration_form cs refl h
-
-small_ascii : (cs : List ℕ) → AllPass is_small cs → IsAscii cs
-small_ascii [] h i = omega arith
-small_ascii (c ∷ cs) h zero = ltb-true c 128 h.0
-small_ascii (c ∷ cs) h (suc i) = small_ascii cs h.1 i
 
 pub declarations_are_spelled : DeclarationsAreSpelled
 declarations_are_spelled bytes u = (

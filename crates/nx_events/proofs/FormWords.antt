@@ -1,10 +1,10 @@
 -- What forms of words, digits and single characters spell.
 use Rattle.std.proofs.Common.{◌≡◌, ℕ, zero, suc, ◌+◌, ◌<◌, ◌≤◌, Bool, true, false, inl, inr, ◌⊎◌, rules, List, [], ◌∷◌, ◌++◌, refl, ap, sym, subst, ◌∙◌, arith, codes}
-use Rattle.std.specs.Prelude.{◌&&◌, ◌||◌, ◌==◌}
+use Rattle.std.specs.Prelude.{◌&&◌, ◌||◌, ◌==◌, nat_lt}
 use Rattle.std.specs.List.{AllByRecursion, list_any}
-use Rattle.std.specs.Str.{str_eq_ignore_ascii_case}
+use Rattle.std.specs.Str.{IsAscii, str_eq_ignore_ascii_case}
 use Rattle.std.specs.Char.{is_ascii_digit, is_ascii_hexdigit, to_ascii_lowercase, to_ascii_uppercase}
-use Rattle.std.proofs.lemmas.Bool.{and_parts, and_from, or_left, or_right, or_cases, eqb-true, eq-eqb, cases_eq}
+use Rattle.std.proofs.lemmas.Bool.{and_parts, and_from, or_left, or_right, or_cases, eqb-true, ltb-true, eq-eqb, cases_eq}
 use Rattle.std.proofs.lemmas.Bool.Decides.{nat_tests}
 use Rattle.nx_base.specs.Characters.{is_space}
 use Rattle.nx_base.specs.Form.{Set, space, name_start, name_char, only, other_than, has, Form, never, nothing, one, seq, alt, many, joined, Spells}
@@ -205,3 +205,12 @@ form_pass p (many a) cs h s = subst (λ xs. AllPass p xs) (sym s.2) (parts_pass 
     parts_pass : ((part : List ℕ) → Spells a part → AllPass p part) → (parts : List (List ℕ)) → AllByRecursion (Spells a) parts → AllPass p (joined parts)
     parts_pass each [] all = tt
     parts_pass each (part ∷ parts) all = all_pass-append p part (joined parts) (each part all.0) (parts_pass each parts all.1)
+
+-- characters of ASCII
+abbrev pub is_small : ℕ → Bool
+is_small c = nat_lt c 128
+
+pub small_ascii : (cs : List ℕ) → AllPass is_small cs → IsAscii cs
+small_ascii [] h i = omega arith
+small_ascii (c ∷ cs) h zero = ltb-true c 128 h.0
+small_ascii (c ∷ cs) h (suc i) = small_ascii cs h.1 i

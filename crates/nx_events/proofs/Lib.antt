@@ -19,3 +19,9 @@ pub mod TextItems
 pub mod FormWords
 pub mod DeclarationReads
 pub mod DeclarationPasses
+pub mod FrontChars
+pub mod ReferenceForms
+pub mod ReferenceValues
+pub mod StringParts
+pub mod StringsRead
+pub mod ToldOnce

@@ -7,6 +7,8 @@ pub mod Markup
 pub mod XmlDeclaration
 pub mod Words
 pub mod DeclarationForm
+pub mod ReferenceForm
+pub mod StringsRead
 pub mod Names
 pub mod Tags
 pub mod Scopes

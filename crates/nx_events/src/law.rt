@@ -3,6 +3,7 @@
 ghost use Rattle.nx_events.specs.DeclarationForm.{DeclarationsAreSpelled};
 ghost use Rattle.nx_events.specs.Moves.{ItemsMoveWithTokens, StatesHoldNoPlace, ItemsMoveWithEnd};
 ghost use Rattle.nx_events.specs.Spelling.{TagsAreRead};
+ghost use Rattle.nx_events.specs.StringsRead.{StringsAreRead};
 ghost use Rattle.nx_events.specs.Texts.{TokensGiveText, FirstStateIsText, EndsGiveText, AllTokensGiveText};
 ghost use Rattle.nx_events.specs.Spans.{ItemsLieInTokens, ItemsLieInText, RunsGrowByTokens};
 
@@ -72,4 +73,10 @@ pub fn all_tokens_give_text()
 /// Of bytes that are UTF-8, those are taken for an XML declaration that its grammar spells.
 pub fn declarations_are_spelled()
     ensures { DeclarationsAreSpelled }
+{}
+
+/// Bytes that are UTF-8 are read as exactly one string with exactly one list of faults: those that their parts give,
+/// one by one.
+pub fn strings_are_read()
+    ensures { StringsAreRead }
 {}
