@@ -25,3 +25,6 @@ pub mod ReferenceValues
 pub mod StringParts
 pub mod StringsRead
 pub mod ToldOnce
+pub mod TagForms
+pub mod SpelledTags
+pub mod TagKinds

@@ -57,7 +57,7 @@ pub name_spells : (c : ℕ) (ds : List ℕ) → is_name_start c ≡ true → All
 unfolding Spells
 name_spells c ds h all = (c ∷ [], ds, (c, h, refl), many-from (one name_char) is_name_char (one-of_one name_char) ds all, refl)
 
-start_is_name : (c : ℕ) → is_name_start c ≡ true → is_name_char c ≡ true
+pub start_is_name : (c : ℕ) → is_name_start c ≡ true → is_name_char c ≡ true
 unfolding is_name_char
 start_is_name c h = or_left (is_name_start c) _ h
 

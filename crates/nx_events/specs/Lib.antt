@@ -20,3 +20,4 @@ pub mod Texts
 pub mod Spans
 pub mod Moves
 pub mod Spelling
+pub mod SpelledTags

@@ -3,6 +3,7 @@
 ghost use Rattle.nx_events.specs.DeclarationForm.{DeclarationsAreSpelled};
 ghost use Rattle.nx_events.specs.Moves.{ItemsMoveWithTokens, StatesHoldNoPlace, ItemsMoveWithEnd};
 ghost use Rattle.nx_events.specs.Spelling.{TagsAreRead};
+ghost use Rattle.nx_events.specs.SpelledTags.{TagsAreSpelled};
 ghost use Rattle.nx_events.specs.StringsRead.{StringsAreRead};
 ghost use Rattle.nx_events.specs.Texts.{TokensGiveText, FirstStateIsText, EndsGiveText, AllTokensGiveText};
 ghost use Rattle.nx_events.specs.Spans.{ItemsLieInTokens, ItemsLieInText, RunsGrowByTokens};
@@ -79,4 +80,10 @@ pub fn declarations_are_spelled()
 /// one by one.
 pub fn strings_are_read()
     ensures { StringsAreRead }
+{}
+
+/// Each token that is a tag is spelled by the grammar: its name, its attributes and what closes it. Those are what is
+/// read in it.
+pub fn tags_are_spelled()
+    ensures { TagsAreSpelled }
 {}
