@@ -28,3 +28,5 @@ pub mod ToldOnce
 pub mod TagForms
 pub mod SpelledTags
 pub mod TagKinds
+pub mod OpenTags
+pub mod StatesKnown

@@ -16,6 +16,7 @@ pub mod Declarations
 pub mod Elements
 pub mod Runs
 pub mod Items
+pub mod OpenTags
 pub mod Texts
 pub mod Spans
 pub mod Moves

@@ -3,6 +3,7 @@
 ghost use Rattle.nx_events.specs.DeclarationForm.{DeclarationsAreSpelled};
 ghost use Rattle.nx_events.specs.Moves.{ItemsMoveWithTokens, StatesHoldNoPlace, ItemsMoveWithEnd};
 ghost use Rattle.nx_events.specs.Spelling.{TagsAreRead};
+ghost use Rattle.nx_events.specs.OpenTags.{StatesAreKnown};
 ghost use Rattle.nx_events.specs.SpelledTags.{TagsAreSpelled};
 ghost use Rattle.nx_events.specs.StringsRead.{StringsAreRead};
 ghost use Rattle.nx_events.specs.Texts.{TokensGiveText, FirstStateIsText, EndsGiveText, AllTokensGiveText};
@@ -86,4 +87,10 @@ pub fn strings_are_read()
 /// read in it.
 pub fn tags_are_spelled()
     ensures { TagsAreSpelled }
+{}
+
+/// The tokens of a text, as far as they were taken, leave exactly one list of open start tags and one run of character
+/// data, and these make the state: its elements, its scope, its pending run and its flags.
+pub fn states_are_known()
+    ensures { StatesAreKnown }
 {}
