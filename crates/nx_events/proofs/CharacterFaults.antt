@@ -20,17 +20,17 @@ use Rattle.nx_events.specs.CharacterFaults.{once, is_bad_char, is_bad_text, told
 use Rattle.nx_events.proofs.Pieces.{cut_first}
 
 -- no kind is both
-apart : (kind : Kind) → (is_bad_char kind && is_bad_text kind) ≡ false
+pub apart : (kind : Kind) → (is_bad_char kind && is_bad_text kind) ≡ false
 apart BadChar = refl
 apart _ = refl
 
-kept_both : {A : Type 0} (b c : Bool) (x : List A) → cond b [] (cond c [] x) ≡ cond (c || b) [] x
+pub kept_both : {A : Type 0} (b c : Bool) (x : List A) → cond b [] (cond c [] x) ≡ cond (c || b) [] x
 kept_both true true x = refl
 kept_both true false x = refl
 kept_both false true x = refl
 kept_both false false x = refl
 
-told_both : (a b c t : Bool) → (c && t) ≡ false → cond (b && t) a (a || c) ≡ (a || c)
+pub told_both : (a b c t : Bool) → (c && t) ≡ false → cond (b && t) a (a || c) ≡ (a || c)
 told_both true true true true e = absurd (false≢true (sym e))
 told_both false true true true e = absurd (false≢true (sym e))
 told_both true true true false e = refl
@@ -48,13 +48,13 @@ told_both false false true false e = refl
 told_both false false false true e = refl
 told_both false false false false e = refl
 
-abbrev chars_once : Bool → List Fault → List Fault
+abbrev pub chars_once : Bool → List Fault → List Fault
 chars_once told faults = once told is_bad_char faults
 
-abbrev both_once : Told → List Fault → List Fault
+abbrev pub both_once : Told → List Fault → List Fault
 both_once told faults = once told.bad_char is_bad_char (once told.bad_text is_bad_text faults)
 
-by_inner : (a b : Bool) (f : Fault) (fs : List Fault) →
+pub by_inner : (a b : Bool) (f : Fault) (fs : List Fault) →
     chars_once a (cond b [] (f ∷ []) ++ fs) ≡ cond b [] (cond (a && is_bad_char f.kind) [] (f ∷ [])) ++ chars_once (cond b a (a || is_bad_char f.kind)) fs
 unfolding once
 by_inner a true f fs = refl

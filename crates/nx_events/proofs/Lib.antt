@@ -16,3 +16,17 @@ pub mod Texts
 pub mod TextTags
 pub mod TextKinds
 pub mod TextItems
+pub mod FormWords
+pub mod DeclarationReads
+pub mod DeclarationPasses
+pub mod FrontChars
+pub mod ReferenceForms
+pub mod ReferenceValues
+pub mod StringParts
+pub mod StringsRead
+pub mod ToldOnce
+pub mod TagForms
+pub mod SpelledTags
+pub mod TagKinds
+pub mod OpenTags
+pub mod StatesKnown

@@ -31,7 +31,7 @@ not_at_front b bs e = ap (λ t. cond t (suc (name_chars_len (continuation_len b)
 one_on : (k m : ℕ) (bs : List ℕ) → suc m ≡ min (suc k) (suc (length bs)) → suc (name_chars_len k bs) ≡ suc m + name_chars_len 0 (drop m bs)
 one_on k m bs e = let h = skip k m bs (omega arith) in omega arith
 
-front_goes_on : (bs : List ℕ) (m : ℕ) → is_name_char (front_char bs) ≡ true → m ≡ min (suc (continuation_len (get_or bs 0 0))) (length bs) → 0 < m →
+pub front_goes_on : (bs : List ℕ) (m : ℕ) → is_name_char (front_char bs) ≡ true → m ≡ min (suc (continuation_len (get_or bs 0 0))) (length bs) → 0 < m →
     name_chars_len 0 bs ≡ m + name_chars_len 0 (drop m bs)
 front_goes_on [] m e g h = absurd (omega arith)
 front_goes_on (b ∷ bs) zero e g h = absurd (omega arith)

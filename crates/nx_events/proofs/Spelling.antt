@@ -15,7 +15,7 @@ use Rattle.nx_events.specs.Spelling.{Written, AreSpaces, IsNameByte, IsWritten, 
 use Rattle.nx_events.proofs.Tags.{attributes_step, one_begins}
 
 -- the first byte that passes
-first_at : (p : ℕ → Bool) (ys zs : List ℕ) (b : ℕ) → AllByRecursion (λ (y : ℕ). p y ≡ false) ys → p b ≡ true → position_or_len p (ys ++ b ∷ zs) ≡ length ys
+pub first_at : (p : ℕ → Bool) (ys zs : List ℕ) (b : ℕ) → AllByRecursion (λ (y : ℕ). p y ≡ false) ys → p b ≡ true → position_or_len p (ys ++ b ∷ zs) ≡ length ys
 first_at p [] zs b h e = ap (λ (t : Bool). cond (not t) (1 + prefix_len (λ x. not (p x)) zs) 0) e
 first_at p (y ∷ ys) zs b h e =
     let rest = first_at p ys zs b h.1 e in
@@ -59,7 +59,7 @@ pass_all at (b ∷ bs) xs h =
     let e : at + 1 + length bs ≡ at + suc (length bs) = omega arith in
     pass_one at b (bs ++ xs) h.0 ∙ pass_all (at + 1) bs xs h.1 ∙ ap (λ (k : ℕ). attributes_from 0 k xs) e
 
-spaces_between : (xs : List ℕ) → AreSpaces xs → AreBetween xs
+pub spaces_between : (xs : List ℕ) → AreSpaces xs → AreBetween xs
 spaces_between [] h = tt
 spaces_between (x ∷ xs) h = (space_between x h.0, spaces_between xs h.1)
 
@@ -68,7 +68,7 @@ ends_with_equals : ends_name 61 ≡ true
 unfolding is_space
 ends_with_equals = refl
 
-space_ends : (b : ℕ) → is_space b ≡ true → ends_name b ≡ true
+pub space_ends : (b : ℕ) → is_space b ≡ true → ends_name b ≡ true
 space_ends b e = ap (λ (t : Bool). t || (b == 61)) (space_between b e)
 
 name_before : (name before rest : List ℕ) → AllByRecursion IsNameByte name → AreSpaces before → position_or_len ends_name (name ++ (before ++ 61 ∷ rest)) ≡ length name
@@ -187,7 +187,7 @@ pub record Headed (xs : List ℕ) : Type 0 where
   pub is : xs ≡ head ∷ tail
   pub ends : ends_name head ≡ true
 
-between_head : (xs rest : List ℕ) → AreBetween xs → 0 < length xs → Headed (xs ++ rest)
+pub between_head : (xs rest : List ℕ) → AreBetween xs → 0 < length xs → Headed (xs ++ rest)
 between_head [] rest h k = absurd (omega arith)
 between_head (x ∷ xs) rest h k = record { head = x; tail = xs ++ rest; is = refl; ends = ap (λ (t : Bool). t || (x == 61)) h.0 }
 
@@ -195,7 +195,7 @@ headed : (its : List Written) (closing : List ℕ) → AllByRecursion IsWritten 
 headed [] closing w a h k = let P : List ℕ → Type 0 = λ xs. Headed xs in subst P (append-nil closing) (between_head closing [] h k)
 headed (it ∷ its) closing w a h k = between_head it.space (spelled_before it (spelled_all its closing)) (spaces_between it.space w.0.space) a.0
 
-name_read : (name rest : List ℕ) → AllByRecursion IsNameByte name → Headed rest → written_name (name ++ rest) ≡ name
+pub name_read : (name rest : List ℕ) → AllByRecursion IsNameByte name → Headed rest → written_name (name ++ rest) ≡ name
 unfolding written_name
 name_read name rest h r =
     let ends : position_or_len ends_name (name ++ rest) ≡ length name =

@@ -25,7 +25,7 @@ HasContent bs _ n = Unit {0}
 abbrev Has : List ℕ → Cut → Type 0
 Has bs c = HasContent bs c.kind c.len
 
-found_is : {A : Type 0} (P : Cut → Type 0) (f : A → Cut) (found : Option A) (other : Cut) → ((x : A) → found ≡ Some x → P (f x)) → P other →
+pub found_is : {A : Type 0} (P : Cut → Type 0) (f : A → Cut) (found : Option A) (other : Cut) → ((x : A) → found ≡ Some x → P (f x)) → P other →
     P (option_map_or f found other)
 found_is P f None other h k = k
 found_is P f (Some x) other h k = h x refl

@@ -30,7 +30,7 @@ pub name_small : (b : ℕ) → ends_name b ≡ true → b < 128
 name_small b h =
     elim (or_cases (is_between b) (b == 61) h) [ inl e ↦ between_small b e | inr e ↦ (let same = eqb-true b 61 e in omega arith) ]
 
-quote_small : (b : ℕ) → is_quote b ≡ true → b < 128
+pub quote_small : (b : ℕ) → is_quote b ≡ true → b < 128
 quote_small b h = grind (arith, nat_tests)
 
 -- the name at the front, and what is behind it

@@ -84,7 +84,7 @@ has_lead n a b ys bs more e l is =
     let same : a ≡ b = cc in
     ap suc (l ∙ e ∙ ap continuation_len same)
 
-lead_len : (c b : ℕ) (bs more : List ℕ) → encode c ++ more ≡ b ∷ bs → length (encode c) ≡ suc (continuation_len b)
+pub lead_len : (c b : ℕ) (bs more : List ℕ) → encode c ++ more ≡ b ∷ bs → length (encode c) ≡ suc (continuation_len b)
 unfolding encode
 lead_len c b bs more =
     let P : List ℕ → Type 0 = λ xs. xs ++ more ≡ b ∷ bs → length xs ≡ suc (continuation_len b) in

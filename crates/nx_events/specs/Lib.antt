@@ -5,6 +5,10 @@ pub mod Faults
 pub mod CharacterFaults
 pub mod Markup
 pub mod XmlDeclaration
+pub mod Words
+pub mod DeclarationForm
+pub mod ReferenceForm
+pub mod StringsRead
 pub mod Names
 pub mod Tags
 pub mod Scopes
@@ -12,7 +16,9 @@ pub mod Declarations
 pub mod Elements
 pub mod Runs
 pub mod Items
+pub mod OpenTags
 pub mod Texts
 pub mod Spans
 pub mod Moves
 pub mod Spelling
+pub mod SpelledTags

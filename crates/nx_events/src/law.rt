@@ -1,7 +1,11 @@
 //! Laws of events and faults, by which the layers above know where they lie and that they move with the text. Nothing here runs.
 
+ghost use Rattle.nx_events.specs.DeclarationForm.{DeclarationsAreSpelled};
 ghost use Rattle.nx_events.specs.Moves.{ItemsMoveWithTokens, StatesHoldNoPlace, ItemsMoveWithEnd};
 ghost use Rattle.nx_events.specs.Spelling.{TagsAreRead};
+ghost use Rattle.nx_events.specs.OpenTags.{StatesAreKnown};
+ghost use Rattle.nx_events.specs.SpelledTags.{TagsAreSpelled};
+ghost use Rattle.nx_events.specs.StringsRead.{StringsAreRead};
 ghost use Rattle.nx_events.specs.Texts.{TokensGiveText, FirstStateIsText, EndsGiveText, AllTokensGiveText};
 ghost use Rattle.nx_events.specs.Spans.{ItemsLieInTokens, ItemsLieInText, RunsGrowByTokens};
 
@@ -66,4 +70,27 @@ pub fn ends_give_text()
 /// So all tokens of a text do.
 pub fn all_tokens_give_text()
     ensures { AllTokensGiveText }
+{}
+
+/// Of bytes that are UTF-8, those are taken for an XML declaration that its grammar spells.
+pub fn declarations_are_spelled()
+    ensures { DeclarationsAreSpelled }
+{}
+
+/// Bytes that are UTF-8 are read as exactly one string with exactly one list of faults: those that their parts give,
+/// one by one.
+pub fn strings_are_read()
+    ensures { StringsAreRead }
+{}
+
+/// Each token that is a tag is spelled by the grammar: its name, its attributes and what closes it. Those are what is
+/// read in it.
+pub fn tags_are_spelled()
+    ensures { TagsAreSpelled }
+{}
+
+/// The tokens of a text, as far as they were taken, leave exactly one list of open start tags and one run of character
+/// data, and these make the state: its elements, its scope, its pending run and its flags.
+pub fn states_are_known()
+    ensures { StatesAreKnown }
 {}

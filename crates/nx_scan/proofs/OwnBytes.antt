@@ -1,11 +1,11 @@
 -- A token is of its kind: it is the token with which its own bytes begin.
-use Rattle.std.proofs.Common.{◌≡◌, ℕ, zero, suc, ◌+◌, ◌-◌, ◌<◌, ◌≤◌, Bool, true, false, inl, inr, List, [], ◌∷◌, ◌++◌, length, take, drop, get_or, refl, sym, ◌∙◌, ap, subst, arith, codes}
-use Rattle.std.specs.Prelude.{◌==◌, ◌&&◌, not}
+use Rattle.std.proofs.Common.{◌≡◌, ℕ, zero, suc, ◌+◌, ◌<◌, Bool, true, false, inl, inr, List, [], ◌∷◌, ◌++◌, length, take, drop, get_or, refl, sym, ◌∙◌, ap, subst, arith, codes}
+use Rattle.std.specs.Prelude.{◌==◌, ◌&&◌}
 use Rattle.std.specs.Str.{IsUtf8, IsCharBoundary}
 use lib.Utf8.{encode, encodes, scalar, scalars}
 use Rattle.std.proofs.Math.Seq.{take-nil}
 use Rattle.std.proofs.lemmas.Bool.{cases_Bool, cases_lt, and_parts, and_from, true≢false}
-use Rattle.std.proofs.lemmas.List.{take_all, drop-take, take-append-drop, length-take-le, take-take}
+use Rattle.std.proofs.lemmas.List.{take_all, drop-take, length-take-le, take-take}
 use Rattle.std.proofs.lemmas.Str.{IsUtf8-take, IsUtf8-drop, IsCharBoundary-after_ascii}
 use Rattle.nx_base.specs.Text.{IsPlace}
 use Rattle.nx_base.specs.Tokens.{Cut, cut_as, begins_with, bytes_up_to, bad_rest, tags, tag, markup, order_mark, first_token, cut, IsOfKind}
@@ -14,13 +14,14 @@ use Rattle.nx_scan.specs.Tag.{left_of}
 use Rattle.nx_scan.specs.declared.tag.Seen.{Seen}
 use Rattle.nx_scan.specs.declared.tag.Seen.TheVariants as seen
 use Rattle.nx_scan.proofs.BadEnds.{bad_rest-less, bad_rest-greater, bad_rest-further, bad_rest-nil}
-use Rattle.nx_scan.proofs.Every.{first_token-fits, cut-fits, cut-length}
+use Rattle.nx_scan.proofs.Every.{cut-fits}
 use Rattle.nx_scan.proofs.Fitting.{FitsIn, bad_rest-border}
 use Rattle.nx_scan.proofs.Marks.{byte-here, here-within}
 use Rattle.nx_scan.proofs.SameTags.{same-first}
 use Rattle.nx_scan.proofs.Stable.{begins-same}
 use Rattle.nx_scan.proofs.TagEnds.{later, IsOpen, tag-end, begin-tag}
-use Rattle.nx_scan.proofs.Themselves.{row-order_mark, row-markup, row-text, row-tag, same-comment, same-cdata, same-doctype, same-instruction, instruction-long}
+use Rattle.nx_scan.proofs.Themselves.{row-order_mark, row-markup, row-text}
+use Rattle.nx_scan.proofs.SameMarkup.{row-tag, same-comment, same-cdata, same-doctype, same-instruction, instruction-long}
 use Rattle.nx_scan.proofs.Walking.{Status, is_open, is_whole, is_lost, status, Walk, on, off, walk, tag-never, tag-border}
 
 -- what a Bad token goes on with
