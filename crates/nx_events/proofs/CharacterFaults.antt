@@ -73,7 +73,7 @@ one_fault told (Some kind) span fs =
     ∙ ap (λ (t : Bool). new_faults told (Some kind) span ++ chars_once t rest) (told_both told.bad_char told.bad_text (is_bad_char kind) (is_bad_text kind) (apart kind))
 
 -- the faults of the piece at the front, and of what is behind it
-faults_step : (told : Told) (reading : Reading) (at to : ℕ) (xs p : List ℕ) → p ≡ take (piece_len reading xs) xs → 0 < length p → to ≡ at + length p →
+pub faults_step : (told : Told) (reading : Reading) (at to : ℕ) (xs p : List ℕ) → p ≡ take (piece_len reading xs) xs → 0 < length p → to ≡ at + length p →
     faults_behind told reading at xs ≡ new_faults told (piece_flaw reading p) (record { from = at; to = to }) ++ faults_behind (told_behind told (piece_flaw reading p)) reading to (drop (length p) xs)
 unfolding faults_behind
 faults_step told reading at to xs p e h g =

@@ -1,5 +1,6 @@
 pub mod Utf8
 pub mod References
+pub mod Plain
 pub mod Strings
 pub mod Faults
 pub mod CharacterFaults

@@ -6,6 +6,7 @@ ghost use Rattle.nx_events.specs.CharacterFaults.{character_flaw, tag_flaw, text
 
 use crate::item::{Item, Items};
 use crate::piece::front_piece;
+use crate::plain::plain_len;
 use crate::reading::Reading;
 use crate::reference::referenced;
 use crate::utf8::{front_char, is_char};
@@ -140,6 +141,49 @@ fn push_new(
     Ok(())
 }
 
+// What is left of a text: where it begins, its bytes, and what was told of the bytes before it.
+#[derive(Clone, Copy)]
+struct Left<'a> {
+    told: Told,
+    at: usize,
+    bytes: &'a [u8],
+}
+
+// Passes the front of a text, a run of plain bytes or one piece, and adds its fault.
+fn pass_front<'a>(
+    alloc: Global,
+    items: &mut Items,
+    reading: Reading,
+    told: Told,
+    at: usize,
+    bytes: &'a [u8],
+) -> Result<Left<'a>, NoMemory>
+    requires some { 0 < length bytes.now }
+    requires room { at + length bytes.now < 2 ^ 64 }
+    ensures faults { IfOk result (λ left. items.new ++ faults_as_items (faults_behind left.told reading left.at left.bytes.now)
+        ≡ items.old ++ faults_as_items (faults_behind told reading at bytes.now)) }
+    ensures room { IfOk result (λ left. left.at + length left.bytes.now < 2 ^ 64) }
+    ensures shorter { IfOk result (λ left. length left.bytes.now < length bytes.now) }
+{
+    let n = plain_len(bytes);
+    if n > 0 {
+        return Ok(Left {
+            told,
+            at: at + n,
+            bytes: &bytes[n..],
+        });
+    }
+    let piece = front_piece(reading, bytes);
+    let flaw = piece_flaw(reading, piece);
+    let to = at + piece.len();
+    push_new(alloc, items, told, flaw, Span { from: at, to })?;
+    Ok(Left {
+        told: told.behind(flaw),
+        at: to,
+        bytes: &bytes[piece.len()..],
+    })
+}
+
 /// Adds the faults of the characters and references in bytes that begin at the place `at`.
 pub(crate) fn push_character_faults(
     alloc: Global,
@@ -158,13 +202,10 @@ pub(crate) fn push_character_faults(
     let mut at = at;
     let mut rest = bytes;
     while !rest.is_empty() {
-        let piece = front_piece(reading, rest);
-        let flaw = piece_flaw(reading, piece);
-        let to = at + piece.len();
-        push_new(alloc, items, told, flaw, Span { from: at, to })?;
-        told = told.behind(flaw);
-        at = to;
-        rest = &rest[piece.len()..];
+        let left = pass_front(alloc, items, reading, told, at, rest)?;
+        told = left.told;
+        at = left.at;
+        rest = left.bytes;
     }
     Ok(())
 }

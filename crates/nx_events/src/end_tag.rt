@@ -1,6 +1,6 @@
 //! End tags.
 
-ghost use Rattle.std.specs.Prelude.{◌≡◌, ◌+◌, ◌<◌, ◌≤◌, ◌^◌, length, take, Some, IfOk, OnOk, OnErr};
+ghost use Rattle.std.specs.Prelude.{◌≡◌, ◌+◌, ◌<◌, ◌≤◌, ◌^◌, ◌++◌, length, take, Some, OnOk, OnErr};
 ghost use Rattle.nx_events.specs.Tags.{end_name};
 ghost use Rattle.nx_events.specs.Runs.{run_back};
 ghost use Rattle.nx_events.specs.Items.{extra_end_items, closing_items, end_items, around_innermost, closed, outer_of_first};
@@ -19,40 +19,38 @@ use nx_base::sequence::Sequence;
 use nx_base::token::Token;
 use std::alloc::Global;
 
-// An end tag that names no open element.
-fn extra_items(alloc: Global, token: &Token) -> Result<Items, NoMemory>
+// Adds the item of an end tag that names no open element.
+fn push_extra(alloc: Global, items: &mut Items, token: &Token) -> Result<(), NoMemory>
     requires { token.now.from + length token.now.bytes < 2 ^ 64 }
-    ensures { IfOk result (λ items. items ≡ extra_end_items token.now) }
+    ensures { OnOk result (items.new ≡ items.old ++ extra_end_items token.now) }
 {
-    let mut items = Items::new(alloc);
     let detail = copy_of(alloc, end_name(token.bytes.as_slice()))?;
     let flaw = Flaw {
         kind: Kind::ExtraEnd,
         detail,
     };
-    push_flaw(&mut items, token_span(token), flaw)?;
-    Ok(items)
+    push_flaw(items, token_span(token), flaw)?;
+    Ok(())
 }
 
-// An end tag for the element behind n others.
-fn closing_items(
-    alloc: Global,
+// Adds the items of an end tag for the element behind n others.
+fn push_closing(
+    items: &mut Items,
     state: &EventState,
     token: &Token,
     n: usize,
-) -> Result<Items, NoMemory>
+) -> Result<(), NoMemory>
     requires inside { n < length state.now.elements }
     requires place { run_back state.now.run ≤ token.now.from }
     requires room { token.now.from + length token.now.bytes < 2 ^ 64 }
-    ensures { IfOk result (λ items. items ≡ closing_items state.now token.now (Some n)) }
+    ensures { OnOk result (items.new ≡ items.old ++ closing_items state.now token.now (Some n)) }
 {
-    let mut items = Items::new(alloc);
-    push_run(&mut items, token.from, &state.run)?;
+    push_run(items, token.from, &state.run)?;
     let span = token_span(token);
     let inside = &state.elements.as_slice()[n + 1..];
-    push_all_left_out(&mut items, Kind::MissingEnd, span, inside)?;
+    push_all_left_out(items, Kind::MissingEnd, span, inside)?;
     items.push(Item::Event(Event::Leave, span))?;
-    Ok(items)
+    Ok(())
 }
 
 // How many pairs are declared around the first of these elements.
@@ -90,26 +88,26 @@ fn close(state: &mut EventState, token: &Token, n: usize)
 #[tactic(auto, unfolding(crate::specs::Items::end_items))]
 pub(crate) fn take_end(
     alloc: Global,
+    items: &mut Items,
     state: &mut EventState,
     token: &Token,
-) -> Result<Items, NoMemory>
+) -> Result<(), NoMemory>
     requires place { run_back state.old.run ≤ token.now.from }
     requires room { token.now.from + length token.now.bytes < 2 ^ 64 }
-    ensures items { IfOk result (λ items. items ≡ end_items state.old token.now) }
+    ensures items { OnOk result (items.new ≡ items.old ++ end_items state.old token.now) }
     ensures state { OnOk result (state.new ≡ closed state.old token.now (around_innermost (end_name token.now.bytes) state.old.elements)) }
     ensures unchanged { OnErr result (state.new ≡ state.old) }
 {
     let name = end_name(token.bytes.as_slice());
     match around_innermost(name, state.elements.as_slice()) {
         None => {
-            let items = extra_items(alloc, token)?;
+            push_extra(alloc, items, token)?;
             pass(state, token);
-            Ok(items)
         }
         Some(n) => {
-            let items = closing_items(alloc, state, token, n)?;
+            push_closing(items, state, token, n)?;
             close(state, token, n);
-            Ok(items)
         }
     }
+    Ok(())
 }

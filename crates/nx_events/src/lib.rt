@@ -26,6 +26,7 @@ mod namespace;
 mod nesting;
 mod other_token;
 mod piece;
+mod plain;
 mod qname;
 pub mod reader;
 mod reading;

@@ -4,6 +4,7 @@ ghost use Rattle.std.specs.Prelude.{◌≡◌, ◌<◌, ◌≤◌, ◌++◌, [],
 ghost use Rattle.nx_events.specs.Strings.{line_piece_len, text_piece_len, piece_len, line_string_of, text_string_of, value_string_of, piece_string, string_of};
 
 use crate::front::is_space;
+use crate::plain::plain_len;
 use crate::reading::Reading;
 use crate::reference::{push_character, reference_len, referenced};
 use crate::utf8::continuation_len;
@@ -117,16 +118,34 @@ fn push_piece(reading: Reading, out: &mut Vec<u8>, piece: &[u8]) -> Result<(), N
     Ok(())
 }
 
+// Adds what the front of a text stands for, a run of plain bytes or one piece, and answers what is left of the text.
+fn push_front<'a>(
+    reading: Reading,
+    out: &mut Vec<u8>,
+    bytes: &'a [u8],
+) -> Result<&'a [u8], NoMemory>
+    requires { 0 < length bytes.now }
+    ensures string { IfOk result (λ left. out.new.items ++ string_of reading left.now ≡ out.old.items ++ string_of reading bytes.now) }
+    ensures shorter { IfOk result (λ left. length left.now < length bytes.now) }
+{
+    let n = plain_len(bytes);
+    if n > 0 {
+        out.extend_from_slice(&bytes[..n])?;
+        return Ok(&bytes[n..]);
+    }
+    let piece = front_piece(reading, bytes);
+    push_piece(reading, out, piece)?;
+    Ok(&bytes[piece.len()..])
+}
+
 /// The string that a text stands for.
 pub(crate) fn string_of(alloc: Global, reading: Reading, bytes: &[u8]) -> Result<Bytes, NoMemory>
     ensures { IfOk result (λ string. string ≡ string_of reading bytes.now) }
 {
-    let mut out = Vec::new(alloc);
+    let mut out = Vec::with_capacity(alloc, bytes.len())?;
     let mut rest = bytes;
     while !rest.is_empty() {
-        let piece = front_piece(reading, rest);
-        push_piece(reading, &mut out, piece)?;
-        rest = &rest[piece.len()..];
+        rest = push_front(reading, &mut out, rest)?;
     }
     Ok(Bytes::from_vec(out))
 }

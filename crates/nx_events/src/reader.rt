@@ -1,8 +1,8 @@
 //! Tokens as events and faults, one after another.
 
-ghost use Rattle.std.specs.Prelude.{◌≡◌, ◌+◌, ◌<◌, ◌≤◌, ◌^◌, [], length, is_some, IfOk, OnOk, OnErr};
+ghost use Rattle.std.specs.Prelude.{◌≡◌, ◌+◌, ◌<◌, ◌≤◌, ◌^◌, ◌++◌, length, is_some, IfOk, OnOk, OnErr};
 ghost use Rattle.nx_events.specs.Runs.{run_back};
-ghost use Rattle.nx_events.specs.Items.{first_state, unmarked, items_of_token, state_behind, items_at_end};
+ghost use Rattle.nx_events.specs.Items.{first_state, items_of_token, state_behind, items_at_end};
 
 use crate::character_fault::push_bare;
 use crate::end_tag::take_end;
@@ -17,16 +17,6 @@ use nx_base::memory::NoMemory;
 use nx_base::sequence::{Sequence, TryCopy};
 use nx_base::token::{Token, TokenKind};
 use std::alloc::Global;
-
-fn take_bom(alloc: Global, state: &mut EventState, token: &Token) -> Items
-    requires place { run_back state.old.run ≤ token.now.from }
-    requires room { token.now.from + length token.now.bytes < 2 ^ 64 }
-    ensures items { result ≡ [] }
-    ensures state { state.new ≡ unmarked state.old token.now }
-{
-    pass_run(&mut state.run, token.bytes.len());
-    Items::new(alloc)
-}
 
 /// Nothing read.
 pub fn begin(alloc: Global) -> Result<EventState, NoMemory>
@@ -43,7 +33,6 @@ pub fn begin(alloc: Global) -> Result<EventState, NoMemory>
 }
 
 /// The items of one more token. Where it is refused, the state is as before.
-#[tactic(auto, unfolding(crate::specs::Items::items_of_token, crate::specs::Items::state_behind))]
 pub fn take(alloc: Global, state: &mut EventState, token: &Token) -> Result<Items, NoMemory>
     // The pending run begins at a place of the text, and the token ends at one.
     requires place { run_back state.old.run ≤ token.now.from }
@@ -52,20 +41,42 @@ pub fn take(alloc: Global, state: &mut EventState, token: &Token) -> Result<Item
     ensures state { OnOk result (state.new ≡ state_behind state.old token.now) }
     ensures unchanged { OnErr result (state.new ≡ state.old) }
 {
+    let mut items = Items::new(alloc);
+    take_into(alloc, &mut items, state, token)?;
+    Ok(items)
+}
+
+/// Adds the items of one more token to a list, which a caller can use again for the next. Where it is refused,
+/// the state is as before, and the list holds some items.
+#[tactic(auto, unfolding(crate::specs::Items::items_of_token, crate::specs::Items::state_behind))]
+pub fn take_into(
+    alloc: Global,
+    items: &mut Items,
+    state: &mut EventState,
+    token: &Token,
+) -> Result<(), NoMemory>
+    // The pending run begins at a place of the text, and the token ends at one.
+    requires place { run_back state.old.run ≤ token.now.from }
+    requires room { token.now.from + length token.now.bytes < 2 ^ 64 }
+    ensures items { OnOk result (items.new ≡ items.old ++ items_of_token state.old token.now) }
+    ensures state { OnOk result (state.new ≡ state_behind state.old token.now) }
+    ensures unchanged { OnErr result (state.new ≡ state.old) }
+{
     match token.kind {
-        TokenKind::Bom => Ok(take_bom(alloc, state, token)),
-        TokenKind::Text => take_text(alloc, state, token),
-        TokenKind::Cdata => take_cdata(alloc, state, token),
-        TokenKind::Start => take_start(alloc, state, token),
-        TokenKind::Empty => take_empty(alloc, state, token),
-        TokenKind::End => take_end(alloc, state, token),
-        TokenKind::Decl => take_other(alloc, state, token),
-        TokenKind::Doctype => take_other(alloc, state, token),
-        TokenKind::Comment => take_other(alloc, state, token),
-        TokenKind::Pi => take_other(alloc, state, token),
-        TokenKind::Bad => take_other(alloc, state, token),
-        TokenKind::Unclosed => take_other(alloc, state, token),
+        TokenKind::Bom => pass_run(&mut state.run, token.bytes.len()),
+        TokenKind::Text => take_text(alloc, items, state, token)?,
+        TokenKind::Cdata => take_cdata(alloc, items, state, token)?,
+        TokenKind::Start => take_start(alloc, items, state, token)?,
+        TokenKind::Empty => take_empty(alloc, items, state, token)?,
+        TokenKind::End => take_end(alloc, items, state, token)?,
+        TokenKind::Decl => take_other(alloc, items, state, token)?,
+        TokenKind::Doctype => take_other(alloc, items, state, token)?,
+        TokenKind::Comment => take_other(alloc, items, state, token)?,
+        TokenKind::Pi => take_other(alloc, items, state, token)?,
+        TokenKind::Bad => take_other(alloc, items, state, token)?,
+        TokenKind::Unclosed => take_other(alloc, items, state, token)?,
     }
+    Ok(())
 }
 
 /// The items of the end of a text of `len` bytes.

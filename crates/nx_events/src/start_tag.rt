@@ -23,13 +23,6 @@ use nx_base::memory::NoMemory;
 use nx_base::token::Token;
 use std::alloc::Global;
 
-// What a start tag gives, and the pairs that it declares.
-#[derive(Drop)]
-struct Opening {
-    items: Items,
-    own: Vec<Binding>,
-}
-
 // Adds the run before a tag, and the faults of the tag's characters.
 fn push_before(
     alloc: Global,
@@ -72,28 +65,32 @@ fn push_tag_element(
     Ok(())
 }
 
-// The items of a start tag.
+// Adds the items of a start tag, and answers the pairs that it declares.
 #[tactic(auto, unfolding(crate::specs::Items::start_items))]
-fn start_items(alloc: Global, state: &EventState, token: &Token) -> Result<Opening, NoMemory>
+fn push_start(
+    alloc: Global,
+    items: &mut Items,
+    state: &EventState,
+    token: &Token,
+) -> Result<Vec<Binding>, NoMemory>
     requires place { run_back state.now.run ≤ token.now.from }
     requires room { token.now.from + length token.now.bytes < 2 ^ 64 }
-    ensures items { IfOk result (λ opening. opening.items ≡ start_items state.now token.now) }
-    ensures pairs { IfOk result (λ opening. opening.own.items ≡ own_bindings token.now) }
+    ensures items { OnOk result (items.new ≡ items.old ++ start_items state.now token.now) }
+    ensures pairs { IfOk result (λ own. own.items ≡ own_bindings token.now) }
 {
-    let mut items = Items::new(alloc);
-    push_before(alloc, &mut items, state, token)?;
+    push_before(alloc, items, state, token)?;
     let attributes = tag_attributes(alloc, token.from, token.bytes.as_slice())?;
-    let own = declarations(alloc, &mut items, attributes.as_slice())?;
-    push_tag_element(alloc, &mut items, state, token, own.as_slice())?;
+    let own = declarations(alloc, items, attributes.as_slice())?;
+    push_tag_element(alloc, items, state, token, own.as_slice())?;
     push_attributes(
         alloc,
-        &mut items,
+        items,
         state.scope.as_slice(),
         own.as_slice(),
         attributes.as_slice(),
     )?;
     items.push(Item::Event(Event::TagEnd, token_span(token)))?;
-    Ok(Opening { items, own })
+    Ok(own)
 }
 
 // The state inside of an element that declares these pairs.
@@ -125,36 +122,38 @@ fn open(
 
 pub(crate) fn take_start(
     alloc: Global,
+    items: &mut Items,
     state: &mut EventState,
     token: &Token,
-) -> Result<Items, NoMemory>
+) -> Result<(), NoMemory>
     requires place { run_back state.old.run ≤ token.now.from }
     requires room { token.now.from + length token.now.bytes < 2 ^ 64 }
-    ensures items { IfOk result (λ items. items ≡ start_items state.old token.now) }
+    ensures items { OnOk result (items.new ≡ items.old ++ start_items state.old token.now) }
     ensures state { OnOk result (state.new ≡ opened state.old token.now) }
     ensures unchanged { OnErr result (state.new ≡ state.old) }
 {
-    let Opening { items, own } = start_items(alloc, state, token)?;
+    let own = push_start(alloc, items, state, token)?;
     open(alloc, state, token, own.as_slice())?;
-    Ok(items)
+    Ok(())
 }
 
 #[tactic(auto, unfolding(crate::specs::Items::empty_items))]
 pub(crate) fn take_empty(
     alloc: Global,
+    items: &mut Items,
     state: &mut EventState,
     token: &Token,
-) -> Result<Items, NoMemory>
+) -> Result<(), NoMemory>
     requires place { run_back state.old.run ≤ token.now.from }
     requires room { token.now.from + length token.now.bytes < 2 ^ 64 }
-    ensures items { IfOk result (λ items. items ≡ empty_items state.old token.now) }
+    ensures items { OnOk result (items.new ≡ items.old ++ empty_items state.old token.now) }
     ensures state { OnOk result (state.new ≡ emptied state.old) }
     ensures unchanged { OnErr result (state.new ≡ state.old) }
 {
-    let Opening { mut items, own: _ } = start_items(alloc, state, token)?;
+    push_start(alloc, items, state, token)?;
     items.push(Item::Event(Event::Leave, token_span(token)))?;
     state.came = true;
     state.started = true;
     state.run = None;
-    Ok(items)
+    Ok(())
 }

@@ -1,6 +1,6 @@
 //! Character data and CDATA sections.
 
-ghost use Rattle.std.specs.Prelude.{◌≡◌, ◌+◌, ◌<◌, ◌≤◌, ◌^◌, length, IfOk, OnOk, OnErr};
+ghost use Rattle.std.specs.Prelude.{◌≡◌, ◌+◌, ◌<◌, ◌≤◌, ◌^◌, ◌++◌, length, OnOk, OnErr};
 ghost use Rattle.nx_events.specs.Strings.{cdata_content, string_of};
 ghost use Rattle.nx_events.specs.Runs.{run_back};
 ghost use Rattle.nx_events.specs.Items.{cdata_items, text_items, joined};
@@ -11,7 +11,7 @@ use crate::piece::string_of;
 use crate::reading::Reading;
 use crate::stage::{is_inside, pass};
 use crate::state::{EventState, join_run};
-use crate::token_fault::character_items;
+use crate::token_fault::push_characters;
 use nx_base::fault::Kind;
 use nx_base::memory::NoMemory;
 use nx_base::token::Token;
@@ -52,37 +52,39 @@ fn join(
 #[tactic(auto, unfolding(crate::specs::Items::text_items))]
 pub(crate) fn take_text(
     alloc: Global,
+    items: &mut Items,
     state: &mut EventState,
     token: &Token,
-) -> Result<Items, NoMemory>
+) -> Result<(), NoMemory>
     requires place { run_back state.old.run ≤ token.now.from }
     requires room { token.now.from + length token.now.bytes < 2 ^ 64 }
-    ensures items { IfOk result (λ items. items ≡ text_items state.old token.now) }
+    ensures items { OnOk result (items.new ≡ items.old ++ text_items state.old token.now) }
     ensures state { OnOk result (state.new ≡ joined state.old token.now (string_of Reading.Text token.now.bytes)) }
     ensures unchanged { OnErr result (state.new ≡ state.old) }
 {
     let bytes = token.bytes.as_slice();
     let outside = !is_inside(state) && !are_spaces(bytes);
-    let items = character_items(alloc, Reading::Text, outside, Kind::TextOutside, token)?;
+    push_characters(alloc, items, Reading::Text, outside, Kind::TextOutside, token)?;
     join(alloc, state, token, Reading::Text, bytes)?;
-    Ok(items)
+    Ok(())
 }
 
 #[tactic(auto, unfolding(crate::specs::Items::cdata_items))]
 pub(crate) fn take_cdata(
     alloc: Global,
+    items: &mut Items,
     state: &mut EventState,
     token: &Token,
-) -> Result<Items, NoMemory>
+) -> Result<(), NoMemory>
     requires place { run_back state.old.run ≤ token.now.from }
     requires room { token.now.from + length token.now.bytes < 2 ^ 64 }
-    ensures items { IfOk result (λ items. items ≡ cdata_items state.old token.now) }
+    ensures items { OnOk result (items.new ≡ items.old ++ cdata_items state.old token.now) }
     ensures state { OnOk result (state.new ≡ joined state.old token.now (string_of Reading.Plain (cdata_content token.now.bytes))) }
     ensures unchanged { OnErr result (state.new ≡ state.old) }
 {
     let bytes = token.bytes.as_slice();
     let outside = !is_inside(state);
-    let items = character_items(alloc, Reading::Plain, outside, Kind::TextOutside, token)?;
+    push_characters(alloc, items, Reading::Plain, outside, Kind::TextOutside, token)?;
     join(alloc, state, token, Reading::Plain, cdata_content(bytes))?;
-    Ok(items)
+    Ok(())
 }

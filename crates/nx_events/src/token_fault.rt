@@ -39,35 +39,19 @@ pub(crate) fn push_token_fault_if(
     Ok(())
 }
 
-/// One fault over the whole token.
-pub(crate) fn whole_items(alloc: Global, kind: Kind, token: &Token) -> Result<Items, NoMemory>
-    requires { token.now.from + length token.now.bytes < 2 ^ 64 }
-    ensures { IfOk result (λ items. items ≡ token_fault_if true kind token.now) }
-{
-    let mut items = Items::new(alloc);
-    push_token_fault_if(alloc, &mut items, true, kind, token)?;
-    Ok(items)
-}
-
-/// The items of a token of characters, and a fault over the whole where the test holds.
-pub(crate) fn character_items(
+/// Adds the faults of a token of characters, and a fault over the whole where the test holds.
+pub(crate) fn push_characters(
     alloc: Global,
+    items: &mut Items,
     reading: Reading,
     test: bool,
     kind: Kind,
     token: &Token,
-) -> Result<Items, NoMemory>
+) -> Result<(), NoMemory>
     requires { token.now.from + length token.now.bytes < 2 ^ 64 }
-    ensures { IfOk result (λ items. items ≡ character_items reading test kind token.now) }
+    ensures { OnOk result (items.new ≡ items.old ++ character_items reading test kind token.now) }
 {
-    let mut items = Items::new(alloc);
-    push_character_faults(
-        alloc,
-        &mut items,
-        reading,
-        token.from,
-        token.bytes.as_slice(),
-    )?;
-    push_token_fault_if(alloc, &mut items, test, kind, token)?;
-    Ok(items)
+    push_character_faults(alloc, items, reading, token.from, token.bytes.as_slice())?;
+    push_token_fault_if(alloc, items, test, kind, token)?;
+    Ok(())
 }
