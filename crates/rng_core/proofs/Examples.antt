@@ -16,31 +16,31 @@ use Rattle.rng_core.specs.Patterns.{Pattern, Definition, not_allowed, empty, any
 use Rattle.nx_base.specs.Trees.{Attribute, Children, nil, string, element}
 use Rattle.rng_core.specs.Matching.{Matches, no_attribute, to_first, to_second, then_second, string_of_first, element_of_first, no_child, string_to_first, element_to_first, element_to_second, AreStrings, no_string, one_string, as_they_stand, with_blanks_left_out, as_one_empty_string, by_group, by_empty, by_text, by_one, by_more, by_interleave, by_element, by_attribute, by_blank_attribute, by_data, by_value, by_list}
 
-abbrev in_no_namespace : List ℕ → Name
+abbrev pub in_no_namespace : List ℕ → Name
 in_no_namespace local = record { ns = []; local = local }
 
-abbrev a_name : Name
+abbrev pub a_name : Name
 a_name = in_no_namespace (codes "a")
 
-abbrev b_name : Name
+abbrev pub b_name : Name
 b_name = in_no_namespace (codes "b")
 
 -- a definition of an element with one name
-abbrev element_named : Name → Pattern → Definition
+abbrev pub element_named : Name → Pattern → Definition
 element_named name content = record { class = the_name name; content = content }
 
 -- element a { text }, element b { empty }
-abbrev two_elements : List Definition
+abbrev pub two_elements : List Definition
 two_elements = element_named a_name any_text ∷ element_named b_name empty ∷ []
 
 -- <a>x</a>, <b/>, and what follows them
-abbrev a_then : Children → Children
+abbrev pub a_then : Children → Children
 a_then rest = element a_name [] (string (codes "x") nil) rest
 
 abbrev b_then : Children → Children
 b_then rest = element b_name [] nil rest
 
-a_is_name : IsTrue (has_name (the_name a_name) a_name)
+pub a_is_name : IsTrue (has_name (the_name a_name) a_name)
 unfolding is_char is_name_start is_name_char chars is_utf8 encode
 a_is_name = refl
 
@@ -56,7 +56,7 @@ b_is_attribute_name : IsTrue (has_attribute_name (the_name b_name) b_name)
 unfolding is_char is_name_start is_name_char chars is_utf8 encode
 b_is_attribute_name = refl
 
-a_matches : Matches two_elements (ref 0) [] (a_then nil)
+pub a_matches : Matches two_elements (ref 0) [] (a_then nil)
 a_matches = by_element refl a_is_name as_they_stand (by_text (one_string no_string))
 
 b_matches : Matches two_elements (ref 1) [] (b_then nil)
@@ -123,7 +123,7 @@ missing_attribute (by_group (to_first no_attribute) o m n) = no_attribute_from_n
 missing_attribute (by_group (to_second no_attribute) o m n) = no_attribute_from_none m
 
 -- element a { b, b } with white space around its children: they match without the blank strings
-abbrev space_text : List ℕ
+abbrev pub space_text : List ℕ
 space_text = 32 ∷ 10 ∷ []
 
 abbrev b_in_a : List Definition
@@ -139,16 +139,16 @@ blanks_between_elements =
     (by_group no_attribute (element_of_first then_second) b_alone b_alone)
 
 -- element a { string "" } matches <a/>, whose children may be seen as one empty string, and not <a> </a>
-abbrev string_type : Datatype
+abbrev pub string_type : Datatype
 string_type = record { form = Any Preserve; facets = [] }
 
-abbrev token_type : Datatype
+abbrev pub token_type : Datatype
 token_type = record { form = Any Collapse; facets = [] }
 
 abbrev boolean_type : Datatype
 boolean_type = record { form = One Boolean; facets = [] }
 
-abbrev empty_string_in_a : List Definition
+abbrev pub empty_string_in_a : List Definition
 empty_string_in_a = element_named a_name (literal string_type []) ∷ []
 
 pub empty_string_for_no_children : Matches empty_string_in_a (ref 0) [] (element a_name [] nil nil)

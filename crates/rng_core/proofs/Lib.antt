@@ -1,2 +1,5 @@
 pub mod Examples
 pub mod Overlaps
+pub mod Parts
+pub mod Choices
+pub mod Documents

@@ -29,7 +29,7 @@ mentions_ns (the_name m) ns = bytes_eq ns m.ns
 mentions_ns (either c d) ns = mentions_ns c ns || mentions_ns d ns
 mentions_ns (without c d) ns = mentions_ns c ns || mentions_ns d ns
 
-both_or : (a b c d : Bool) → a ≡ c → b ≡ d → (a || b) ≡ (c || d)
+pub both_or : (a b c d : Bool) → a ≡ c → b ≡ d → (a || b) ≡ (c || d)
 both_or a b c d p q = rw (p, q) refl
 
 both_but : (a b c d : Bool) → a ≡ c → b ≡ d → (a && not b) ≡ (c && not d)
@@ -59,10 +59,10 @@ covers-other_namespace (without c d) n other =
     let parts = or_parts (mentions_ns c n.ns) (mentions_ns d n.ns) other in
     both_but _ _ _ _ (covers-other_namespace c n parts.0) (covers-other_namespace d n parts.1)
 
-same_bytes : (a b : List ℕ) → bytes_eq a b ≡ true → a ≡ b
+pub same_bytes : (a b : List ℕ) → bytes_eq a b ≡ true → a ≡ b
 same_bytes a b same = (bytes_eq-Decides a b).0 same
 
-same_fields : (n m : Name) → n.ns ≡ m.ns → n.local ≡ m.local → n ≡ m
+pub same_fields : (n m : Name) → n.ns ≡ m.ns → n.local ≡ m.local → n ≡ m
 same_fields n m ns local = λ i. record { ns = ns i; local = local i }
 
 -- a mentioned name that is in both is found

@@ -35,3 +35,19 @@ meets_at (without x y) c d = meets_at x c d || meets_at y c d
 -- whether two classes share one of all these
 abbrev pub overlaps : Class → Class → Bool
 overlaps c d = (covers_others c && covers_others d) || (meets_at c c d || meets_at d c d)
+
+-- the same, with choices taken apart: a class against the parts of another
+abbrev pub meets_part : Class → Class → Bool
+meets_part c any_name = overlaps c any_name
+meets_part c (ns_name ns) = overlaps c (ns_name ns)
+meets_part c (the_name m) = has_name c m
+meets_part c (either x y) = meets_part c x || meets_part c y
+meets_part c (without x y) = overlaps c (without x y)
+
+-- and the parts of one against another
+abbrev pub parts_meet : Class → Class → Bool
+parts_meet any_name d = meets_part any_name d
+parts_meet (ns_name ns) d = meets_part (ns_name ns) d
+parts_meet (the_name m) d = has_name d m
+parts_meet (either x y) d = parts_meet x d || parts_meet y d
+parts_meet (without x y) d = meets_part (without x y) d

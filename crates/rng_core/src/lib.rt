@@ -4,7 +4,10 @@
 //! is measured against. Nothing here reads a schema or matches a document.
 #![tactic(auto)]
 
+pub mod building;
+mod copying;
 pub mod grammar;
 pub mod name_class;
+pub mod overlap;
 #[cfg(test)]
 mod tests;

@@ -1,19 +1,20 @@
 //! Name classes.
+//!
+//! A choice of very many names nests to the left, so the calls here go down its left side in a loop. What stands on
+//! the right side of a choice, or in an except, is as deep as the brackets of a schema at most: there they recurse.
 
-ghost use Rattle.std.specs.Prelude.{◌≡◌, ◌&&◌, ◌||◌, ◌↔◌, IsTrue, IsOk, IfOk};
+ghost use Rattle.std.specs.Prelude.{◌≡◌, ◌&&◌, ◌||◌, IfOk};
 ghost use Rattle.nx_base.specs.Names.{is_namespace as is_namespace_text, is_local as is_local_text, is_xml_name as is_name_of_xml, same_name as same_name_as};
-ghost use Rattle.rng_core.specs.Names.{covers, has_name, Overlap};
+ghost use Rattle.rng_core.specs.Names.{covers, has_name};
 ghost use Rattle.rng_core.specs.Meaning.{class_of};
-ghost use Rattle.rng_core.specs.Unmentioned.{covers_others_in, covers_others, share_others_in as share_others_of, meets_at, overlaps as overlaps_of};
 
 use nx_base::memory::NoMemory;
 use nx_base::name::Name;
-use nx_base::sequence::Bytes;
+use nx_base::sequence::{Bytes, TryCopy};
 use rng_types::word::{is_nc_name, is_of_chars};
 use std::alloc::Global;
 
 /// A set of names (ISO/IEC 19757-2, section 9.2).
-#[derive(Drop)]
 pub enum NameClass {
     /// Every name.
     AnyName,
@@ -27,11 +28,25 @@ pub enum NameClass {
     Except(Box<NameClass>, Box<NameClass>),
 }
 
+impl Drop for NameClass {
+    fn drop(mut self) {
+        loop {
+            match self {
+                NameClass::Choice(front, _) => self = Box::into_inner(front),
+                NameClass::AnyName => return,
+                NameClass::NsName(_) => return,
+                NameClass::Name(_) => return,
+                NameClass::Except(_, _) => return,
+            }
+        }
+    }
+}
+
 /// The namespace of the prefix `xmlns`, in which no name is.
 const XMLNS: &str = "http://www.w3.org/2000/xmlns/";
 
 /// Whether names can be in a namespace.
-fn is_namespace(ns: &[u8]) -> bool
+pub(crate) fn is_namespace(ns: &[u8]) -> bool
     ensures { result ≡ is_namespace_text ns.now }
 {
     is_of_chars(ns) && ns != XMLNS.as_bytes()
@@ -66,12 +81,20 @@ impl NameClass {
     fn covers(&self, name: &Name) -> bool
         ensures { result ≡ covers (class_of self.now) name.now }
     {
-        match self {
-            NameClass::AnyName => true,
-            NameClass::NsName(ns) => name.ns.as_slice() == ns.as_slice(),
-            NameClass::Name(only) => same_name(name, only),
-            NameClass::Choice(a, b) => a.covers(name) || b.covers(name),
-            NameClass::Except(a, b) => a.covers(name) && !b.covers(name),
+        let mut class = self;
+        loop {
+            match class {
+                NameClass::AnyName => return true,
+                NameClass::NsName(ns) => return name.ns.as_slice() == ns.as_slice(),
+                NameClass::Name(only) => return same_name(name, only),
+                NameClass::Except(all, taken) => return all.covers(name) && !taken.covers(name),
+                NameClass::Choice(front, last) => {
+                    if last.covers(name) {
+                        return true;
+                    }
+                    class = front;
+                }
+            }
         }
     }
 
@@ -84,69 +107,4 @@ impl NameClass {
         }
         is_xml_name(name)
     }
-
-    /// Whether the class covers the names of a namespace that aren't mentioned in it.
-    fn covers_others_in(&self, ns: &[u8]) -> bool
-        ensures { result ≡ covers_others_in (class_of self.now) ns.now }
-    {
-        match self {
-            NameClass::AnyName => true,
-            NameClass::NsName(of) => ns == of.as_slice(),
-            NameClass::Name(_) => false,
-            NameClass::Choice(a, b) => a.covers_others_in(ns) || b.covers_others_in(ns),
-            NameClass::Except(a, b) => a.covers_others_in(ns) && !b.covers_others_in(ns),
-        }
-    }
-
-    /// Whether the class covers the names of the namespaces that aren't mentioned in it.
-    fn covers_others(&self) -> bool
-        ensures { result ≡ covers_others (class_of self.now) }
-    {
-        match self {
-            NameClass::AnyName => true,
-            NameClass::NsName(_) => false,
-            NameClass::Name(_) => false,
-            NameClass::Choice(a, b) => a.covers_others() || b.covers_others(),
-            NameClass::Except(a, b) => a.covers_others() && !b.covers_others(),
-        }
-    }
-}
-
-/// Whether two classes share the names of a namespace that neither mentions.
-fn share_others_in(ns: &[u8], a: &NameClass, b: &NameClass) -> bool
-    ensures { result ≡ share_others_of (class_of a.now) (class_of b.now) ns.now }
-{
-    is_namespace(ns) && a.covers_others_in(ns) && b.covers_others_in(ns)
-}
-
-/// Whether two classes share a name that is mentioned in a third, or other names of a namespace that is mentioned
-/// there.
-fn meet_at(mentioned: &NameClass, a: &NameClass, b: &NameClass) -> bool
-    ensures { result ≡ meets_at (class_of mentioned.now) (class_of a.now) (class_of b.now) }
-{
-    match mentioned {
-        NameClass::AnyName => false,
-        NameClass::NsName(ns) => share_others_in(ns.as_slice(), a, b),
-        NameClass::Name(name) => (a.has(name) && b.has(name))
-            || share_others_in(name.ns.as_slice(), a, b),
-        NameClass::Choice(x, y) => meet_at(x, a, b) || meet_at(y, a, b),
-        NameClass::Except(x, y) => meet_at(x, a, b) || meet_at(y, a, b),
-    }
-}
-
-/// Whether two classes share one of the names that are tried: those that one of them mentions, the other names of the
-/// namespaces that one mentions, and the names of all other namespaces.
-fn overlaps(a: &NameClass, b: &NameClass) -> bool
-    ensures { result ≡ overlaps_of (class_of a.now) (class_of b.now) }
-{
-    let others = a.covers_others() && b.covers_others();
-    others || meet_at(a, a, b) || meet_at(b, a, b)
-}
-
-/// Whether some name is in both classes. It takes no memory.
-pub fn overlap(_alloc: Global, a: &NameClass, b: &NameClass) -> Result<bool, NoMemory>
-    ensures succeeds { IsOk result }
-    ensures found { IfOk result (λ some. IsTrue some ↔ Overlap (class_of a.now) (class_of b.now)) }
-{
-    Ok(overlaps(a, b))
 }

@@ -1,6 +1,9 @@
 //! Name classes, each with names that it has and names that it hasn't.
 
-use crate::name_class::{NameClass, overlap};
+use crate::building::{attribute_of, choice_of, group_of, interleave_of, list_of, one_or_more_of};
+use crate::grammar::{Def, Pat};
+use crate::name_class::NameClass;
+use crate::overlap::overlap;
 use nx_base::memory::NoMemory;
 use nx_base::name::Name;
 use nx_base::sequence::Bytes;
@@ -68,5 +71,57 @@ fn classes_overlap(rt: HostRuntime) -> Result<(), Fail> {
     assert_eq!(rt; overlap(rt.alloc(), &u_but_a, &a_in_u), Ok(false));
     assert_eq!(rt; overlap(rt.alloc(), &u_but_a, &in_u), Ok(true));
     assert_eq!(rt; overlap(rt.alloc(), &outside_u, &u_but_a), Ok(false));
+    Ok(())
+}
+
+// A choice of so many names, which nests to the left.
+fn many(alloc: Global, prefix: &str, count: u32) -> Result<NameClass, Fail> {
+    let mut class = one(alloc, "u", prefix)?;
+    for i in 0..count {
+        let local = format!(in alloc; "{prefix}{i}")?;
+        let last = one(alloc, "u", local.as_str())?;
+        class = NameClass::Choice(Box::new(alloc, class)?, Box::new(alloc, last)?);
+    }
+    Ok(class)
+}
+
+#[test]
+fn wide_choices_are_walked(rt: HostRuntime) -> Result<(), Fail> {
+    let class = many(rt.alloc(), "a", 100_000)?.copy(rt.alloc())?;
+    let others = without(
+        rt.alloc(),
+        all_in(rt.alloc(), "u")?,
+        class.copy(rt.alloc())?,
+    )?;
+    let few = many(rt.alloc(), "b", 50)?;
+    assert!(rt; class.has(&name_of(rt.alloc(), "u", "a0")?));
+    assert!(rt; !class.has(&name_of(rt.alloc(), "u", "b")?));
+    assert_eq!(rt; overlap(rt.alloc(), &class, &few), Ok(false));
+    assert_eq!(rt; overlap(rt.alloc(), &few, &class), Ok(false));
+    assert_eq!(rt; overlap(rt.alloc(), &few, &others), Ok(true));
+    assert_eq!(rt; overlap(rt.alloc(), &class, &class), Ok(true));
+    Ok(())
+}
+
+#[test]
+fn copies_patterns(rt: HostRuntime) -> Result<(), Fail> {
+    let body = list_of(rt.alloc(), Pat::Text)?;
+    let attribute = attribute_of(rt.alloc(), one(rt.alloc(), "", "a")?, body)?;
+    let group = group_of(
+        rt.alloc(),
+        attribute,
+        one_or_more_of(rt.alloc(), Pat::Ref(0))?,
+    )?;
+    let mixed = interleave_of(
+        rt.alloc(),
+        Pat::Text,
+        choice_of(rt.alloc(), Pat::Empty, group)?,
+    )?;
+    let definition = Def {
+        class: NameClass::AnyName,
+        content: mixed,
+    };
+    let copied = definition.copy(rt.alloc())?;
+    assert!(rt; matches!(copied.content, Pat::Interleave(_, _)));
     Ok(())
 }

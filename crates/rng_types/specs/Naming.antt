@@ -5,7 +5,7 @@ use Rattle.std.specs.Option.{option_and_then}
 use Rattle.std.specs.Str.{bytes_eq, is_utf8}
 use Rattle.std.specs.Str.Parse.{digits_value}
 use Rattle.rng_types.specs.Spaces.{is_some_text, collapsed}
-use Rattle.rng_types.specs.Numbers.{is_digits, significant}
+use Rattle.rng_types.specs.Numbers.{is_digits, has_few_digits}
 use Rattle.rng_types.specs.Words.{is_word}
 use Rattle.rng_types.specs.Table.{TypeRow, type_named}
 use Rattle.rng_types.specs.declared.kind.Form.{Form}
@@ -50,7 +50,7 @@ is_length value = is_digits value && nat_le (length value) 9
 -- a bound: after collapsing, a literal of the type's form with at most 30 digits that matter
 abbrev pub is_bound : Form → List ℕ → Bool
 is_bound (Any whitespace) value = false
-is_bound (One word) value = is_utf8 value && (is_word word (collapsed value) && nat_le (significant (collapsed value)) 30)
+is_bound (One word) value = is_utf8 value && (is_word word (collapsed value) && has_few_digits (collapsed value))
 is_bound (Several word) value = false
 
 -- the facet with that relation and value on a type, if the value is a literal for it

@@ -1,5 +1,5 @@
 -- Numbers by their decimal literals: XML Schema Part 2, sections 3.2.3 and 3.3.13.
-use Rattle.std.specs.Prelude.{◌≡◌, ℕ, ◌*◌, ◌^◌, ◌+◌, ℤ, pos, neg_ℤ, Bool, false, ◌==◌, ◌&&◌, ◌||◌, if◌then◌else◌, List, [], ◌∷◌, ◌++◌, length, drop}
+use Rattle.std.specs.Prelude.{◌≡◌, ℕ, nat_le, ◌*◌, ◌^◌, ◌+◌, ℤ, pos, neg_ℤ, Bool, false, ◌==◌, ◌&&◌, ◌||◌, if◌then◌else◌, List, [], ◌∷◌, ◌++◌, length, drop}
 use Rattle.std.specs.List.{list_all, before_first, after_first, prefix_len}
 use Rattle.std.specs.Char.{is_ascii_digit}
 use Rattle.std.specs.Ordering.{int_cmp}
@@ -83,3 +83,7 @@ without_trailing_zeros (c ∷ cs) =
 -- how many digits are left without the zeros at the start of the whole part and those at the end of the fraction
 abbrev pub significant : List ℕ → ℕ
 significant text = length (without_leading_zeros (whole_part text)) + length (without_trailing_zeros (fraction_part text))
+
+-- no more digits than a number in a schema may have
+abbrev pub has_few_digits : List ℕ → Bool
+has_few_digits text = nat_le (significant text) 30

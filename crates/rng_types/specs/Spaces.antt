@@ -1,6 +1,6 @@
 -- White space in a text. Each such character is one byte below 128, so that bytes serve for characters.
 use Rattle.std.specs.Prelude.{ℕ, Bool, not, ◌==◌, if◌then◌else◌, List, map, length}
-use Rattle.std.specs.List.{slice_split, filter, list_all, join_with_byte}
+use Rattle.std.specs.List.{slice_split, filter, join_with_byte}
 use Rattle.nx_base.specs.Characters.{is_space}
 use Rattle.rng_types.specs.declared.kind.Whitespace.{Whitespace}
 use Rattle.rng_types.specs.declared.kind.Whitespace.TheVariants.{Preserve, Replace, Collapse}

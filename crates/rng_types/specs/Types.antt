@@ -1,10 +1,10 @@
 -- What a type accepts, and which texts have the same value.
-use Rattle.std.specs.Prelude.{◌≡◌, ℕ, List, IsTrue}
+use Rattle.std.specs.Prelude.{◌≡◌, ℕ, Bool, true, List, IsTrue}
 use Rattle.std.specs.List.{list_all}
 use Rattle.nx_base.specs.Characters.{is_blank}
 use Rattle.rng_types.specs.Spaces.{collapsed, normalized}
 use Rattle.rng_types.specs.Words.{whitespace_of, has_form, is_true}
-use Rattle.rng_types.specs.Numbers.{number_of, SameNumber}
+use Rattle.rng_types.specs.Numbers.{number_of, SameNumber, has_few_digits as has_few_digits_of_number}
 use Rattle.rng_types.specs.Facets.{meets}
 use Rattle.rng_types.specs.declared.kind.Word.{Word}
 use Rattle.rng_types.specs.declared.kind.Word.TheVariants.{Name, NcName, NmToken, Language, Boolean, Decimal, Integer}
@@ -22,6 +22,18 @@ seen_by type text = normalized (whitespace_of type.form) text
 pub record Accepts (type : Datatype) (text : List ℕ) : Type 0 where
   pub form : IsTrue (has_form type.form (seen_by type text))
   pub facets : IsTrue (list_all (meets type.form (seen_by type text)) type.facets)
+
+-- a literal of the form is one that a schema may write: a number has few digits, any other may have any length
+abbrev pub has_few_digits : Form → List ℕ → Bool
+has_few_digits (Any whitespace) text = true
+has_few_digits (One Decimal) text = has_few_digits_of_number text
+has_few_digits (One Integer) text = has_few_digits_of_number text
+has_few_digits (One Name) text = true
+has_few_digits (One NcName) text = true
+has_few_digits (One NmToken) text = true
+has_few_digits (One Language) text = true
+has_few_digits (One Boolean) text = true
+has_few_digits (Several word) text = true
 
 -- two words of the form have the same value: the same truth value, number, or text
 abbrev pub SameWord : Word → List ℕ → List ℕ → Type 0

@@ -1,12 +1,15 @@
 //! Datatypes.
 
-ghost use Rattle.std.specs.Prelude.{◌↔◌, IsTrue};
-ghost use Rattle.rng_types.specs.Types.{Accepts, SameValue};
+ghost use Rattle.std.specs.Prelude.{◌≡◌, ◌↔◌, IsTrue};
+ghost use Rattle.rng_types.specs.Types.{Accepts, SameValue, has_few_digits, seen_by};
 
+use crate::copying::copy_each;
 use crate::facet::Facets;
 use crate::kind::Form;
 use crate::meeting::all_are_met;
-use nx_base::sequence::{Bytes, Sequence};
+use nx_base::memory::NoMemory;
+use nx_base::sequence::{Bytes, Sequence, TryCopy, TryCopyAll};
+use std::alloc::Global;
 
 /// A type of a schema, with its params.
 #[derive(Drop)]
@@ -31,6 +34,34 @@ impl Datatype {
     {
         self.form.same(a, b)
     }
+
+    /// Whether a literal of the type is no longer than a schema may write it: a number has at most 30 digits, beside
+    /// zeros at the start of its whole part and at the end of its fraction. Literals of other types may have any length.
+    pub fn has_few_digits(&self, literal: &str) -> bool
+        requires { Accepts self.now literal.now }
+        ensures { result ≡ has_few_digits self.now.form (seen_by self.now literal.now) }
+    {
+        match self.form {
+            Form::One(word) => word.has_few_digits(literal),
+            Form::Any(_) => true,
+            Form::Several(_) => true,
+        }
+    }
+}
+
+impl TryCopy for Datatype {
+    fn copy(&self) -> Result<Datatype, NoMemory> {
+        Ok(Datatype {
+            form: self.form,
+            facets: self.facets.copy()?,
+        })
+    }
+}
+
+impl TryCopyAll for Datatype {
+    fn copy_all(alloc: Global, items: &[Datatype]) -> Result<Vec<Datatype>, NoMemory> {
+        copy_each(alloc, items)
+    }
 }
 
 /// A param of a type: its name, and its value as it is written.
@@ -53,3 +84,19 @@ pub enum Except {
 
 /// A list of excepts.
 pub type Excepts = Sequence<Except>;
+
+impl TryCopy for Except {
+    fn copy(&self) -> Result<Except, NoMemory> {
+        match self {
+            Except::Own(literal) => Ok(Except::Own(literal.copy()?)),
+            Except::BuiltinString(text) => Ok(Except::BuiltinString(text.copy()?)),
+            Except::BuiltinToken(text) => Ok(Except::BuiltinToken(text.copy()?)),
+        }
+    }
+}
+
+impl TryCopyAll for Except {
+    fn copy_all(alloc: Global, items: &[Except]) -> Result<Vec<Except>, NoMemory> {
+        copy_each(alloc, items)
+    }
+}

@@ -5,9 +5,11 @@
 //! row. Nothing here knows of patterns: `rng_core` stands above.
 #![tactic(auto)]
 
+mod copying;
 pub mod datatype;
 pub mod facet;
 pub mod fault;
+mod few_digits;
 mod form;
 pub mod kind;
 pub mod laws;

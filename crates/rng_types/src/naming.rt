@@ -15,7 +15,7 @@ use crate::facet::{Facet, Facets, Relation};
 use crate::fault::TypeFault;
 use crate::form::only_word;
 use crate::kind::{Form, Takes, Word};
-use crate::number::{is_digits, significant};
+use crate::number::{has_few_digits, is_digits};
 use crate::table::{Row, type_named};
 use nx_base::memory::NoMemory;
 use nx_base::sequence::Bytes;
@@ -85,15 +85,12 @@ fn length_of(value: &[u8]) -> u32
     number
 }
 
-/// How many digits a bound may need.
-const MOST_DIGITS: usize = 30;
-
 /// The word of a value that is a bound for a word of the form.
 fn bound_word(form: Word, text: &str) -> Option<&str>
     ensures { MatchOption result (is_bound_text (One form) text.now ≡ false) (λ word. (is_bound_text (One form) text.now ≡ true) × (word.now ≡ collapsed text.now)) }
 {
     let word = only_word(text)?;
-    if form.fits(word) && significant(word.as_bytes()) <= MOST_DIGITS {
+    if form.fits(word) && has_few_digits(word.as_bytes()) {
         Some(word)
     } else {
         None

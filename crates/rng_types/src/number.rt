@@ -4,7 +4,7 @@ ghost use Rattle.std.specs.Prelude.{◌≡◌, ◌≤◌, ◌*◌, ◌^◌, ◌+
 ghost use Rattle.std.specs.List.{list_all, prefix_len, position_or_len};
 ghost use Rattle.std.specs.Char.{is_ascii_digit};
 ghost use Rattle.std.specs.Ordering.{nat_cmp};
-ghost use Rattle.rng_types.specs.Numbers.{is_negative as is_negative_text, unsigned as unsigned_text, is_point, is_zero, whole_part as whole_of, fraction_part as fraction_of, is_digits as are_digits, is_decimal as is_decimal_text, is_integer as is_integer_text, number_of, compared, without_leading_zeros as without_zeros_before, without_trailing_zeros as without_zeros_behind, significant as significant_digits};
+ghost use Rattle.rng_types.specs.Numbers.{is_negative as is_negative_text, unsigned as unsigned_text, is_point, is_zero, whole_part as whole_of, fraction_part as fraction_of, is_digits as are_digits, is_decimal as is_decimal_text, is_integer as is_integer_text, number_of, compared, without_leading_zeros as without_zeros_before, without_trailing_zeros as without_zeros_behind, significant as significant_digits, has_few_digits as has_few};
 
 use std::cmp::Ordering;
 
@@ -131,12 +131,22 @@ fn without_trailing_zeros(digits: &[u8]) -> &[u8]
 }
 
 /// How many digits a literal needs.
-pub(crate) fn significant(text: &[u8]) -> usize
+fn significant(text: &[u8]) -> usize
     ensures { result ≡ significant_digits text.now }
 {
     let whole = without_leading_zeros(whole_part(text));
     let fraction = without_trailing_zeros(fraction_part(text));
     whole.len() + fraction.len()
+}
+
+/// How many digits a number in a schema may have.
+const MOST_DIGITS: usize = 30;
+
+/// Whether a literal needs no more digits than a number in a schema may have.
+pub(crate) fn has_few_digits(text: &[u8]) -> bool
+    ensures { result ≡ has_few text.now }
+{
+    significant(text) <= MOST_DIGITS
 }
 
 /// Whether a literal's number is zero.

@@ -1,6 +1,6 @@
 use crate::datatype::{Datatype, Param};
 use crate::fault::TypeFault;
-use nx_base::sequence::Bytes;
+use nx_base::sequence::{Bytes, TryCopy};
 use std::alloc::Global;
 use std::test::Fail;
 
@@ -116,6 +116,28 @@ fn refuses_names_and_params(rt: HostRuntime) -> Result<(), Fail> {
         let (library, name, param, value, fault) = *row;
         let refused = narrowed(rt.alloc(), library, name, param, value)?.err();
         assert_eq!(rt; (name, refused), (name, Some(fault)));
+    }
+    Ok(())
+}
+
+// A type, a literal, and whether it is no longer than a schema may write it.
+#[rattlefmt::skip]
+static LENGTHS: [(&str, &str, bool); 5] = [
+    ("decimal", "-0001234567890123456789012345.678900", true), ("decimal", ".1234567890123456789012345678901", false),
+    ("integer", " 123456789012345678901234567890 ", true), ("integer", "1234567890123456789012345678900", false),
+    ("string", "1234567890123456789012345678901", true),
+];
+
+#[test]
+fn counts_digits(rt: HostRuntime) -> Result<(), Fail> {
+    for row in &LENGTHS {
+        let (name, literal, expected) = *row;
+        let datatype = Datatype::named(rt.alloc(), XSD, name, &[])?.copy()?;
+        assert!(rt; datatype.accepts(literal));
+        assert_eq!(rt;
+            (literal, datatype.has_few_digits(literal)),
+            (literal, expected)
+        );
     }
     Ok(())
 }

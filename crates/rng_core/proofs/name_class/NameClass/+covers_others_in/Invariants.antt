@@ -1,0 +1,9 @@
+-- what is left of the class decides, and it is no deeper
+use Rattle.std.proofs.Common.{◌≡◌, ◌≤◌}
+use Rattle.rng_core.specs.declared.name_class.NameClass.{size-NameClass}
+use Rattle.rng_core.specs.Meaning.{class_of}
+use Rattle.rng_core.specs.Unmentioned.{covers_others_in}
+use Rattle.rng_core.proofs.name_class.NameClass.+covers_others_in.Given as goal
+
+abbrev pub invariant-loop-class : goal.invariant-loop-class
+invariant-loop-class l = (covers_others_in (class_of l.class) l.ns ≡ covers_others_in (class_of l.self) l.ns) × (size-NameClass l.class ≤ size-NameClass l.self)
