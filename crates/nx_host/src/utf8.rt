@@ -1,10 +1,22 @@
-//! Bytes that may be no text.
+//! Bytes that are text, and bytes that may be none.
 
-ghost use Rattle.std.specs.Prelude.{◌≡◌};
+ghost use Rattle.std.specs.Prelude.{◌≡◌, IsUtf8};
 ghost use Rattle.std.specs.Int.{is_in_range};
 ghost use Rattle.nx_host.specs.Utf8.{StopsBeingText};
 
+use nx_base::sequence::Bytes;
 use std::str;
+
+/// The text that these bytes are.
+pub fn text_of(bytes: &Bytes) -> &str
+    requires { IsUtf8 bytes.now }
+    ensures { result.now ≡ bytes.now }
+{
+    match str::from_utf8(bytes.as_slice()) {
+        Ok(text) => text,
+        Err(_) => unreachable!(),
+    }
+}
 
 /// The first offset at which the bytes stop being the front of a UTF-8 text (RFC 3629): the greatest
 /// number of them that others can follow with which they are one. It is the length where all of them are.

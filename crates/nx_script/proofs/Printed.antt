@@ -40,7 +40,7 @@ low_test [] e = tt
 low_test (b ∷ bytes) e = let parts = and_parts (ltb b 128) (list_all (λ c. ltb c 128) bytes) e in (ltb-true b 128 parts.0, low_test bytes parts.1)
 
 -- words of the program's own
-word_text : (bytes : List ℕ) → list_all (λ b. ltb b 128) bytes ≡ true → IsUtf8 bytes
+pub word_text : (bytes : List ℕ) → list_all (λ b. ltb b 128) bytes ≡ true → IsUtf8 bytes
 word_text bytes e = low_text bytes (low_test bytes e)
 
 glyph_low : (d : ℕ) → d < 16 → digit_glyph false d < 128
@@ -59,7 +59,7 @@ number_text : (base n : ℕ) → 0 < base → base ≤ 16 → IsUtf8 (digits bas
 unfolding digits
 number_text base n some few = low_text (digits_onto 64 base false n []) (digits_low 64 base n [] some few tt)
 
-decimal_text : (n : ℕ) → IsUtf8 (decimal n)
+pub decimal_text : (n : ℕ) → IsUtf8 (decimal n)
 decimal_text n = number_text 10 n (omega arith) (omega arith)
 
 -- ---- characters

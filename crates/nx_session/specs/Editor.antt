@@ -15,32 +15,29 @@ pub record FilesState : Type 0 where
   pub map : Option FileMap
   pub faults : ℕ
 
--- what an output tells, and how many writes it has failed
-pub record OutState : Type 0 where
-  pub bytes : Option (List ℕ)
-  pub faults : ℕ
-
--- an editor and the files that it fetches and stores
+-- an editor, the files that it fetches and stores, and how many tokens were cut so far
 pub record World : Type 0 where
   pub editor : EditorState
   pub files : FilesState
+  pub steps : ℕ
 
 abbrev pub files_state : Option FileMap → ℕ → FilesState
 files_state map faults = record { map = map; faults = faults }
 
-abbrev pub out_state : Option (List ℕ) → ℕ → OutState
-out_state bytes faults = record { bytes = bytes; faults = faults }
-
-abbrev pub world : EditorState → FilesState → World
-world editor files = record { editor = editor; files = files }
+abbrev pub world : EditorState → FilesState → ℕ → World
+world editor files steps = record { editor = editor; files = files; steps = steps }
 
 -- the folder that URIs are read against
 abbrev pub work_folder : List ℕ
 work_folder = codes "file:///work/"
 
+-- an editor of the document under this URI, before its first edit
+abbrev pub opened : List ℕ → List ℕ → EditorState
+opened uri text = record { text = text; caret = 0; document = uri }
+
 -- an editor before its first command
 abbrev pub new_editor : EditorState
-new_editor = record { text = []; caret = 0; document = codes "file:///work/untitled.xml" }
+new_editor = opened (codes "file:///work/untitled.xml") []
 
 -- where a caret goes: it moves with the text, but stays where text is put in at it
 abbrev pub caret_after : Edit → ℕ → ℕ

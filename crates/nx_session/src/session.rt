@@ -1,21 +1,26 @@
-//! The editor: one text, one caret, and the commands on them.
+//! The editor between two commands, and what each command does to it.
 
-ghost use Rattle.std.specs.Prelude.{◌≡◌, IsUtf8, IfOk};
+ghost use Rattle.std.specs.Prelude.{◌≡◌, length, IsUtf8, IfOk};
 ghost use Rattle.nx_script.specs.Commands.{HasUtf8Texts};
-ghost use Rattle.nx_run.specs.Editor.{new_editor, caret_after, files_state, world};
-ghost use Rattle.nx_run.specs.Step.{Step, SaveStep, InsertStep, DeleteStep, PrintStep, PrintsText, RefusalsLeaveTheEditor};
+ghost use Rattle.nx_script.specs.Replies.{ReplyIsText};
+ghost use Rattle.nx_session.specs.Editor.{new_editor, opened, caret_after, files_state, world};
+ghost use Rattle.nx_session.specs.Step.{Step, OpenStep, OpensBytes, SaveStep, InsertStep, DeleteStep, PrintStep, ErrorsStep};
 
-use crate::text_of::text_of;
+use crate::faults::faults_of;
 use nx_base::edit::{Edit, moved};
 use nx_base::memory::NoMemory;
 use nx_base::sequence::Bytes;
+use nx_base::steps::Steps;
 use nx_host::files::{FileFault, Files};
 use nx_host::uri::{self, UriFault, WORK_FOLDER};
+use nx_host::utf8::{text_front, text_of};
 use nx_script::command::Command;
 use nx_script::reply::{Refusal, Reply};
 use nx_text::text::{Text, TextFault};
 use std::alloc::Global;
 use std::marker::Model;
+use std::str;
+use std::sync::ledger::Ledger;
 
 /// The URI of a document that was opened from nowhere.
 const UNTITLED: &str = "file:///work/untitled.xml";
@@ -31,7 +36,7 @@ pub struct Session {
 }
 
 impl Model for Session {
-    ghost use Rattle.nx_run.specs.Editor.{EditorState};
+    ghost use Rattle.nx_session.specs.Editor.{EditorState};
 
     ghost Value = { EditorState };
 
@@ -64,25 +69,47 @@ impl Session {
         })
     }
 
+    /// How many bytes the text has.
+    pub fn len(&self) -> usize
+        ensures { result ≡ length self.now.text }
+    {
+        self.text.len()
+    }
+
+    /// The caret, as a byte offset of the text.
+    pub fn caret(&self) -> usize
+        ensures { result ≡ self.now.caret }
+    {
+        self.caret
+    }
+
     /// One step of the editor. A refused command leaves the text, the caret and the document's URI.
-    pub fn apply<F: Files>(&mut self, command: &Command, files: &mut F) -> Reply
+    pub fn apply<F: Files, L: Ledger>(
+        &mut self,
+        command: &Command,
+        files: &mut F,
+        steps: &mut Steps<L>,
+    ) -> Reply
         requires { HasUtf8Texts command.now }
-        ensures step { Step (world self.old (files_state (F.told files.old) (F.faults files.old))) command.now result
-            (world self.new (files_state (F.told files.new) (F.faults files.new))) }
-        ensures text { PrintsText result }
+        ensures step { Step (world self.old (files_state (F.told files.old) (F.faults files.old)) steps.old) command.now result
+            (world self.new (files_state (F.told files.new) (F.faults files.new)) steps.new) }
+        ensures text { ReplyIsText result }
     {
         match command {
             Command::Nothing => Reply::Silent,
+            Command::OpenFile(uri) => self.open_file(uri, files),
             Command::Save(uri) => self.save(uri, files),
             Command::Insert(at, added) => self.insert(*at, added),
             Command::Delete(from, to) => self.delete(*from, *to),
             Command::Print => self.print(),
+            Command::Errors => self.errors(steps),
         }
     }
 
     fn insert(&mut self, at: u64, added: &Bytes) -> Reply
         requires { IsUtf8 added.now }
-        ensures { InsertStep at added.now self.old result self.new }
+        ensures step { InsertStep at added.now self.old result self.new }
+        ensures text { ReplyIsText result }
     {
         let place = at as usize;
         match self.text.insert(place, text_of(added)) {
@@ -98,7 +125,8 @@ impl Session {
     }
 
     fn delete(&mut self, from: u64, to: u64) -> Reply
-        ensures { DeleteStep from to self.old result self.new }
+        ensures step { DeleteStep from to self.old result self.new }
+        ensures text { ReplyIsText result }
     {
         match self.text.delete(from as usize, to as usize) {
             Ok(()) => {
@@ -123,7 +151,7 @@ impl Session {
 
     fn print(&self) -> Reply
         ensures step { PrintStep self.now result self.now }
-        ensures text { PrintsText result }
+        ensures text { ReplyIsText result }
     {
         match self.whole_text() {
             Ok(text) => Reply::Printed(text),
@@ -131,10 +159,61 @@ impl Session {
         }
     }
 
+    fn errors<L: Ledger>(&self, steps: &mut Steps<L>) -> Reply
+        ensures step { ErrorsStep self.now steps.old result self.now steps.new }
+        ensures text { ReplyIsText result }
+    {
+        match faults_of(self.alloc, &self.text, steps) {
+            Ok(faults) => Reply::Errors(faults),
+            Err(NoMemory) => Reply::Refused(Refusal::NoMemory),
+        }
+    }
+
+    fn open_file<F: Files>(&mut self, uri_text: &Bytes, files: &mut F) -> Reply
+        requires { IsUtf8 uri_text.now }
+        ensures step { OpenStep uri_text.now self.old (files_state (F.told files.old) (F.faults files.old)) result
+            self.new (files_state (F.told files.new) (F.faults files.new)) }
+        ensures text { ReplyIsText result }
+    {
+        let uri = match uri::join(self.alloc, WORK_FOLDER, text_of(uri_text)) {
+            Ok(uri) => uri,
+            Err(UriFault::Bad) => return Reply::Refused(Refusal::BadUri),
+            Err(UriFault::NoMemory) => return Reply::Refused(Refusal::NoMemory),
+        };
+        match files.fetch(self.alloc, text_of(&uri)) {
+            Ok(Some(bytes)) => self.open_bytes(uri, &bytes),
+            Ok(None) => Reply::Refused(Refusal::Absent(uri)),
+            Err(FileFault::Failed) => Reply::Refused(Refusal::Failed),
+            Err(FileFault::NoMemory) => Reply::Refused(Refusal::NoMemory),
+        }
+    }
+
+    /// Takes the bytes for the text, where they are one.
+    fn open_bytes(&mut self, uri: Bytes, bytes: &Bytes) -> Reply
+        requires { IsUtf8 uri }
+        ensures step { OpensBytes uri bytes.now self.old result self.new }
+        ensures text { ReplyIsText result }
+    {
+        let Ok(content) = str::from_utf8(bytes.as_slice()) else {
+            return Reply::Refused(Refusal::NotUtf8(uri, text_front(bytes.as_slice())));
+        };
+        let mut text = Text::new(self.alloc);
+        match text.insert(0, content) {
+            Ok(()) => {
+                self.text = text;
+                self.caret = 0;
+                self.document = uri;
+                Reply::Silent
+            }
+            Err(_) => Reply::Refused(Refusal::NoMemory),
+        }
+    }
+
     fn save<F: Files>(&self, uri_text: &Bytes, files: &mut F) -> Reply
         requires { IsUtf8 uri_text.now }
-        ensures { SaveStep uri_text.now (world self.now (files_state (F.told files.old) (F.faults files.old))) result
-            (world self.now (files_state (F.told files.new) (F.faults files.new))) }
+        ensures step { SaveStep uri_text.now self.now (files_state (F.told files.old) (F.faults files.old)) result
+            self.now (files_state (F.told files.new) (F.faults files.new)) }
+        ensures text { ReplyIsText result }
     {
         let uri = match uri::join(self.alloc, WORK_FOLDER, text_of(uri_text)) {
             Ok(uri) => uri,
@@ -151,8 +230,3 @@ impl Session {
         }
     }
 }
-
-/// A refused command leaves the text, the caret and the document's URI.
-pub fn refusals_leave_the_editor()
-    ensures { RefusalsLeaveTheEditor }
-{}
