@@ -1,2 +1,3 @@
 pub mod DiskPathLemmas
 pub mod TableLemmas
+pub mod TextFronts

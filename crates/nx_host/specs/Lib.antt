@@ -8,3 +8,4 @@ pub mod MemOut
 pub mod Out
 pub mod Table
 pub mod Uri
+pub mod Utf8

@@ -15,3 +15,4 @@ pub mod streams;
 #[cfg(test)]
 mod tests;
 pub mod uri;
+pub mod utf8;

@@ -1,18 +1,23 @@
 -- A script that is being played: what was played and written so far, and how it goes on.
-use Rattle.std.proofs.Common.{◌≡◌, ℕ, ◌+◌, ◌<◌, ◌≤◌, ◌||◌, cond, Bool, true, false, List, [], ◌∷◌, ◌++◌, length, Option, Some, None, refl, sym, ap, ◌∙◌, subst, arith, append_assoc, length-append, inl, inr}
-use Rattle.std.specs.List.{list_any}
+use Rattle.std.proofs.Common.{◌≡◌, ℕ, ◌+◌, ◌<◌, ◌≤◌, ◌||◌, cond, Bool, true, false, List, [], ◌∷◌, ◌++◌, length, Option, Some, None, Result, Ok, Err, refl, sym, ap, ◌∙◌, subst, arith, append_assoc, length-append, inl, inr}
+use Rattle.std.specs.List.{AllByRecursion, list_any}
 use Rattle.std.proofs.lemmas.List.Folds.{list_any-append}
 use Rattle.std.proofs.lemmas.List.{append-nil}
 use Rattle.nx_host.specs.Count.{Rose}
-use Rattle.nx_host.specs.Out.{Appends, AppendsPrefix}
+use Rattle.nx_host.specs.declared.out.OutFault.{OutFault}
+use Rattle.nx_host.specs.declared.out.OutFault.TheVariants.{Failed, NoMemory}
+use Rattle.nx_host.specs.Out.{Appends, AppendsPrefix, WritesInParts, CountsOutFault}
 use Rattle.nx_script.specs.Lines.{lines_of}
 use Rattle.nx_script.specs.Printing.{reply_text}
 use Rattle.nx_script.specs.declared.reply.Reply.{Reply}
 use Rattle.nx_run.specs.declared.status.Status.{Status}
 use Rattle.nx_run.specs.declared.status.Status.TheVariants.{Done, Refused, Words, Script, Output, Memory}
-use Rattle.nx_run.specs.Editor.{EditorState, FilesState, OutState, World, world, new_editor}
-use Rattle.nx_run.specs.Step.{LineStep}
-use Rattle.nx_run.specs.Play.{Plays, texts_from, wants_memory, is_refusal, status_of, IsWhole, IsCutOff}
+use Rattle.nx_script.specs.Replies.{ReplyIsText}
+use Rattle.nx_session.specs.Editor.{EditorState, World, world, new_editor}
+use Rattle.nx_session.specs.Step.{LineStep}
+use Rattle.nx_run.specs.Output.{OutState}
+use Rattle.nx_run.specs.Surroundings.{Surroundings, begun_in}
+use Rattle.nx_run.specs.Play.{Plays, texts_from, wants_memory, is_refusal, status_of, stop_status, IsWhole, IsCutOff, IsPlayOf}
 
 -- a play goes on by one line
 pub plays-push : (old : World) (lines : List (List ℕ)) (answers : List Reply) (mid new : World) (line : List ℕ) (answer : Reply) →
@@ -59,12 +64,21 @@ appends-more (Some a) None c x y h k = absurd h
 appends-more (Some a) (Some b) None x y h k = k
 appends-more (Some a) (Some b) (Some c) x y h k = k ∙ ap (λ z. z ++ y) h ∙ append_assoc a x y
 
+-- an editor in its surroundings
+abbrev pub placed : EditorState → Surroundings → World
+placed editor now = world editor now.files now.steps
+
+all-push : (answers : List Reply) (answer : Reply) → AllByRecursion ReplyIsText answers → ReplyIsText answer → AllByRecursion ReplyIsText (answers ++ answer ∷ [])
+all-push [] answer h k = (k, tt)
+all-push (a ∷ more) answer h k = (h.0, all-push more answer h.1 k)
+
 -- the lines so far were played, and the texts of their replies written
-pub record IsPlaying (script : List ℕ) (old now : FilesState) (before after : OutState) (editor : EditorState) (number : ℕ) (rest : List ℕ) (memory refusal : Bool) : Type 0 where
+pub record IsPlaying (script : List ℕ) (old now : Surroundings) (before after : OutState) (editor : EditorState) (number : ℕ) (rest : List ℕ) (memory refusal : Bool) : Type 0 where
   pub front : List (List ℕ)
   pub answers : List Reply
   pub lines : lines_of script ≡ front ++ lines_of rest
-  pub played : Plays (world new_editor old) front answers (world editor now)
+  pub played : Plays (begun_in old) front answers (placed editor now)
+  pub are_text : AllByRecursion ReplyIsText answers
   pub counted : number ≡ length answers
   pub written : Appends before.bytes (texts_from 1 answers) after.bytes
   pub no_fault : after.faults ≡ before.faults
@@ -73,13 +87,14 @@ pub record IsPlaying (script : List ℕ) (old now : FilesState) (before after : 
   pub within : number + length rest ≤ length script
 
 -- nothing was played yet
-pub play-begun : (script : List ℕ) (files : FilesState) (out : OutState) (editor : EditorState) → editor ≡ new_editor →
+pub play-begun : (script : List ℕ) (files : Surroundings) (out : OutState) (editor : EditorState) → editor ≡ new_editor →
     IsPlaying script files files out out editor 0 script false false
 play-begun script files out editor begun = record {
   front = [];
   answers = [];
   lines = refl;
-  played = ap (λ e. world e files) begun;
+  played = ap (λ e. placed e files) begun;
+  are_text = tt;
   counted = refl;
   written = appends-nil out.bytes;
   no_fault = refl;
@@ -89,19 +104,20 @@ play-begun script files out editor begun = record {
 }
 
 -- one more line was played, and the text of its reply was written
-pub play-more : (script : List ℕ) (old now next : FilesState) (before after last : OutState) (editor new : EditorState) (number : ℕ) (rest line following : List ℕ)
+pub play-more : (script : List ℕ) (old now next : Surroundings) (before after last : OutState) (editor new : EditorState) (number : ℕ) (rest line following : List ℕ)
     (memory refusal memory' refusal' : Bool) (answer : Reply) →
     IsPlaying script old now before after editor number rest memory refusal →
     lines_of rest ≡ line ∷ lines_of following → length following < length rest →
-    LineStep (world editor now) line answer (world new next) →
+    LineStep (placed editor now) line answer (placed new next) → ReplyIsText answer →
     Appends after.bytes (reply_text (number + 1) answer) last.bytes → last.faults ≡ after.faults →
     memory' ≡ (memory || wants_memory answer) → refusal' ≡ (refusal || is_refusal answer) →
     IsPlaying script old next before last new (number + 1) following memory' refusal'
-play-more script old now next before after last editor new number rest line following memory refusal memory' refusal' answer h cut shorter step wrote quiet m r = record {
+play-more script old now next before after last editor new number rest line following memory refusal memory' refusal' answer h cut shorter step text wrote quiet m r = record {
   front = h.front ++ line ∷ [];
   answers = h.answers ++ answer ∷ [];
   lines = h.lines ∙ ap (λ x. h.front ++ x) cut ∙ sym (append_assoc h.front (line ∷ []) (lines_of following));
-  played = plays-push (world new_editor old) h.front h.answers (world editor now) (world new next) line answer h.played step;
+  played = plays-push (begun_in old) h.front h.answers (placed editor now) (placed new next) line answer h.played step;
+  are_text = all-push h.answers answer h.are_text text;
   counted = omega (arith, h.counted, length-append h.answers (answer ∷ []));
   written =
       let numbered : number + 1 ≡ 1 + length h.answers = omega (arith, h.counted) in
@@ -115,40 +131,42 @@ play-more script old now next before after last editor new number rest line foll
 }
 
 -- every line was played
-pub play-ended : (script : List ℕ) (old now : FilesState) (before after : OutState) (editor : EditorState) (number : ℕ) (rest : List ℕ) (memory refusal : Bool) (status : Status) →
+pub play-ended : (script : List ℕ) (old now : Surroundings) (before after : OutState) (editor : EditorState) (number : ℕ) (rest : List ℕ) (memory refusal : Bool) (status : Status) →
     IsPlaying script old now before after editor number rest memory refusal → rest ≡ [] →
     status ≡ cond memory Memory (cond refusal Refused Done) →
     IsWhole script old now before.bytes after.bytes status
 play-ended script old now before after editor number rest memory refusal status h none ended = record {
   answers = h.answers;
-  end_world = world editor now;
+  end_world = placed editor now;
   played =
-      let P : List (List ℕ) → Type 0 = λ ls. Plays (world new_editor old) ls h.answers (world editor now) in
+      let P : List (List ℕ) → Type 0 = λ ls. Plays (begun_in old) ls h.answers (placed editor now) in
       let all : h.front ≡ lines_of script = sym (append-nil h.front) ∙ ap (λ r. h.front ++ lines_of r) (sym none) ∙ sym h.lines in
       subst P all h.played;
-  files_are = refl;
+  left = refl;
+  are_text = h.are_text;
   written = h.written;
   ended = ended ∙ ap (λ b. cond b Memory (cond refusal Refused Done)) h.memory_is
       ∙ ap (λ b. cond (list_any wants_memory h.answers) Memory (cond b Refused Done)) h.refusal_is;
 }
 
 -- one more line was played, and only a part of its reply's text was written
-pub play-stopped : (script : List ℕ) (old now next : FilesState) (before after last : OutState) (editor new : EditorState) (number : ℕ) (rest line following : List ℕ)
+pub play-stopped : (script : List ℕ) (old now next : Surroundings) (before after last : OutState) (editor new : EditorState) (number : ℕ) (rest line following : List ℕ)
     (memory refusal : Bool) (answer : Reply) →
     IsPlaying script old now before after editor number rest memory refusal →
     lines_of rest ≡ line ∷ lines_of following →
-    LineStep (world editor now) line answer (world new next) →
+    LineStep (placed editor now) line answer (placed new next) → ReplyIsText answer →
     AppendsPrefix after.bytes (reply_text (number + 1) answer) last.bytes →
     IsCutOff script old next before.bytes last.bytes
-play-stopped script old now next before after last editor new number rest line following memory refusal answer h cut step wrote = record {
+play-stopped script old now next before after last editor new number rest line following memory refusal answer h cut step text wrote = record {
   front = h.front ++ line ∷ [];
   rest = lines_of following;
   answers = h.answers;
   last = answer;
-  end_world = world new next;
+  end_world = placed new next;
   lines = h.lines ∙ ap (λ x. h.front ++ x) cut ∙ sym (append_assoc h.front (line ∷ []) (lines_of following));
-  played = plays-push (world new_editor old) h.front h.answers (world editor now) (world new next) line answer h.played step;
-  files_are = refl;
+  played = plays-push (begun_in old) h.front h.answers (placed editor now) (placed new next) line answer h.played step;
+  left = refl;
+  are_text = all-push h.answers answer h.are_text text;
   part = wrote.0;
   missing = wrote.1;
   parted =
@@ -156,3 +174,30 @@ play-stopped script old now next before after last editor new number rest line f
       ap (λ n. reply_text n answer) numbered ∙ wrote.2;
   written = appends-more before.bytes after.bytes last.bytes (texts_from 1 h.answers) wrote.0 h.written wrote.3;
 }
+
+-- ---- what a write answers
+
+abbrev Answer : Type 0
+Answer = Result (Unit {0}) OutFault
+
+pub refused-part : (result : Answer) (fault : OutFault) (before after : Option (List ℕ)) (text : List ℕ) → result ≡ Err fault → WritesInParts result before text after → AppendsPrefix before text after
+refused-part result fault before after text e h = let P : Answer → Type 0 = λ r. WritesInParts r before text after in subst P e h
+
+-- the play ends where a write was refused
+pub play-refused : (script : List ℕ) (old new : Surroundings) (before was after : OutState) (result : Answer) (fault : OutFault) (status : Status) →
+    result ≡ Err fault → was.faults ≡ before.faults → IsCutOff script old new before.bytes after.bytes → CountsOutFault result was.faults after.faults →
+    status ≡ stop_status fault → IsPlayOf script old new before after status
+play-refused script old new before was after result fault status e quiet cut counts ended =
+    let P : Answer → Type 0 = λ r. CountsOutFault r was.faults after.faults in
+    let Q : Status → Type 0 = λ s. IsPlayOf script old new before after s in
+    subst Q (sym ended) (by_fault fault (subst P e counts))
+  where
+    by_fault : (x : OutFault) → CountsOutFault {A = Unit {0}} (Err x) was.faults after.faults → IsPlayOf script old new before after (stop_status x)
+    by_fault Failed rose = let R : ℕ → Type 0 = λ n. Rose n after.faults in (cut, subst R quiet rose)
+    by_fault NoMemory same = (inr (inl cut), same ∙ quiet)
+
+pub done-whole : (result : Answer) (done : Unit {0}) (before after : Option (List ℕ)) (text : List ℕ) → result ≡ Ok done → WritesInParts result before text after → Appends before text after
+done-whole result done before after text e h = let P : Answer → Type 0 = λ r. WritesInParts r before text after in subst P e h
+
+pub done-stays : (result : Answer) (done : Unit {0}) (before after : ℕ) → result ≡ Ok done → CountsOutFault result before after → after ≡ before
+done-stays result done before after e h = let P : Answer → Type 0 = λ r. CountsOutFault r before after in subst P e h

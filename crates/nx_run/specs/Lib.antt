@@ -1,6 +1,6 @@
 pub mod Codes
-pub mod Editor
-pub mod Step
+pub mod Output
+pub mod Surroundings
 pub mod Words
 pub mod Script
 pub mod Play

@@ -1,11 +1,12 @@
--- A whole run of the program: its words, files and an output before and after it, and its status.
-use Rattle.std.specs.Prelude.{◌≡◌, ℕ, ◌⊎◌, List}
+-- A whole run of the program: its words, the files, an output and the count of tokens before and after it, and its status.
+use Rattle.std.specs.Prelude.{◌≡◌, ℕ, ◌⊎◌, List, Some, IsUtf8}
 use Rattle.nx_host.specs.Count.{Rose}
 use Rattle.nx_host.specs.Out.{Appends, AppendsPrefix}
 use Rattle.nx_run.specs.declared.script.ScriptRefusal.{ScriptRefusal}
 use Rattle.nx_run.specs.declared.status.Status.{Status}
 use Rattle.nx_run.specs.declared.status.Status.TheVariants.{Done, Refused, Words, Script, Output, Memory}
-use Rattle.nx_run.specs.Editor.{FilesState, OutState}
+use Rattle.nx_run.specs.Output.{OutState}
+use Rattle.nx_run.specs.Surroundings.{Surroundings}
 use Rattle.nx_run.specs.Words.{NamesScript, usage_line}
 use Rattle.nx_run.specs.Script.{IsScript, HoldsOfScript, refusal_line}
 use Rattle.nx_run.specs.Play.{IsPlayOf, IsUnbegun}
@@ -23,36 +24,37 @@ abbrev pub StarvesLine : List ℕ → OutState → OutState → Type 0
 StarvesLine line before after = AppendsPrefix before.bytes line after.bytes × (after.faults ≡ before.faults)
 
 -- the words name no script, which the usage line says
-pub record IsMisused (words : List (List ℕ)) (old new : FilesState) (says : List ℕ → Type 0) : Type 0 where
+pub record IsMisused (words : List (List ℕ)) (old new : Surroundings) (says : List ℕ → Type 0) : Type 0 where
   pub words_are_wrong : (word : List ℕ) → NamesScript words word → ⊥
-  pub files_stay : new ≡ old
+  pub all_stays : new ≡ old
   pub said : says usage_line
 
 -- the words name a script that can't be read, which a line says
-pub record IsUnread (words : List (List ℕ)) (old new : FilesState) (says : List ℕ → Type 0) : Type 0 where
+pub record IsUnread (words : List (List ℕ)) (old new : Surroundings) (says : List ℕ → Type 0) : Type 0 where
   pub word : List ℕ
   pub named : NamesScript words word
   pub cause : ScriptRefusal
-  pub holds : HoldsOfScript cause word old new
+  pub holds : HoldsOfScript cause word old.files new.files
+  pub no_steps : new.steps ≡ old.steps
   pub said : says (refusal_line cause)
 
 -- the words name a script that was played
-pub record IsPlayed (words : List (List ℕ)) (old new : FilesState) (before after : OutState) (status : Status) : Type 0 where
+pub record IsPlayed (words : List (List ℕ)) (old new : Surroundings) (before after : OutState) (status : Status) : Type 0 where
   pub word : List ℕ
   pub named : NamesScript words word
   pub script : List ℕ
-  pub is_script : IsScript word old script
+  pub is_script : IsScript word old.files script
   pub play : IsPlayOf script old new before after status
 
 -- the words name a script, and there was no memory to read it
-pub record IsStarved (words : List (List ℕ)) (old new : FilesState) (before after : OutState) : Type 0 where
+pub record IsStarved (words : List (List ℕ)) (old new : Surroundings) (before after : OutState) : Type 0 where
   pub word : List ℕ
   pub named : NamesScript words word
   pub unbegun : IsUnbegun old new before.bytes after.bytes
   pub no_fault : after.faults ≡ before.faults
 
 -- What a run does, by the status that it ends with. A status that stands under several cases has one of them.
-abbrev pub IsRunOf : List (List ℕ) → FilesState → FilesState → OutState → OutState → Status → Type 0
+abbrev pub IsRunOf : List (List ℕ) → Surroundings → Surroundings → OutState → OutState → Status → Type 0
 IsRunOf words old new before after Words = IsMisused words old new (λ line. WritesLine line before after)
 IsRunOf words old new before after Script = IsUnread words old new (λ line. WritesLine line before after)
 IsRunOf words old new before after Done = IsPlayed words old new before after Done
@@ -73,3 +75,18 @@ SaysLine line meant status before after =
     ((status ≡ meant) × WritesLine line before after)
     ⊎ ((status ≡ Output) × FailsLine line before after)
     ⊎ ((status ≡ Memory) × StarvesLine line before after)
+
+-- a run that wasn't stopped
+abbrev pub IsToTheEnd : Status → Type 0
+IsToTheEnd Done = Unit {0}
+IsToTheEnd Refused = Unit {0}
+IsToTheEnd Words = Unit {0}
+IsToTheEnd Script = Unit {0}
+IsToTheEnd Output = ⊥
+IsToTheEnd Memory = ⊥
+
+-- what such a run writes is UTF-8
+abbrev pub RunsPrintText : Type 0
+RunsPrintText = (words : List (List ℕ)) (old new : Surroundings) (before after : OutState) (status : Status) (front : List ℕ) →
+    IsRunOf words old new before after status → IsToTheEnd status → before.bytes ≡ Some front → IsUtf8 front →
+    (whole : List ℕ) × (after.bytes ≡ Some whole) × IsUtf8 whole

@@ -1,13 +1,15 @@
 -- The script that a word names.
-use Rattle.std.specs.Prelude.{◌≡◌, ℕ, List, codes, Some, None, Result, Ok, Err, IsUtf8}
+use Rattle.std.specs.Prelude.{◌≡◌, ℕ, List, ◌++◌, codes, Some, None, Result, Ok, Err, IsUtf8}
+use Rattle.std.specs.Fmt.{decimal}
 use Rattle.nx_host.specs.Count.{Rose}
 use Rattle.nx_host.specs.Files.{Holds}
 use Rattle.nx_host.specs.Uri.{Joins, IsBadUri}
+use Rattle.nx_host.specs.Utf8.{StopsBeingText}
 use Rattle.nx_run.specs.declared.script.ScriptRefusal.{ScriptRefusal}
 use Rattle.nx_run.specs.declared.script.ScriptRefusal.TheVariants.{BadUri, Absent, NotUtf8, Failed}
 use Rattle.nx_run.specs.declared.script.ScriptFault.{ScriptFault}
 use Rattle.nx_run.specs.declared.script.ScriptFault.TheVariants.{Refused, NoMemory}
-use Rattle.nx_run.specs.Editor.{FilesState, work_folder}
+use Rattle.nx_session.specs.Editor.{FilesState, work_folder}
 
 -- the files hold the script under the word's URI, and it is text
 pub record IsScript (word : List ℕ) (files : FilesState) (script : List ℕ) : Type 0 where
@@ -21,9 +23,9 @@ abbrev pub HoldsOfScript : ScriptRefusal → List ℕ → FilesState → FilesSt
 HoldsOfScript BadUri word old new = IsBadUri work_folder word × (new ≡ old)
 HoldsOfScript Absent word old new =
     (uri : List ℕ) × Joins work_folder word uri × Holds old.map uri None × (new ≡ old)
-HoldsOfScript NotUtf8 word old new =
+HoldsOfScript (NotUtf8 at) word old new =
     (uri bytes : List ℕ) × Joins work_folder word uri × Holds old.map uri (Some bytes) × ¬ (IsUtf8 bytes)
-    × (new ≡ old)
+    × StopsBeingText bytes at × (new ≡ old)
 HoldsOfScript Failed word old new =
     (uri : List ℕ) × Joins work_folder word uri × (new.map ≡ old.map) × Rose old.faults new.faults
 
@@ -37,5 +39,5 @@ FetchesScript word old new (Err NoMemory) = new ≡ old
 abbrev pub refusal_line : ScriptRefusal → List ℕ
 refusal_line BadUri = codes "script refused: BadUri\n"
 refusal_line Absent = codes "script refused: Absent\n"
-refusal_line NotUtf8 = codes "script refused: NotUtf8 0\n"
+refusal_line (NotUtf8 at) = codes "script refused: NotUtf8 " ++ decimal at ++ codes "\n"
 refusal_line Failed = codes "script refused: Failed\n"

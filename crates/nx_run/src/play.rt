@@ -1,19 +1,24 @@
 //! A script played line by line.
 
 ghost use Rattle.std.specs.Prelude.{◌≡◌, ◌||◌, if◌then◌else◌};
-ghost use Rattle.nx_run.specs.Editor.{files_state, out_state, world};
-ghost use Rattle.nx_run.specs.Step.{LineStep};
-ghost use Rattle.nx_run.specs.Play.{IsPlayOf, wants_memory, is_refusal};
+ghost use Rattle.nx_script.specs.Replies.{ReplyIsText};
+ghost use Rattle.nx_session.specs.Editor.{files_state, world};
+ghost use Rattle.nx_session.specs.Step.{LineStep};
+ghost use Rattle.nx_run.specs.Output.{out_state};
+ghost use Rattle.nx_run.specs.Surroundings.{surroundings};
+ghost use Rattle.nx_run.specs.Play.{IsPlayOf, stop_status, wants_memory, is_refusal};
 
-use crate::session::Session;
 use crate::status::Status;
+use nx_base::steps::Steps;
 use nx_host::files::Files;
 use nx_host::out::{Out, OutFault};
 use nx_script::line::split_line;
 use nx_script::read::{ScriptFault, read_line};
 use nx_script::reply::{Refusal, Reply};
 use nx_script::write::write_reply;
+use nx_session::session::Session;
 use std::alloc::Global;
+use std::sync::ledger::Ledger;
 
 /// Which refusals the replies so far had.
 #[derive(Clone, Copy)]
@@ -43,22 +48,45 @@ impl Tally {
     }
 }
 
+/// The status of a run that stops because the output refused a write.
+fn stop_status(fault: OutFault) -> Status
+    ensures { result ≡ stop_status fault }
+{
+    match fault {
+        OutFault::Failed => Status::Output,
+        OutFault::NoMemory => Status::Memory,
+    }
+}
+
 /// The editor's answer to a line.
-fn answer<F: Files>(alloc: Global, session: &mut Session, line: &str, files: &mut F) -> Reply
-    ensures { LineStep (world session.old (files_state (F.told files.old) (F.faults files.old))) line.now result
-        (world session.new (files_state (F.told files.new) (F.faults files.new))) }
+fn answer<F: Files, L: Ledger>(
+    alloc: Global,
+    session: &mut Session,
+    line: &str,
+    files: &mut F,
+    steps: &mut Steps<L>,
+) -> Reply
+    ensures step { LineStep (world session.old (files_state (F.told files.old) (F.faults files.old)) steps.old) line.now result
+        (world session.new (files_state (F.told files.new) (F.faults files.new)) steps.new) }
+    ensures text { ReplyIsText result }
 {
     match read_line(alloc, line) {
-        Ok(command) => session.apply(&command, files),
+        Ok(command) => session.apply(&command, files, steps),
         Err(ScriptFault::BadCommand) => Reply::Refused(Refusal::BadCommand),
         Err(ScriptFault::NoMemory) => Reply::Refused(Refusal::NoMemory),
     }
 }
 
 /// Plays the script from a new editor, and writes the text of each reply.
-pub fn play<F: Files, O: Out>(alloc: Global, script: &str, files: &mut F, out: &mut O) -> Status
-    ensures { IsPlayOf script.now (files_state (F.told files.old) (F.faults files.old))
-        (files_state (F.told files.new) (F.faults files.new))
+pub fn play<F: Files, O: Out, L: Ledger>(
+    alloc: Global,
+    script: &str,
+    files: &mut F,
+    out: &mut O,
+    steps: &mut Steps<L>,
+) -> Status
+    ensures { IsPlayOf script.now (surroundings (files_state (F.told files.old) (F.faults files.old)) steps.old)
+        (surroundings (files_state (F.told files.new) (F.faults files.new)) steps.new)
         (out_state (O.told out.old) (O.faults out.old)) (out_state (O.told out.new) (O.faults out.new)) result }
 {
     let Ok(mut session) = Session::new(alloc) else {
@@ -73,12 +101,13 @@ pub fn play<F: Files, O: Out>(alloc: Global, script: &str, files: &mut F, out: &
     while !rest.is_empty() {
         let (line, following) = split_line(rest);
         number += 1;
-        let reply = answer(alloc, &mut session, line, files);
+        let reply = answer(alloc, &mut session, line, files, steps);
         tally.note(&reply);
-        match write_reply(alloc, out, number, &reply) {
+        let written = write_reply(alloc, out, number, &reply);
+        drop(reply);
+        match written {
             Ok(()) => {}
-            Err(OutFault::Failed) => return Status::Output,
-            Err(OutFault::NoMemory) => return Status::Memory,
+            Err(fault) => return stop_status(fault),
         }
         rest = following;
     }

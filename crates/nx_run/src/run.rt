@@ -1,33 +1,56 @@
 //! The run of a script, from the program's words to the bytes written.
 
 ghost use Rattle.std.specs.Prelude.{◌≡◌, List, ℕ};
-ghost use Rattle.nx_run.specs.Editor.{files_state, out_state};
+ghost use Rattle.nx_session.specs.Editor.{files_state};
+ghost use Rattle.nx_run.specs.Output.{out_state};
+ghost use Rattle.nx_run.specs.Surroundings.{surroundings};
 ghost use Rattle.nx_run.specs.Run.{IsRunOf, SaysLine};
+ghost use Rattle.nx_run.specs.Script.{refusal_line};
 
 use crate::play::play;
-use crate::script::{ScriptFault, fetch_script};
+use crate::script::{ScriptFault, ScriptRefusal, fetch_script};
 use crate::status::Status;
-use crate::text_of::text_of;
 use crate::words::{USAGE, script_word};
+use nx_base::memory::NoMemory;
 use nx_base::sequence::Bytes;
+use nx_base::steps::Steps;
 use nx_host::files::Files;
 use nx_host::out::{Out, OutFault};
+use nx_host::utf8::text_of;
 use std::alloc::Global;
+use std::sync::ledger::Ledger;
 
 /// Runs the script that the words name, and writes what it asks for. The words are those behind the
-/// program's name.
-pub fn run<F: Files, O: Out>(alloc: Global, words: &[Bytes], files: &mut F, out: &mut O) -> Status
-    ensures { IsRunOf words.now (files_state (F.told files.old) (F.faults files.old))
-        (files_state (F.told files.new) (F.faults files.new))
+/// program's name. The steps rise by the tokens that were cut.
+pub fn run<F: Files, O: Out, L: Ledger>(
+    alloc: Global,
+    words: &[Bytes],
+    files: &mut F,
+    out: &mut O,
+    steps: &mut Steps<L>,
+) -> Status
+    ensures { IsRunOf words.now (surroundings (files_state (F.told files.old) (F.faults files.old)) steps.old)
+        (surroundings (files_state (F.told files.new) (F.faults files.new)) steps.new)
         (out_state (O.told out.old) (O.faults out.old)) (out_state (O.told out.new) (O.faults out.new)) result }
 {
     let Some(word) = script_word(words) else {
         return write_line(alloc, USAGE, Status::Words, out);
     };
     match fetch_script(alloc, word, files) {
-        Ok(script) => play(alloc, text_of(&script), files, out),
-        Err(ScriptFault::Refused(cause)) => write_line(alloc, cause.line(), Status::Script, out),
+        Ok(script) => play(alloc, text_of(&script), files, out, steps),
+        Err(ScriptFault::Refused(cause)) => refuse(alloc, cause, out),
         Err(ScriptFault::NoMemory) => Status::Memory,
+    }
+}
+
+/// Writes why the script can't be read, and answers the status that the run ends with.
+fn refuse<O: Out>(alloc: Global, cause: ScriptRefusal, out: &mut O) -> Status
+    ensures { SaysLine (refusal_line cause) Status.Script result (out_state (O.told out.old) (O.faults out.old))
+        (out_state (O.told out.new) (O.faults out.new)) }
+{
+    match cause.line(alloc) {
+        Ok(line) => write_line(alloc, line.as_str(), Status::Script, out),
+        Err(NoMemory) => Status::Memory,
     }
 }
 

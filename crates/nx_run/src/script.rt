@@ -1,13 +1,14 @@
 //! The script's text, fetched by the word that names it.
 
-ghost use Rattle.std.specs.Prelude.{◌≡◌, IfOk};
-ghost use Rattle.nx_run.specs.Editor.{files_state};
+ghost use Rattle.std.specs.Prelude.{◌≡◌, IfOk, string_bytes};
+ghost use Rattle.nx_session.specs.Editor.{files_state};
 ghost use Rattle.nx_run.specs.Script.{FetchesScript, refusal_line};
 
-use crate::text_of::text_of;
+use nx_base::memory::NoMemory;
 use nx_base::sequence::Bytes;
 use nx_host::files::{FileFault, Files};
 use nx_host::uri::{self, UriFault, WORK_FOLDER};
+use nx_host::utf8::{text_front, text_of};
 use std::alloc::Global;
 use std::str;
 
@@ -18,8 +19,8 @@ pub enum ScriptRefusal {
     BadUri,
     /// There is no such file.
     Absent,
-    /// The file is no UTF-8 text.
-    NotUtf8,
+    /// The file is no UTF-8 text from this byte offset on.
+    NotUtf8(usize),
     /// The files could not fetch it.
     Failed,
 }
@@ -33,15 +34,16 @@ pub enum ScriptFault {
 
 impl ScriptRefusal {
     /// The line that is written for it.
-    pub fn line(&self) -> &'static str
-        ensures { result.now ≡ refusal_line self.now }
+    pub fn line(&self, alloc: Global) -> Result<String, NoMemory>
+        ensures { IfOk result (λ line. string_bytes line ≡ refusal_line self.now) }
     {
-        match self {
-            ScriptRefusal::BadUri => "script refused: BadUri\n",
-            ScriptRefusal::Absent => "script refused: Absent\n",
-            ScriptRefusal::NotUtf8 => "script refused: NotUtf8 0\n",
-            ScriptRefusal::Failed => "script refused: Failed\n",
-        }
+        let line = match self {
+            ScriptRefusal::BadUri => String::from_str(alloc, "script refused: BadUri\n"),
+            ScriptRefusal::Absent => String::from_str(alloc, "script refused: Absent\n"),
+            ScriptRefusal::NotUtf8(at) => format!(in alloc; "script refused: NotUtf8 {at}\n"),
+            ScriptRefusal::Failed => String::from_str(alloc, "script refused: Failed\n"),
+        };
+        Ok(line?)
     }
 }
 
@@ -69,6 +71,9 @@ pub fn fetch_script<F: Files>(
     };
     match str::from_utf8(script.as_slice()) {
         Ok(_) => Ok(script),
-        Err(_) => Err(ScriptFault::Refused(ScriptRefusal::NotUtf8)),
+        Err(_) => {
+            let at = text_front(script.as_slice());
+            Err(ScriptFault::Refused(ScriptRefusal::NotUtf8(at)))
+        }
     }
 }

@@ -1,15 +1,20 @@
 //! Whole runs over files and outputs in memory, against what the script's user is promised.
 
+ghost use Rattle.std.specs.Prelude.{◌≡◌, ◌<◌};
+
 use crate::run::run;
 use crate::status::Status;
 use nx_base::memory::NoMemory;
 use nx_base::sequence::Bytes;
+use nx_base::steps::Steps;
 use nx_host::files::Files;
 use nx_host::memory_files::{MemFiles, SureFiles};
 use nx_host::memory_out::{MemOut, SureOut};
 use nx_host::out::Out;
 use std::alloc::Global;
+use std::marker::Brand;
 use std::process::Abort;
+use std::sync::ledger::{Blank, Ledger};
 use std::test::Fail;
 
 const SCRIPT: &str = "file:///work/run.nxs";
@@ -21,7 +26,7 @@ struct Row {
     status: Status,
 }
 
-const ROWS: [Row; 11] = [
+const ROWS: [Row; 24] = [
     Row {
         script: "insert 0 \"ab\"\ndelete 0 1\nprint\n",
         output: "b\n",
@@ -77,6 +82,71 @@ const ROWS: [Row; 11] = [
         output: "",
         status: Status::Done,
     },
+    Row {
+        script: "insert 0 \"<a><b></a>\"\nerrors\n",
+        output: "errors: 1\n6-10 MissingEnd b\n",
+        status: Status::Done,
+    },
+    Row {
+        script: "insert 0 \"<a x='1' x='2'>&nbsp;</a>\"\nerrors\n",
+        output: "errors: 2\n9-14 DuplicateAttribute x\n15-21 BadReference\n",
+        status: Status::Done,
+    },
+    Row {
+        script: "insert 0 \"<a><b </a>\"\nerrors\n",
+        output: "errors: 1\n3-6 BadMarkup\n",
+        status: Status::Done,
+    },
+    Row {
+        script: "insert 0 \"<a/><b/>\"\nerrors\n",
+        output: "errors: 1\n4-8 SecondRoot b\n",
+        status: Status::Done,
+    },
+    Row {
+        script: "insert 0 \"<p:a/>\"\nerrors\n",
+        output: "errors: 1\n0-6 UndeclaredPrefix p\n",
+        status: Status::Done,
+    },
+    Row {
+        script: "open \"b.xml\"\nerrors\n",
+        output: "line 1 refused: NotUtf8 file:///work/b.xml 3\nerrors: 1\n0-0 NoRoot\n",
+        status: Status::Refused,
+    },
+    Row {
+        script: "open \"c.xml\"\n",
+        output: "line 1 refused: NotUtf8 file:///work/c.xml 3\n",
+        status: Status::Refused,
+    },
+    Row {
+        script: "insert 0 \"<doc id='a'><title>T\"\nerrors\n",
+        output: "errors: 2\n20-20 UnclosedElement title\n20-20 UnclosedElement doc\n",
+        status: Status::Done,
+    },
+    Row {
+        script: "insert 0 \"<doc id='a'><!-- x\"\nerrors\n",
+        output: "errors: 2\n12-18 Unclosed\n18-18 UnclosedElement doc\n",
+        status: Status::Done,
+    },
+    Row {
+        script: "insert 0 \"<?xml version=\\\"1.0\\\" encoding=\\\"UTF-8\\\"?>\\n<?xml-stylesheet type='text/css' href='s.css'?>\\n<!-- c -->\\n<doc id='a'>\\n  <title>A &amp; B</title>\\n  <para>x &#233; <![CDATA[<y>]]></para>\\n</doc>\\n\"\nerrors\n",
+        output: "errors: 0\n",
+        status: Status::Done,
+    },
+    Row {
+        script: "insert 0 \"<a><b></a>\"\nerrors\ndelete 3 6\nerrors\ninsert 7 \"<\\u{e9}/>\"\nerrors\nprint\n",
+        output: "errors: 1\n6-10 MissingEnd b\nerrors: 0\nerrors: 1\n7-12 SecondRoot é\n<a></a><é/>\n",
+        status: Status::Done,
+    },
+    Row {
+        script: "open \"d.xml\"\nopen \"none.xml\"\nopen \"http://[\"\nopen \"b.xml\"\nerrors\nprint\nopen \"run.nxs\"\nopen \"d.xml\"\nprint\n",
+        output: "line 2 refused: Absent file:///work/none.xml\nline 3 refused: BadUri\nline 4 refused: NotUtf8 file:///work/b.xml 3\nerrors: 0\n<d/>\n\n<d/>\n\n",
+        status: Status::Refused,
+    },
+    Row {
+        script: "open \"d.xml\"\ninsert 0 \"<!--\\u{10ffff}-->\"\nsave \"o.xml\"\nopen \"o.xml\"\nerrors\nerrors 1\nopen d.xml\n",
+        output: "errors: 0\nline 6 refused: BadCommand\nline 7 refused: BadCommand\n",
+        status: Status::Refused,
+    },
 ];
 
 fn words_of(alloc: Global, texts: &[&str]) -> Result<Vec<Bytes>, NoMemory> {
@@ -87,18 +157,47 @@ fn words_of(alloc: Global, texts: &[&str]) -> Result<Vec<Bytes>, NoMemory> {
     Ok(words)
 }
 
+/// A run that counts no tokens for anyone.
+fn run_words<F: Files, O: Out>(
+    alloc: Global,
+    words: &[Bytes],
+    files: &mut F,
+    out: &mut O,
+) -> Status {
+    run_counting::<F, O, Brand>(alloc, words, files, out, Blank::new(1))
+}
+
+fn run_counting<F: Files, O: Out, L: Ledger>(
+    alloc: Global,
+    words: &[Bytes],
+    files: &mut F,
+    out: &mut O,
+    blank: Blank,
+) -> Status
+    requires name { blank.name ≡ L.name }
+    requires parts { blank.parts ≡ L.parts }
+    requires some { 0 < L.parts }
+{
+    let mut steps = Steps::<L>::new(blank);
+    run(alloc, words, files, out, &mut steps)
+}
+
 fn run_script<F: Files, O: Out>(
     alloc: Global,
     files: &mut F,
     out: &mut O,
 ) -> Result<Status, NoMemory> {
     let words = words_of(alloc, &["run.nxs"])?;
-    Ok(run(alloc, words.as_slice(), files, out))
+    Ok(run_words(alloc, words.as_slice(), files, out))
 }
 
+/// The script, and documents beside it.
 fn files_with(alloc: Global, script: &[u8]) -> Result<SureFiles, NoMemory> {
     let mut files = SureFiles::new(alloc);
     files.add(SCRIPT, script)?;
+    files.add("file:///work/b.xml", &[0x61, 0xe2, 0x82, 0x41])?;
+    files.add("file:///work/c.xml", &[0x61, 0xe2, 0x82])?;
+    files.add("file:///work/d.xml", b"<d/>\n")?;
     Ok(files)
 }
 
@@ -190,11 +289,16 @@ fn saved_texts_are_there(rt: HostRuntime) -> Result<(), Fail> {
 /// Each call on files fails in turn.
 #[test]
 fn failing_files_are_told(rt: HostRuntime) -> Result<(), Fail> {
-    let script = "insert 0 \"x\"\nsave \"o.xml\"\nprint\n";
+    let script = "insert 0 \"x\"\nsave \"o.xml\"\nopen \"run.nxs\"\ndelete 1 59\nprint\n";
     for (number, output, status) in [
         (1u64, "script refused: Failed\n", Status::Script),
-        (2, "line 2 refused: Failed\nx\n", Status::Refused),
-        (3, "x\n", Status::Done),
+        (2, "line 2 refused: Failed\ni\n", Status::Refused),
+        (
+            3,
+            "line 3 refused: Failed\nline 4 refused: BadPosition 59 1\nx\n",
+            Status::Refused,
+        ),
+        (4, "i\n", Status::Done),
     ] {
         let mut files = MemFiles::new(rt.alloc(), &[number])?;
         files.add(SCRIPT, script.as_bytes())?;
@@ -230,7 +334,7 @@ fn what_is_no_script_is_refused(rt: HostRuntime) -> Result<(), Fail> {
     refused(
         &rt,
         &["run.nxs"],
-        "script refused: NotUtf8 0\n",
+        "script refused: NotUtf8 3\n",
         Status::Script,
     )
 }
@@ -244,7 +348,7 @@ fn refused<R: AllocGlobal + Abort>(
     let words = words_of(rt.alloc(), texts)?;
     let mut files = files_with(rt.alloc(), &[b'p', 0xe2, 0x82])?;
     let mut out = SureOut::new(rt.alloc());
-    let ended = run(rt.alloc(), words.as_slice(), &mut files, &mut out);
+    let ended = run_words(rt.alloc(), words.as_slice(), &mut files, &mut out);
     assert_eq!(rt; out.bytes(), output.as_bytes());
     assert_eq!(rt; ended, status);
     Ok(())

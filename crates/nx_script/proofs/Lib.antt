@@ -1,6 +1,7 @@
 pub mod Blanks
 pub mod Cutting
 pub mod Numbers
+pub mod Printed
 pub mod Reader
 pub mod Texts
 pub mod Writing

@@ -1,5 +1,5 @@
 -- Numbers, as their digits are read.
-use Rattle.std.proofs.Common.{◌≡◌, ℕ, ◌+◌, ◌-◌, ◌*◌, ◌^◌, ◌<◌, ◌≤◌, true, false, cond, eqb, ltb, List, [], ◌∷◌, ◌++◌, length, get_or, take, drop, Option, Some, None, refl, sym, ap, ◌∙◌, arith, inl, inr, append_assoc}
+use Rattle.std.proofs.Common.{◌≡◌, ℕ, zero, suc, ◌+◌, ◌-◌, ◌*◌, ◌^◌, ◌<◌, ◌≤◌, true, false, cond, eqb, ltb, List, [], ◌∷◌, ◌++◌, length, get_or, take, drop, Option, Some, None, refl, sym, ap, ◌∙◌, arith, inl, inr, append_assoc}
 use Rattle.std.specs.List.{prefix_len}
 use Rattle.std.specs.Char.{is_ascii_digit, digit_value}
 use Rattle.std.specs.Int.{IsInRange}
@@ -9,7 +9,8 @@ use Rattle.std.proofs.lemmas.Option.{some_pair_parts}
 use Rattle.std.proofs.lemmas.List.Folds.{length-prefix_len}
 use Rattle.std.proofs.lemmas.Bool.{eqb-false, ne_eqb, le-ltb, ltb-false}
 use Rattle.std.proofs.lemmas.Bool.Decides.{nat_tests}
-use Rattle.std.proofs.lemmas.Int.Digits.{digits_value_more}
+use Rattle.std.proofs.lemmas.Int.Digits.{digits_value_more, digits_value-lt}
+use Rattle.std.proofs.Math.Nat.{pow-le-pow_right}
 use Rattle.std.proofs.lemmas.Str.Parse.{digit_from_value, digit_at, numerals_by_value, tells_digits, digits_value_short, digits_value-take-le}
 use Rattle.nx_script.specs.Grammar.{IsBlank, IsGap, IsNumber}
 use Rattle.nx_script.specs.Reading.{is_blank, digits_at, number_at, after_gap}
@@ -29,6 +30,23 @@ number_more digits i number all short lt is =
     let least = digits_value-take-le 10 digits (i + 1) (omega arith) in
     let fits = digits_value_short (numerals_by_value (AllDigits 10) tells_digits) digits 19 all short in
     (same, omega (arith, same, least, fits), (digit_at digits i all lt).0)
+
+all_at : (digits : List ℕ) (i : ℕ) → AllDigits 16 digits → i < length digits → digit_value (get_or digits i 0) < 16
+all_at [] i h lt = absurd (omega arith)
+all_at (c ∷ digits) zero h lt = h.0
+all_at (c ∷ digits) (suc i) h lt = all_at digits i h.1 (omega arith)
+
+-- the same of a code in hexadecimal digits
+pub code_more : (digits : List ℕ) (i code : ℕ) → AllDigits 16 digits → length digits ≤ 6 → i < length digits → code ≡ digits_value 16 (take i digits)
+    → (code * 16 + digit_value (get_or digits i 0) ≡ digits_value 16 (take (i + 1) digits)) × (code * 16 + digit_value (get_or digits i 0) < 2 ^ 24) × (digit_value (get_or digits i 0) < 16)
+code_more digits i code all short lt is =
+    let more = digits_value_more 16 digits i lt in
+    let same : code * 16 + digit_value (get_or digits i 0) ≡ digits_value 16 (take (i + 1) digits) = omega (arith, more, is) in
+    let least = digits_value-take-le 16 digits (i + 1) (omega arith) in
+    let some : 0 < 16 = omega arith in
+    let most : 16 ^ length digits ≤ 16 ^ 6 = pow-le-pow_right some short in
+    let fits = digits_value-lt 16 digits all in
+    (same, omega (arith, same, least, fits, most), all_at digits i all lt)
 
 -- ---- between the test of a digit and its value
 

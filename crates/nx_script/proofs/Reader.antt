@@ -7,12 +7,12 @@ use Rattle.std.proofs.lemmas.Option.{same_Some, cond_some}
 use Rattle.std.proofs.lemmas.Bool.{eqb-true, eq-eqb, and_parts, not-true}
 use Rattle.std.proofs.lemmas.Slice.Eq.{bytes_eq-Decides}
 use Rattle.nx_script.specs.declared.command.Command.{Command}
-use Rattle.nx_script.specs.declared.command.Command.TheVariants.{Nothing, Save, Insert, Delete, Print}
+use Rattle.nx_script.specs.declared.command.Command.TheVariants.{Nothing, OpenFile, Save, Insert, Delete, Print, Errors}
 use Rattle.nx_script.specs.declared.read.ScriptFault.{ScriptFault}
 use Rattle.nx_script.specs.declared.read.ScriptFault.TheVariants.{BadCommand, NoMemory}
-use Rattle.nx_script.specs.Grammar.{IsBlanks, IsNothingLine, IsSaveLine, IsInsertLine, IsDeleteLine, IsPrintLine, IsLine, ReadsLine}
+use Rattle.nx_script.specs.Grammar.{IsBlanks, IsNothingLine, IsOpenLine, IsSaveLine, IsInsertLine, IsDeleteLine, IsPrintLine, IsErrorsLine, IsLine, ReadsLine}
 use Rattle.nx_script.specs.Commands.{HasUtf8Texts}
-use Rattle.nx_script.specs.Reading.{Finds, ◌>>=◌, is_blank, after_blanks, number_at, text_at, ended, save_of, insert_of, delete_of, print_of, command_of, command_at, line_command}
+use Rattle.nx_script.specs.Reading.{Finds, ◌>>=◌, is_blank, after_blanks, number_at, text_at, ended, open_of, save_of, insert_of, delete_of, print_of, errors_of, command_of, command_at, line_command}
 use Rattle.nx_script.proofs.Blanks.{chosen, found_step, Pass-from_test, FirstFails, prefix_len_is, front_passes, IsBlanks-pass, pass-IsBlanks, test-IsBlank, after_blanks_is, after_blanks_leaves, Ends, tail_ends}
 use Rattle.nx_script.proofs.Numbers.{number_at_is, number_at_takes}
 use Rattle.nx_script.proofs.Texts.{text_at_is, text_at_takes, word_utf8}
@@ -72,6 +72,12 @@ unfolding line_command command_at
 nothing_is line (inl blanks) = ap command_at (ap after_blanks (sym (append-nil line)) ∙ after_blanks_is line [] blanks tt)
 nothing_is line (inr (blanks, rest, e, b)) = ap command_at (ap after_blanks (e ∙ append_assoc blanks (35 ∷ []) rest) ∙ after_blanks_is blanks (35 ∷ rest) b refl)
 
+open_is : (line uri : List ℕ) → IsOpenLine uri line → line_command line ≡ Some (OpenFile uri)
+unfolding command_of open_of
+open_is line uri (text, t, (blanks, rest, e, b, (gap, end, e1, g, last))) =
+    verb_read line (codes "open") rest blanks refl e b (tail_ends (text ∷ []) rest (gap, end, e1, g, last))
+    ∙ rw (e1, text_at_is gap text end uri g t) (ended_is (OpenFile uri) end last)
+
 save_is : (line uri : List ℕ) → IsSaveLine uri line → line_command line ≡ Some (Save uri)
 unfolding command_of save_of
 save_is line uri (text, t, (blanks, rest, e, b, (gap, end, e1, g, last))) =
@@ -94,14 +100,28 @@ print_is : (line : List ℕ) → IsPrintLine line → line_command line ≡ Some
 unfolding command_of print_of
 print_is line (blanks, rest, e, b, last) = verb_read line (codes "print") rest blanks refl e b (tail_ends [] rest last) ∙ ended_is Print rest last
 
+errors_is : (line : List ℕ) → IsErrorsLine line → line_command line ≡ Some Errors
+unfolding command_of errors_of
+errors_is line (blanks, rest, e, b, last) = verb_read line (codes "errors") rest blanks refl e b (tail_ends [] rest last) ∙ ended_is Errors rest last
+
 pub line_is : (line : List ℕ) (command : Command) → IsLine line command → line_command line ≡ Some command
 line_is line Nothing h = nothing_is line h
+line_is line (OpenFile uri) h = open_is line uri h
 line_is line (Save uri) h = save_is line uri h
 line_is line (Insert at added) h = insert_is line at added h
 line_is line (Delete from to) h = delete_is line from to h
 line_is line Print h = print_is line h
+line_is line Errors h = errors_is line h
 
 -- ---- what is read is the line's command
+
+open_takes : (line blanks rest : List ℕ) (c : Command) → line ≡ blanks ++ codes "open" ++ rest → IsBlanks blanks → open_of rest ≡ Some c → IsLine line c
+unfolding open_of
+open_takes line blanks rest c e b h =
+    let uri = found_step (text_at rest) (λ x. ended (OpenFile x.0) x.1) c h in
+    let text = text_at_takes rest uri.0.0 uri.0.1 uri.1 in
+    let end = ended_takes (OpenFile uri.0.0) uri.0.1 c uri.2 in
+    subst (IsLine line) end.0 (text.1, text.4, (blanks, rest, e, b, (text.0, uri.0.1, text.2, text.3, end.1)))
 
 save_takes : (line blanks rest : List ℕ) (c : Command) → line ≡ blanks ++ codes "save" ++ rest → IsBlanks blanks → save_of rest ≡ Some c → IsLine line c
 unfolding save_of
@@ -137,6 +157,12 @@ print_takes line blanks rest c e b h =
     let end = ended_takes Print rest c h in
     subst (IsLine line) end.0 (blanks, rest, e, b, end.1)
 
+errors_takes : (line blanks rest : List ℕ) (c : Command) → line ≡ blanks ++ codes "errors" ++ rest → IsBlanks blanks → errors_of rest ≡ Some c → IsLine line c
+unfolding errors_of
+errors_takes line blanks rest c e b h =
+    let end = ended_takes Errors rest c h in
+    subst (IsLine line) end.0 (blanks, rest, e, b, end.1)
+
 -- what is found is the line's command
 abbrev Takes : List ℕ → Option Command → Type 0
 Takes line found = (c : Command) → found ≡ Some c → IsLine line c
@@ -156,11 +182,13 @@ by_no_name line c h = absurd cc
 verb_takes : (line blanks word rest : List ℕ) → line ≡ blanks ++ word ++ rest → IsBlanks blanks → Takes line (command_of word rest)
 unfolding command_of
 verb_takes line blanks word rest e b =
-    by_name line blanks word rest (codes "save") (save_of rest) _ e (λ k c h. save_takes line blanks rest c k b h)
+    by_name line blanks word rest (codes "open") (open_of rest) _ e (λ k c h. open_takes line blanks rest c k b h)
+    (by_name line blanks word rest (codes "save") (save_of rest) _ e (λ k c h. save_takes line blanks rest c k b h)
     (by_name line blanks word rest (codes "insert") (insert_of rest) _ e (λ k c h. insert_takes line blanks rest c k b h)
     (by_name line blanks word rest (codes "delete") (delete_of rest) _ e (λ k c h. delete_takes line blanks rest c k b h)
     (by_name line blanks word rest (codes "print") (print_of rest) _ e (λ k c h. print_takes line blanks rest c k b h)
-    (by_no_name line))))
+    (by_name line blanks word rest (codes "errors") (errors_of rest) _ e (λ k c h. errors_takes line blanks rest c k b h)
+    (by_no_name line))))))
 
 command_takes : (line blanks bytes : List ℕ) (c : Command) → line ≡ blanks ++ bytes → IsBlanks blanks → command_at bytes ≡ Some c → IsLine line c
 unfolding command_at
@@ -197,6 +225,9 @@ in_line line front rest gap word end e k = e ∙ ap (λ r. front ++ r) k ∙ sim
 
 texts_utf8 : (line : List ℕ) (command : Command) → IsUtf8 line → IsLine line command → HasUtf8Texts command
 texts_utf8 line Nothing utf8 h = tt
+texts_utf8 line (OpenFile uri) utf8 (text, t, (blanks, rest, e, b, (gap, end, e1, g, last))) =
+    let front = blanks ++ codes "open" in
+    word_utf8 (front ++ gap) text end uri t (subst IsUtf8 (in_line line front rest gap text end e e1) utf8)
 texts_utf8 line (Save uri) utf8 (text, t, (blanks, rest, e, b, (gap, end, e1, g, last))) =
     let front = blanks ++ codes "save" in
     word_utf8 (front ++ gap) text end uri t (subst IsUtf8 (in_line line front rest gap text end e e1) utf8)
@@ -206,6 +237,7 @@ texts_utf8 line (Insert at added) utf8 (number, text, n, t, (blanks, rest, e, b,
     word_utf8 (front ++ gap ++ number ++ gap2) text end added t (subst IsUtf8 (in_line line (front ++ gap ++ number) more gap2 text end first e2) utf8)
 texts_utf8 line (Delete from to) utf8 h = tt
 texts_utf8 line Print utf8 h = tt
+texts_utf8 line Errors utf8 h = tt
 
 pub answer_utf8 : (line : List ℕ) (answer : Result Command ScriptFault) → IsUtf8 line → ReadsLine line answer → IfOk answer HasUtf8Texts
 answer_utf8 line (Ok command) utf8 h = texts_utf8 line command utf8 h

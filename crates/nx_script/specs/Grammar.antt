@@ -1,9 +1,10 @@
 -- The grammar of a line of a script: which command a line is.
-use Rattle.std.specs.Prelude.{◌≡◌, ◌≢◌, ℕ, ◌<◌, ◌≤◌, ◌⊎◌, List, [], ◌∷◌, ◌++◌, length, codes, Result, Ok, Err}
+use Rattle.std.specs.Prelude.{◌≡◌, ◌≢◌, ℕ, ◌<◌, ◌≤◌, ◌⊎◌, List, [], ◌∷◌, ◌++◌, length, codes, encode_utf8, Result, Ok, Err}
+use Rattle.std.specs.Char.{IsScalar}
 use Rattle.std.specs.List.{AllByRecursion, flat_map}
 use Rattle.std.specs.Str.Parse.{IsNumeral, digits_value}
 use Rattle.nx_script.specs.declared.command.Command.{Command}
-use Rattle.nx_script.specs.declared.command.Command.TheVariants.{Nothing, Save, Insert, Delete, Print}
+use Rattle.nx_script.specs.declared.command.Command.TheVariants.{Nothing, OpenFile, Save, Insert, Delete, Print, Errors}
 use Rattle.nx_script.specs.declared.read.ScriptFault.{ScriptFault}
 use Rattle.nx_script.specs.declared.read.ScriptFault.TheVariants.{BadCommand, NoMemory}
 
@@ -32,7 +33,7 @@ IsOfWords word words line = (blanks rest : List ℕ) × (line ≡ blanks ++ word
 abbrev pub IsNumber : List ℕ → ℕ → Type 0
 IsNumber word number = IsNumeral 10 word × (length word ≤ 18) × (number ≡ digits_value 10 word)
 
--- a piece of a text between quotes: a byte that stands for itself, or an escape
+-- a piece of a text between quotes: a byte that stands for itself, or an escape; of a character's code these are the digits
 pub data Piece : Type 0 where
   Itself : ℕ → Piece
   Newline : Piece
@@ -40,6 +41,11 @@ pub data Piece : Type 0 where
   Return : Piece
   Backslash : Piece
   Quote : Piece
+  Code : List ℕ → Piece
+
+-- 1 to 6 hexadecimal digits, which spell the code of a character
+abbrev pub IsCode : List ℕ → Type 0
+IsCode digits = IsNumeral 16 digits × (length digits ≤ 6) × IsScalar (digits_value 16 digits)
 
 -- neither a quote nor a backslash stands for itself
 abbrev pub IsPiece : Piece → Type 0
@@ -49,6 +55,7 @@ IsPiece Tab = Unit {0}
 IsPiece Return = Unit {0}
 IsPiece Backslash = Unit {0}
 IsPiece Quote = Unit {0}
+IsPiece (Code digits) = IsCode digits
 
 -- how a piece is written
 abbrev pub spelled : Piece → List ℕ
@@ -58,8 +65,9 @@ spelled Tab = codes "\\t"
 spelled Return = codes "\\r"
 spelled Backslash = codes "\\\\"
 spelled Quote = codes "\\\""
+spelled (Code digits) = codes "\\u{" ++ digits ++ codes "}"
 
--- what it means: itself, LF, tab, CR, a backslash or a quote
+-- what it means: itself, LF, tab, CR, a backslash, a quote, or the character of this code
 abbrev pub meant : Piece → List ℕ
 meant (Itself byte) = byte ∷ []
 meant Newline = codes "\n"
@@ -67,6 +75,7 @@ meant Tab = codes "\t"
 meant Return = codes "\r"
 meant Backslash = codes "\\"
 meant Quote = codes "\""
+meant (Code digits) = encode_utf8 (digits_value 16 digits)
 
 -- pieces between quotes spell the text
 abbrev pub IsText : List ℕ → List ℕ → Type 0
@@ -76,6 +85,10 @@ IsText word text = (pieces : List Piece) × AllByRecursion IsPiece pieces
 -- a line that is passed over: blanks alone, or blanks and then a `#` and anything
 abbrev pub IsNothingLine : List ℕ → Type 0
 IsNothingLine line = IsBlanks line ⊎ ((blanks rest : List ℕ) × (line ≡ blanks ++ codes "#" ++ rest) × IsBlanks blanks)
+
+-- `open "URI"`
+abbrev pub IsOpenLine : List ℕ → List ℕ → Type 0
+IsOpenLine uri line = (text : List ℕ) × IsText text uri × IsOfWords (codes "open") (text ∷ []) line
 
 -- `save "URI"`
 abbrev pub IsSaveLine : List ℕ → List ℕ → Type 0
@@ -95,13 +108,19 @@ IsDeleteLine from to line = (first second : List ℕ) × IsNumber first from × 
 abbrev pub IsPrintLine : List ℕ → Type 0
 IsPrintLine line = IsOfWords (codes "print") [] line
 
+-- `errors`
+abbrev pub IsErrorsLine : List ℕ → Type 0
+IsErrorsLine line = IsOfWords (codes "errors") [] line
+
 -- the line is this command
 abbrev pub IsLine : List ℕ → Command → Type 0
 IsLine line Nothing = IsNothingLine line
+IsLine line (OpenFile uri) = IsOpenLine uri line
 IsLine line (Save uri) = IsSaveLine uri line
 IsLine line (Insert at added) = IsInsertLine at added line
 IsLine line (Delete from to) = IsDeleteLine from to line
 IsLine line Print = IsPrintLine line
+IsLine line Errors = IsErrorsLine line
 
 -- no line is two commands
 abbrev pub LinesAreOneCommand : Type 0

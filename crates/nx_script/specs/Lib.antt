@@ -1,5 +1,9 @@
 pub mod Grammar
 pub mod Commands
+pub mod Escapes
+pub mod FaultLines
+pub mod Kinds
 pub mod Lines
 pub mod Printing
 pub mod Reading
+pub mod Replies

@@ -1,20 +1,27 @@
 -- The text that a reply prints.
 use Rattle.std.specs.Prelude.{ℕ, List, [], ◌++◌, codes}
 use Rattle.std.specs.Fmt.{decimal}
+use Rattle.nx_script.specs.FaultLines.{errors_text}
 use Rattle.nx_script.specs.declared.reply.Reply.{Reply}
-use Rattle.nx_script.specs.declared.reply.Reply.TheVariants.{Silent, Printed, Refused}
+use Rattle.nx_script.specs.declared.reply.Reply.TheVariants.{Silent, Printed, Errors, Refused}
 use Rattle.nx_script.specs.declared.reply.Refusal.{Refusal}
-use Rattle.nx_script.specs.declared.reply.Refusal.TheVariants.{BadCommand, BadPosition, BadUri, Failed, NoMemory}
+use Rattle.nx_script.specs.declared.reply.Refusal.TheVariants.{BadCommand, BadPosition, BadUri, Absent, NotUtf8, Failed, NoMemory}
 
 -- the number that is no place, and the text's length
 abbrev pub bad_position_text : ℕ → ℕ → List ℕ
 bad_position_text at len = codes "BadPosition " ++ decimal at ++ codes " " ++ decimal len
+
+-- the URI of a file that is no text, and the byte offset at which it stops being one
+abbrev pub not_utf8_text : List ℕ → ℕ → List ℕ
+not_utf8_text uri at = codes "NotUtf8 " ++ uri ++ codes " " ++ decimal at
 
 -- why a command was refused
 abbrev pub refusal_text : Refusal → List ℕ
 refusal_text BadCommand = codes "BadCommand"
 refusal_text (BadPosition at len) = bad_position_text at len
 refusal_text BadUri = codes "BadUri"
+refusal_text (Absent uri) = codes "Absent " ++ uri
+refusal_text (NotUtf8 uri at) = not_utf8_text uri at
 refusal_text Failed = codes "Failed"
 refusal_text NoMemory = codes "NoMemory"
 
@@ -26,4 +33,5 @@ refused_text line refusal = codes "line " ++ decimal line ++ codes " refused: " 
 abbrev pub reply_text : ℕ → Reply → List ℕ
 reply_text line Silent = []
 reply_text line (Printed text) = text ++ codes "\n"
+reply_text line (Errors faults) = errors_text faults
 reply_text line (Refused refusal) = refused_text line refusal

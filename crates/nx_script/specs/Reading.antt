@@ -1,12 +1,13 @@
 -- What reading finds at the front of a list of bytes, part by part. What a line is, `Grammar` says; reading
 -- finds the command of a line exactly where the line is that command.
-use Rattle.std.specs.Prelude.{◌≡◌, ℕ, zero, suc, Bool, ◌||◌, ◌==◌, nat_lt, if◌then◌else◌, List, [], ◌∷◌, ◌++◌, length, take, drop, codes, Option, Some, None, option_map, option_and_then, Result, Ok, Err}
+use Rattle.std.specs.Prelude.{◌≡◌, ℕ, zero, suc, Bool, ◌||◌, ◌==◌, nat_lt, if◌then◌else◌, List, [], ◌∷◌, ◌++◌, length, take, drop, codes, encode_utf8, Option, Some, None, option_map, option_and_then, Result, Ok, Err}
 use Rattle.std.specs.List.{prefix_len, position_or_len}
-use Rattle.std.specs.Char.{is_ascii_digit}
+use lib.Utf8.{scalar}
+use Rattle.std.specs.Char.{is_ascii_digit, is_digit}
 use Rattle.std.specs.Str.{bytes_eq}
 use Rattle.std.specs.Str.Parse.{digits_value}
 use Rattle.nx_script.specs.declared.command.Command.{Command}
-use Rattle.nx_script.specs.declared.command.Command.TheVariants.{Nothing, Save, Insert, Delete, Print}
+use Rattle.nx_script.specs.declared.command.Command.TheVariants.{Nothing, OpenFile, Save, Insert, Delete, Print, Errors}
 use Rattle.nx_script.specs.declared.read.ScriptFault.{ScriptFault}
 use Rattle.nx_script.specs.declared.read.ScriptFault.TheVariants.{BadCommand, NoMemory}
 
@@ -55,15 +56,42 @@ escaped_by letter =
     else (if letter == 34 then Some 34
     else None))))
 
--- the byte that an escape stands for, its backslash left out, and what follows it
-unfoldable pub escape_at : List ℕ → Option (ℕ × List ℕ)
-escape_at [] = None
-escape_at (letter ∷ rest) = option_map (λ byte. (byte, rest)) (escaped_by letter)
+-- a digit of a number to the base 16
+abbrev pub is_hex_digit : ℕ → Bool
+is_hex_digit byte = is_digit byte 16
 
--- the byte that the first piece stands for, and what follows it
-unfoldable pub piece_at : List ℕ → Option (ℕ × List ℕ)
+-- the code, where a closing brace follows it, and what follows the brace
+unfoldable pub closed_at : ℕ → List ℕ → Option (ℕ × List ℕ)
+closed_at code [] = None
+closed_at code (byte ∷ rest) = if byte == 125 then Some (code, rest) else None
+
+-- the number that hexadecimal digits spell, 6 of them at most, and what follows the brace behind them
+unfoldable pub code_at : List ℕ → Option (ℕ × List ℕ)
+code_at bytes =
+    let count = prefix_len is_hex_digit bytes in
+    if count == 0 then None else (if nat_lt 6 count then None else closed_at (digits_value 16 (take count bytes)) (drop count bytes))
+
+-- the same behind an opening brace
+unfoldable pub braced_at : List ℕ → Option (ℕ × List ℕ)
+braced_at [] = None
+braced_at (byte ∷ inside) = if byte == 123 then code_at inside else None
+
+-- the bytes of the character whose code stands in braces, and what follows them
+unfoldable pub scalar_at : List ℕ → Option (List ℕ × List ℕ)
+scalar_at bytes = do
+  found ← braced_at bytes
+  if scalar found.0 then Some (encode_utf8 found.0, found.1) else None
+
+-- the bytes that an escape stands for, its backslash left out, and what follows it
+unfoldable pub escape_at : List ℕ → Option (List ℕ × List ℕ)
+escape_at [] = None
+escape_at (letter ∷ rest) =
+    if letter == 117 then scalar_at rest else option_map (λ byte. (byte ∷ [], rest)) (escaped_by letter)
+
+-- the bytes that the first piece stands for, and what follows it
+unfoldable pub piece_at : List ℕ → Option (List ℕ × List ℕ)
 piece_at [] = None
-piece_at (byte ∷ rest) = if byte == 92 then escape_at rest else Some (byte, rest)
+piece_at (byte ∷ rest) = if byte == 92 then escape_at rest else Some (byte ∷ [], rest)
 
 -- the bytes in front of those that were found
 abbrev pub onto : List ℕ → Option (List ℕ × List ℕ) → Option (List ℕ × List ℕ)
@@ -75,7 +103,7 @@ pieces_within zero bytes = None
 pieces_within (suc most) [] = None
 pieces_within (suc most) (byte ∷ rest) =
     if byte == 34 then Some ([], rest)
-    else (piece_at (byte ∷ rest) >>= λ piece. onto (piece.0 ∷ []) (pieces_within most piece.1))
+    else (piece_at (byte ∷ rest) >>= λ piece. onto piece.0 (pieces_within most piece.1))
 
 -- the same with no such bound, since no piece is empty
 unfoldable pub pieces_at : List ℕ → Option (List ℕ × List ℕ)
@@ -98,6 +126,11 @@ unfoldable pub ended : Command → List ℕ → Option Command
 ended command bytes = if prefix_len is_blank bytes == length bytes then Some command else None
 
 -- each command, from what follows its word
+unfoldable pub open_of : List ℕ → Option Command
+open_of bytes = do
+  uri ← text_at bytes
+  ended (OpenFile uri.0) uri.1
+
 unfoldable pub save_of : List ℕ → Option Command
 save_of bytes = do
   uri ← text_at bytes
@@ -118,14 +151,19 @@ delete_of bytes = do
 unfoldable pub print_of : List ℕ → Option Command
 print_of bytes = ended Print bytes
 
+unfoldable pub errors_of : List ℕ → Option Command
+errors_of bytes = ended Errors bytes
+
 -- the command of this word
 unfoldable pub command_of : List ℕ → List ℕ → Option Command
 command_of word bytes =
-    if bytes_eq word (codes "save") then save_of bytes
+    if bytes_eq word (codes "open") then open_of bytes
+    else (if bytes_eq word (codes "save") then save_of bytes
     else (if bytes_eq word (codes "insert") then insert_of bytes
     else (if bytes_eq word (codes "delete") then delete_of bytes
     else (if bytes_eq word (codes "print") then print_of bytes
-    else None)))
+    else (if bytes_eq word (codes "errors") then errors_of bytes
+    else None)))))
 
 -- the command of the line whose blanks at the front are left out
 unfoldable pub command_at : List ℕ → Option Command

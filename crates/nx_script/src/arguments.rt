@@ -1,12 +1,13 @@
 //! What stands behind a command's word: numbers and texts.
 
-ghost use Rattle.std.specs.Prelude.{◌≡◌, ◌<◌, ◌≤◌, length, IfOk};
+ghost use Rattle.std.specs.Prelude.{◌≡◌, ◌≤◌, length};
 ghost use Rattle.std.specs.List.{prefix_len};
 ghost use Rattle.std.specs.Char.{is_ascii_digit};
 ghost use Rattle.std.specs.Str.Parse.{AllDigits, digits_value};
-ghost use Rattle.nx_script.specs.Reading.{Finds, is_blank, after_gap, digits_at, number_at, escaped_by, escape_at, piece_at, pieces_at, after_quote, text_at, ended};
+ghost use Rattle.nx_script.specs.Reading.{Finds, is_blank, after_gap, digits_at, number_at, text_at, ended};
 
 use crate::command::Command;
+use crate::quoted::{after_quote, pieces};
 use crate::read::ScriptFault;
 use nx_base::sequence::Bytes;
 use std::alloc::Global;
@@ -133,72 +134,4 @@ fn number_of(digits: &[u8]) -> u64
         number = number * 10 + u64::from(*digit - b'0');
     }
     number
-}
-
-/// What follows the quote at the front.
-#[tactic(auto, unfolding(crate::specs::Reading::after_quote))]
-fn after_quote(bytes: &[u8]) -> Result<&[u8], ScriptFault>
-    ensures { Finds (λ rest. rest.now) result (after_quote bytes.now) }
-{
-    match bytes {
-        [b'"', rest @ ..] => Ok(rest),
-        _ => Err(ScriptFault::BadCommand),
-    }
-}
-
-/// The text that the pieces up to a quote mean, and what follows the quote.
-fn pieces(alloc: Global, bytes: &[u8]) -> Result<(Vec<u8>, &[u8]), ScriptFault>
-    ensures { Finds (λ x. (x.0.items, x.1.now)) result (pieces_at bytes.now) }
-{
-    let mut text = Vec::new(alloc);
-    let mut rest = bytes;
-    while let [first, after @ ..] = rest {
-        if *first == b'"' {
-            return Ok((text, after));
-        }
-        let (byte, left) = piece(rest)?;
-        text.push(byte)?;
-        rest = left;
-    }
-    Err(ScriptFault::BadCommand)
-}
-
-/// The byte that the first piece stands for, and what follows the piece.
-#[tactic(auto, unfolding(crate::specs::Reading::piece_at))]
-fn piece(bytes: &[u8]) -> Result<(u8, &[u8]), ScriptFault>
-    ensures found { Finds (λ x. (x.0, x.1.now)) result (piece_at bytes.now) }
-    ensures shorter { IfOk result (λ x. length x.1.now < length bytes.now) }
-{
-    match bytes {
-        [] => Err(ScriptFault::BadCommand),
-        [b'\\', escape @ ..] => escaped(escape),
-        [byte, rest @ ..] => Ok((*byte, rest)),
-    }
-}
-
-/// The byte that an escape stands for, its backslash left out, and what follows the escape.
-#[tactic(auto, unfolding(crate::specs::Reading::escape_at))]
-fn escaped(escape: &[u8]) -> Result<(u8, &[u8]), ScriptFault>
-    ensures found { Finds (λ x. (x.0, x.1.now)) result (escape_at escape.now) }
-    ensures shorter { IfOk result (λ x. length x.1.now < length escape.now) }
-{
-    match escape {
-        [] => Err(ScriptFault::BadCommand),
-        [letter, rest @ ..] => Ok((escaped_by(*letter).ok_or(ScriptFault::BadCommand)?, rest)),
-    }
-}
-
-/// The byte that the letter behind a backslash stands for.
-#[tactic(auto, unfolding(crate::specs::Reading::escaped_by))]
-fn escaped_by(letter: u8) -> Option<u8>
-    ensures { result ≡ escaped_by letter }
-{
-    match letter {
-        b'n' => Some(b'\n'),
-        b't' => Some(b'\t'),
-        b'r' => Some(b'\r'),
-        b'\\' => Some(b'\\'),
-        b'"' => Some(b'"'),
-        _ => None,
-    }
 }

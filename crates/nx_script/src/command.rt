@@ -7,6 +7,8 @@ use nx_base::sequence::Bytes;
 pub enum Command {
     /// A line that is passed over.
     Nothing,
+    /// `open "URI"`: edits the file's text from now on.
+    OpenFile(Bytes),
     /// `save "URI"`: stores the text.
     Save(Bytes),
     /// `insert N "TEXT"`: puts the text in at the byte offset.
@@ -15,4 +17,6 @@ pub enum Command {
     Delete(u64, u64),
     /// `print`: prints the text.
     Print,
+    /// `errors`: lists the faults of the text.
+    Errors,
 }

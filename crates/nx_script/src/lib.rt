@@ -3,7 +3,12 @@
 
 mod arguments;
 pub mod command;
+mod escape;
+mod fault_line;
+mod kind_name;
+pub mod law;
 pub mod line;
+mod quoted;
 pub mod read;
 pub mod reply;
 #[cfg(test)]

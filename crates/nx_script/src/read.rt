@@ -4,12 +4,12 @@ ghost use Rattle.std.specs.Prelude.{◌≡◌, ◌≤◌, length, IfOk};
 ghost use Rattle.std.specs.List.{position_or_len};
 ghost use Rattle.nx_script.specs.Grammar.{LinesAreOneCommand, ReadsLine};
 ghost use Rattle.nx_script.specs.Commands.{HasUtf8Texts};
-ghost use Rattle.nx_script.specs.Reading.{Finds, is_blank, save_of, insert_of, delete_of, command_of, line_command, after_blanks};
+ghost use Rattle.nx_script.specs.Reading.{Finds, is_blank, open_of, save_of, insert_of, delete_of, command_of, line_command, after_blanks};
 ghost use Rattle.nx_script.specs.declared.read.ScriptFault.TheVariants.{NoMemory};
 
 use crate::arguments::{Arguments, is_blank, leading_blanks};
 use crate::command::Command;
-use std::alloc::{AllocFailed, Global};
+use std::alloc::{AllocError, AllocFailed, Global};
 
 /// Why a line was not read.
 #[derive(Clone, Copy, Debug, PartialEq, Eq)]
@@ -23,6 +23,14 @@ impl<T: Drop> From<AllocFailed<T>> for ScriptFault {
     ghost from_gives = { λ _ fault. fault ≡ NoMemory };
 
     fn from(_error: AllocFailed<T>) -> ScriptFault {
+        ScriptFault::NoMemory
+    }
+}
+
+impl From<AllocError> for ScriptFault {
+    ghost from_gives = { λ _ fault. fault ≡ NoMemory };
+
+    fn from(_error: AllocError) -> ScriptFault {
         ScriptFault::NoMemory
     }
 }
@@ -72,17 +80,28 @@ fn word_len(bytes: &[u8]) -> usize
 }
 
 /// The command of this word.
-#[tactic(auto, unfolding(crate::specs::Reading::command_of, crate::specs::Reading::print_of))]
+#[tactic(auto, unfolding(crate::specs::Reading::command_of, crate::specs::Reading::print_of, crate::specs::Reading::errors_of))]
 fn command(alloc: Global, word: &str, arguments: Arguments<'_>) -> Result<Command, ScriptFault>
     ensures { Finds (λ command. command) result (command_of word.now arguments.entry) }
 {
     match word {
+        "open" => open_file(alloc, arguments),
         "save" => save(alloc, arguments),
         "insert" => insert(alloc, arguments),
         "delete" => delete(arguments),
         "print" => arguments.end(Command::Print),
+        "errors" => arguments.end(Command::Errors),
         _ => Err(ScriptFault::BadCommand),
     }
+}
+
+/// `open "URI"`, from what follows the word.
+#[tactic(auto, unfolding(crate::specs::Reading::open_of))]
+fn open_file(alloc: Global, mut arguments: Arguments<'_>) -> Result<Command, ScriptFault>
+    ensures { Finds (λ command. command) result (open_of arguments.entry) }
+{
+    let uri = arguments.text(alloc)?;
+    arguments.end(Command::OpenFile(uri))
 }
 
 /// `save "URI"`, from what follows the word.

@@ -1,5 +1,6 @@
 //! What the editor answers a command.
 
+use nx_base::fault::Faults;
 use nx_base::sequence::Bytes;
 
 /// The answer to a command.
@@ -9,6 +10,8 @@ pub enum Reply {
     Silent,
     /// The text.
     Printed(Bytes),
+    /// The faults of the text.
+    Errors(Faults),
     /// Not done, and why.
     Refused(Refusal),
 }
@@ -23,6 +26,10 @@ pub enum Refusal {
     BadPosition { at: u64, len: usize },
     /// The text of a URI is none.
     BadUri,
+    /// No file is under the URI.
+    Absent(Bytes),
+    /// The file under the URI is no text from this byte offset on.
+    NotUtf8(Bytes, usize),
     /// The files could not do it.
     Failed,
     NoMemory,

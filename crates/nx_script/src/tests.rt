@@ -1,19 +1,26 @@
 ghost use Rattle.std.specs.Prelude.{ℕ, List, Option, None};
 
 use crate::command::Command;
+use crate::kind_name::kind_name;
 use crate::line::split_line;
 use crate::read::{ScriptFault, read_line};
 use crate::reply::{Refusal, Reply};
 use crate::write::write_reply;
+use nx_base::fault::{Fault, Faults, Kind, Span};
 use nx_base::sequence::Bytes;
 use nx_host::out::{Out, OutFault};
 use std::alloc::Global;
+use std::process::Abort;
 use std::test::Fail;
 
 /// A command as the name of its line and its numbers and texts, with their escapes gone.
 fn told(alloc: Global, line: &str) -> Result<String, Fail> {
     let text = match read_line(alloc, line) {
         Ok(Command::Nothing) => format!(in alloc; "nothing")?,
+        Ok(Command::OpenFile(uri)) => format!(in alloc;
+            "open {}",
+            std::str::from_utf8(uri.as_slice())?
+        )?,
         Ok(Command::Save(uri)) => format!(in alloc;
             "save {}",
             std::str::from_utf8(uri.as_slice())?
@@ -23,6 +30,7 @@ fn told(alloc: Global, line: &str) -> Result<String, Fail> {
         }
         Ok(Command::Delete(from, to)) => format!(in alloc; "delete {from} {to}")?,
         Ok(Command::Print) => format!(in alloc; "print")?,
+        Ok(Command::Errors) => format!(in alloc; "errors")?,
         Err(ScriptFault::BadCommand) => format!(in alloc; "bad")?,
         Err(ScriptFault::NoMemory) => format!(in alloc; "no memory")?,
     };
@@ -30,7 +38,7 @@ fn told(alloc: Global, line: &str) -> Result<String, Fail> {
 }
 
 /// Lines, and what `told` makes of them.
-const LINES: [(&str, &str); 39] = [
+const LINES: [(&str, &str); 52] = [
     ("", "nothing"),
     (" \t ", "nothing"),
     ("#", "nothing"),
@@ -42,13 +50,26 @@ const LINES: [(&str, &str); 39] = [
     ("Print", "bad"),
     ("prints", "bad"),
     ("erase", "bad"),
+    ("errors", "errors"),
     ("errors 1", "bad"),
+    ("open \"b.xml\"", "open b.xml"),
+    ("open b.xml", "bad"),
     ("insert 0 \"ab\"", "insert 0 ab"),
     ("insert \t 12\t\"x\" ", "insert 12 x"),
     ("insert 3 \"\"", "insert 3 "),
     ("insert 0 \" # é\tx \"", "insert 0  # é\tx "),
     ("insert 0 \"\\n\\t\\r\\\\\\\"\"", "insert 0 \n\t\r\\\""),
-    ("insert 0 \"a\\u{41}\"", "bad"),
+    ("insert 0 \"\\u{41}\\u{e9}x\"", "insert 0 Aéx"),
+    ("insert 0 \"\\u{01F600}\"", "insert 0 😀"),
+    ("insert 0 \"\\u{10ffff}\\u{0}\"", "insert 0 \u{10ffff}\0"),
+    ("insert 0 \"\\u{110000}\"", "bad"),
+    ("insert 0 \"\\u{D800}\"", "bad"),
+    ("insert 0 \"\\u{0000041}\"", "bad"),
+    ("insert 0 \"\\u{}\"", "bad"),
+    ("insert 0 \"\\u{4g}\"", "bad"),
+    ("insert 0 \"\\u{41\"", "bad"),
+    ("insert 0 \"\\u41\"", "bad"),
+    ("insert 0 \"\\U{41}\"", "bad"),
     ("insert 0 \"\\x\"", "bad"),
     ("insert 0 \"\\\"", "bad"),
     ("insert 0 \"\\", "bad"),
@@ -145,58 +166,96 @@ impl Out for Kept {
     }
 }
 
-fn printed(alloc: Global, text: &str) -> Result<Reply, Fail> {
-    let bytes = Vec::from_slice(alloc, text.as_bytes())?;
-    Ok(Reply::Printed(Bytes::from_vec(bytes)))
+fn bytes_of(alloc: Global, text: &str) -> Result<Bytes, Fail> {
+    Ok(Bytes::from_vec(Vec::from_slice(alloc, text.as_bytes())?))
+}
+
+// A reply of two faults, the second without a detail.
+fn listed(alloc: Global) -> Result<Reply, Fail> {
+    let mut faults = Faults::new(alloc);
+    faults.push(Fault {
+        span: Span { from: 3, to: 14 },
+        kind: Kind::BadName,
+        detail: bytes_of(alloc, "é \n\u{7f}\\\u{80}")?,
+    })?;
+    faults.push(Fault {
+        span: Span { from: 0, to: 0 },
+        kind: Kind::NoRoot,
+        detail: Bytes::new(alloc),
+    })?;
+    Ok(Reply::Errors(faults))
+}
+
+// What the reply to the third line prints, and in how many writes.
+fn written(alloc: Global, reply: &Reply) -> Result<(Vec<u8>, u64), Fail> {
+    let mut out = Kept {
+        bytes: Vec::new(alloc),
+        writes: 0,
+    };
+    write_reply(alloc, &mut out, 3, reply).map_err(|_| "not written")?;
+    Ok((out.bytes, out.writes))
+}
+
+fn is_written<R: AllocGlobal + Abort>(
+    rt: &R,
+    reply: Reply,
+    want: &str,
+    writes: u64,
+) -> Result<(), Fail> {
+    let (bytes, made) = written(rt.alloc(), &reply)?;
+    assert_eq!(rt; bytes.as_slice(), want.as_bytes());
+    assert_eq!(rt; made, writes);
+    Ok(())
 }
 
 #[test]
 fn replies_are_written(rt: HostRuntime) -> Result<(), Fail> {
-    for (line, reply, want, writes) in [
-        (1, Reply::Silent, "", 0),
-        (1, printed(rt.alloc(), "é\n")?, "é\n\n", 2),
-        (1, printed(rt.alloc(), "")?, "\n", 2),
+    let alloc = rt.alloc();
+    is_written(&rt, Reply::Silent, "", 0)?;
+    is_written(&rt, Reply::Printed(bytes_of(alloc, "é\n")?), "é\n\n", 2)?;
+    let none = Reply::Errors(Faults::new(alloc));
+    is_written(&rt, none, "errors: 0\n", 1)?;
+    let lines = "errors: 2\n3-14 BadName é \\u{a}\\u{7f}\\u{5c}\u{80}\n0-0 NoRoot\n";
+    is_written(&rt, listed(alloc)?, lines, 1)
+}
+
+#[test]
+fn refusals_are_written(rt: HostRuntime) -> Result<(), Fail> {
+    let uri = bytes_of(rt.alloc(), "file:///work/b")?;
+    let other = bytes_of(rt.alloc(), "file:///work/c")?;
+    for (refusal, want) in [
+        (Refusal::BadCommand, "line 3 refused: BadCommand\n"),
         (
-            3,
-            Reply::Refused(Refusal::BadCommand),
-            "line 3 refused: BadCommand\n",
-            1,
-        ),
-        (
-            18446744073709551615,
-            Reply::Refused(Refusal::BadPosition {
+            Refusal::BadPosition {
                 at: 999999999999999999,
                 len: 2,
-            }),
-            "line 18446744073709551615 refused: BadPosition 999999999999999999 2\n",
-            1,
+            },
+            "line 3 refused: BadPosition 999999999999999999 2\n",
+        ),
+        (Refusal::BadUri, "line 3 refused: BadUri\n"),
+        (
+            Refusal::Absent(uri),
+            "line 3 refused: Absent file:///work/b\n",
         ),
         (
-            0,
-            Reply::Refused(Refusal::BadUri),
-            "line 0 refused: BadUri\n",
-            1,
+            Refusal::NotUtf8(other, 3),
+            "line 3 refused: NotUtf8 file:///work/c 3\n",
         ),
-        (
-            1,
-            Reply::Refused(Refusal::Failed),
-            "line 1 refused: Failed\n",
-            1,
-        ),
-        (
-            10,
-            Reply::Refused(Refusal::NoMemory),
-            "line 10 refused: NoMemory\n",
-            1,
-        ),
+        (Refusal::Failed, "line 3 refused: Failed\n"),
+        (Refusal::NoMemory, "line 3 refused: NoMemory\n"),
     ] {
-        let mut out = Kept {
-            bytes: Vec::new(rt.alloc()),
-            writes: 0,
-        };
-        assert!(rt; write_reply(rt.alloc(), &mut out, line, &reply).is_ok());
-        assert_eq!(rt; out.bytes.as_slice(), want.as_bytes());
-        assert_eq!(rt; out.writes, writes);
+        is_written(&rt, Reply::Refused(refusal), want, 1)?;
     }
     Ok(())
+}
+
+#[test]
+fn kinds_have_names(rt: HostRuntime) {
+    for (kind, name) in [
+        (Kind::BadMarkup, "BadMarkup"),
+        (Kind::UndeclaredPrefix, "UndeclaredPrefix"),
+        (Kind::Incomplete, "Incomplete"),
+    ] {
+        assert_eq!(rt; kind_name(kind), name);
+    }
 }

@@ -2,9 +2,12 @@
 
 ghost use Rattle.std.specs.Prelude.{◌≡◌, ◌++◌, IfOk, OnOk, codes, string_bytes};
 ghost use Rattle.nx_host.specs.Out.{WritesInParts, CountsOutFault};
-ghost use Rattle.nx_script.specs.Printing.{reply_text, refused_text, refusal_text, bad_position_text};
+ghost use Rattle.nx_script.specs.FaultLines.{errors_text};
+ghost use Rattle.nx_script.specs.Printing.{reply_text, refused_text, refusal_text, bad_position_text, not_utf8_text};
 
+use crate::fault_line::errors_text;
 use crate::reply::{Refusal, Reply};
+use nx_base::fault::Fault;
 use nx_base::memory::NoMemory;
 use nx_host::out::{Out, OutFault};
 use std::alloc::{AllocError, Global};
@@ -23,6 +26,7 @@ pub fn write_reply<O: Out>(
     match reply {
         Reply::Silent => Ok(()),
         Reply::Printed(text) => write_text(alloc, out, text.as_slice()),
+        Reply::Errors(faults) => write_faults(alloc, out, faults.as_slice()),
         Reply::Refused(refusal) => write_refusal(alloc, out, line, refusal),
     }
 }
@@ -34,6 +38,16 @@ fn write_text<O: Out>(alloc: Global, out: &mut O, text: &[u8]) -> Result<(), Out
 {
     out.write(alloc, text)?;
     out.write(alloc, b"\n")?;
+    Ok(())
+}
+
+/// Writes the lines that list faults, all of them at once.
+fn write_faults<O: Out>(alloc: Global, out: &mut O, faults: &[Fault]) -> Result<(), OutFault>
+    ensures written { WritesInParts result (O.told out.old) (errors_text faults.now) (O.told out.new) }
+    ensures faults { CountsOutFault result (O.faults out.old) (O.faults out.new) }
+{
+    let text = errors_text(alloc, faults).map_err(|_| OutFault::NoMemory)?;
+    out.write(alloc, text.as_slice())?;
     Ok(())
 }
 
@@ -72,9 +86,24 @@ fn push_refusal(alloc: Global, text: &mut Vec<u8>, refusal: &Refusal) -> Result<
             text.extend_from_slice(bad_position(alloc, *at, *len)?.as_bytes())?
         }
         Refusal::BadUri => text.extend_from_slice(b"BadUri")?,
+        Refusal::Absent(uri) => {
+            text.extend_from_slice(b"Absent ")?;
+            text.extend_from_slice(uri.as_slice())?
+        }
+        Refusal::NotUtf8(uri, at) => push_not_utf8(alloc, text, uri.as_slice(), *at)?,
         Refusal::Failed => text.extend_from_slice(b"Failed")?,
         Refusal::NoMemory => text.extend_from_slice(b"NoMemory")?,
     }
+    Ok(())
+}
+
+/// Adds the URI of a file that is no text, and where it stops being one.
+fn push_not_utf8(alloc: Global, text: &mut Vec<u8>, uri: &[u8], at: usize) -> Result<(), NoMemory>
+    ensures { OnOk result (text.new.items ≡ text.old.items ++ not_utf8_text uri.now at) }
+{
+    text.extend_from_slice(b"NotUtf8 ")?;
+    text.extend_from_slice(uri)?;
+    text.extend_from_slice(format!(in alloc; " {at}")?.as_bytes())?;
     Ok(())
 }
 

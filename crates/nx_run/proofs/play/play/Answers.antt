@@ -1,39 +1,30 @@
-use Rattle.std.proofs.Common.{inl, inr, ◌∙◌, rules}
-use Rattle.nx_run.specs.Editor.{out_state}
-use Rattle.nx_run.proofs.Playing.{play-begun, play-more, play-stopped}
+use Rattle.std.proofs.Common.{◌+◌, rules}
+use Rattle.nx_script.specs.Printing.{reply_text}
+use Rattle.nx_run.specs.Output.{out_state}
+use Rattle.nx_run.proofs.Playing.{play-begun, play-more, play-stopped, refused-part, play-refused, done-whole, done-stays}
 use Rattle.nx_run.proofs.play.play.Goals as goal
 
 pub loop-rest-init : goal.loop-rest-init
 loop-rest-init g c = (c.utf8.script, play-begun _ _ _ _ c.in-Ok.ensures)
 
-pub returns-in-Err-Failed : goal.returns-in-Err-Failed
-returns-in-Err-Failed g c =
+pub returns-in-Err : goal.returns-in-Err
+returns-in-Err g c =
     let h = c.loop-rest.invariant.1 in
-    let o = g.O.Out in (
-      play-stopped _ _ _ _ _ (out_state (o.told c.loop-rest.out) (o.faults c.loop-rest.out)) (out_state (o.told c.write_reply.new.out) (o.faults c.write_reply.new.out))
-          _ _ _ _ _ c.split_line.result.1.now _ _ _ h c.split_line.ensures.lines c.answer-reply.ensures c.in-Err-Failed.ensures.written,
-      rw (c.in-Err-Failed.field-0-is, h.no_fault) at c.in-Err-Failed.ensures.faults,
-    )
-
-pub returns-in-Err-NoMemory : goal.returns-in-Err-NoMemory
-returns-in-Err-NoMemory g c =
-    let h = c.loop-rest.invariant.1 in
-    let o = g.O.Out in (
-      inr (inl (play-stopped _ _ _ _ _ (out_state (o.told c.loop-rest.out) (o.faults c.loop-rest.out)) (out_state (o.told c.write_reply.new.out) (o.faults c.write_reply.new.out))
-          _ _ _ _ _ c.split_line.result.1.now _ _ _ h c.split_line.ensures.lines c.answer-reply.ensures c.in-Err-NoMemory.ensures.written)),
-      rw c.in-Err-NoMemory.field-0-is at c.in-Err-NoMemory.ensures.faults ∙ h.no_fault,
-    )
-
-pub loop-rest-preserved-in-Ok-write_reply : goal.loop-rest-preserved-in-Ok-write_reply
-loop-rest-preserved-in-Ok-write_reply g c = (
-  search rules,
-  play-more _ _ _ _ _ _ _ _ _ _ _ _ _ _ _ _ _ _ c.loop-rest.invariant.1 c.split_line.ensures.lines c.split_line.ensures.shorter c.answer-reply.ensures
-      c.in-Ok-write_reply.ensures.written c.in-Ok-write_reply.ensures.faults c.note.ensures.memory c.note.ensures.refusal,
-)
+    let o = g.O.Out in
+    let w = c.write_reply-written in
+    let was = out_state (o.told c.loop-rest.out) (o.faults c.loop-rest.out) in
+    let after = out_state (o.told w.new.out) (o.faults w.new.out) in
+    play-refused _ _ _ (out_state (o.told c.args.out.now) (o.faults c.args.out.now)) was after w.result c.in-Err.fault c.stop_status.result c.in-Err.is h.no_fault
+    (play-stopped _ _ _ _ _ was after _ _ _ _ _ c.split_line.result.1.now _ _ _ h c.split_line.ensures.lines c.answer-reply.ensures.step c.answer-reply.ensures.text
+    (refused-part w.result c.in-Err.fault was.bytes after.bytes (reply_text (c.loop-rest.number + 1) c.answer-reply.result) c.in-Err.is w.ensures.written))
+    w.ensures.faults c.stop_status.ensures
 
 pub loop-rest-preserved : goal.loop-rest-preserved
-loop-rest-preserved g c = (
-  search rules,
-  play-more _ _ _ _ _ _ _ _ _ _ _ _ _ _ _ _ _ _ c.loop-rest.invariant.1 c.split_line.ensures.lines c.split_line.ensures.shorter c.answer-reply.ensures
-      c.in-Ok-write_reply.ensures.written c.in-Ok-write_reply.ensures.faults c.note.ensures.memory c.note.ensures.refusal,
-)
+loop-rest-preserved g c =
+    let o = g.O.Out in
+    let w = c.write_reply-written in (
+      search rules,
+      play-more _ _ _ _ _ (out_state (o.told c.loop-rest.out) (o.faults c.loop-rest.out)) (out_state (o.told w.new.out) (o.faults w.new.out)) _ _ _ _ _ _ _ _ _ _ _ c.loop-rest.invariant.1 c.split_line.ensures.lines c.split_line.ensures.shorter c.answer-reply.ensures.step c.answer-reply.ensures.text
+          (done-whole w.result c.in-Ok-written.field-0 (o.told c.loop-rest.out) (o.told w.new.out) (reply_text (c.loop-rest.number + 1) c.answer-reply.result) c.in-Ok-written.is w.ensures.written)
+          (done-stays w.result c.in-Ok-written.field-0 (o.faults c.loop-rest.out) (o.faults w.new.out) c.in-Ok-written.is w.ensures.faults) c.note.ensures.memory c.note.ensures.refusal,
+    )

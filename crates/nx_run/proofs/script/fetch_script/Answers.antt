@@ -7,5 +7,6 @@ returns g c = (
   c.in-Ok.ensures.joined,
   rw (c.text_of.ensures, c.in-Some.is) at c.in-Ok-fetch.ensures.found,
   rw c.as_slice.ensures at c.in-Err.ensures.cases.0,
+  rw c.as_slice-in-Err.ensures at c.text_front-at.ensures,
   cc (c.in-Ok-fetch.ensures.map, c.in-Ok-fetch.ensures.faults),
 )

@@ -1,0 +1,30 @@
+-- Replies of which the texts are UTF-8.
+use Rattle.std.specs.Prelude.{ℕ}
+use Rattle.std.specs.List.{AllByRecursion}
+use Rattle.std.specs.Str.{IsUtf8}
+use Rattle.nx_script.specs.declared.reply.Reply.{Reply}
+use Rattle.nx_script.specs.declared.reply.Reply.TheVariants.{Silent, Printed, Errors, Refused}
+use Rattle.nx_script.specs.declared.reply.Refusal.{Refusal}
+use Rattle.nx_script.specs.declared.reply.Refusal.TheVariants.{BadCommand, BadPosition, BadUri, Absent, NotUtf8, Failed, NoMemory}
+use Rattle.nx_base.specs.declared.fault.Fault.{Fault}
+use Rattle.nx_script.specs.Printing.{reply_text}
+
+abbrev pub RefusalIsText : Refusal → Type 0
+RefusalIsText BadCommand = Unit {0}
+RefusalIsText (BadPosition at len) = Unit {0}
+RefusalIsText BadUri = Unit {0}
+RefusalIsText (Absent uri) = IsUtf8 uri
+RefusalIsText (NotUtf8 uri at) = IsUtf8 uri
+RefusalIsText Failed = Unit {0}
+RefusalIsText NoMemory = Unit {0}
+
+-- the texts that the reply holds, and the details of its faults
+abbrev pub ReplyIsText : Reply → Type 0
+ReplyIsText Silent = Unit {0}
+ReplyIsText (Printed text) = IsUtf8 text
+ReplyIsText (Errors faults) = AllByRecursion (λ (fault : Fault). IsUtf8 fault.detail) faults
+ReplyIsText (Refused refusal) = RefusalIsText refusal
+
+-- what such a reply prints is UTF-8
+abbrev pub RepliesPrintText : Type 0
+RepliesPrintText = (line : ℕ) (answer : Reply) → ReplyIsText answer → IsUtf8 (reply_text line answer)

@@ -1,0 +1,52 @@
+-- The editor, and the world that it works in.
+use Rattle.std.specs.Prelude.{◌≡◌, ℕ, ◌+◌, List, [], ◌==◌, length, codes, Option, if◌then◌else◌}
+use Rattle.nx_base.specs.Text.{edited, moved_place}
+use Rattle.nx_base.specs.declared.edit.Edit.{Edit}
+use Rattle.nx_host.specs.Files.{FileMap}
+
+-- an editor between two commands: its text, the caret's byte offset, and the URI of its document
+pub record EditorState : Type 0 where
+  pub text : List ℕ
+  pub caret : ℕ
+  pub document : List ℕ
+
+-- what files tell, and how many calls they have failed
+pub record FilesState : Type 0 where
+  pub map : Option FileMap
+  pub faults : ℕ
+
+-- an editor, the files that it fetches and stores, and how many tokens were cut so far
+pub record World : Type 0 where
+  pub editor : EditorState
+  pub files : FilesState
+  pub steps : ℕ
+
+abbrev pub files_state : Option FileMap → ℕ → FilesState
+files_state map faults = record { map = map; faults = faults }
+
+abbrev pub world : EditorState → FilesState → ℕ → World
+world editor files steps = record { editor = editor; files = files; steps = steps }
+
+-- the folder that URIs are read against
+abbrev pub work_folder : List ℕ
+work_folder = codes "file:///work/"
+
+-- an editor of the document under this URI, before its first edit
+abbrev pub opened : List ℕ → List ℕ → EditorState
+opened uri text = record { text = text; caret = 0; document = uri }
+
+-- an editor before its first command
+abbrev pub new_editor : EditorState
+new_editor = opened (codes "file:///work/untitled.xml") []
+
+-- where a caret goes: it moves with the text, but stays where text is put in at it
+abbrev pub caret_after : Edit → ℕ → ℕ
+caret_after edit caret = if caret == edit.from then caret else moved_place caret edit
+
+-- the editor after the bytes from `from` to `to` were replaced by the added ones
+abbrev pub edited_editor : EditorState → ℕ → ℕ → List ℕ → EditorState
+edited_editor old from to added = record {
+  text = edited old.text from to added;
+  caret = caret_after (record { from = from; to = to; added = length added }) old.caret;
+  document = old.document;
+}

@@ -1,0 +1,14 @@
+//! Laws of the editor. Nothing here runs.
+
+ghost use Rattle.nx_session.specs.Faults.{TextsGiveText};
+ghost use Rattle.nx_session.specs.Step.{RefusalsLeaveTheEditor};
+
+/// A refused command leaves the text, the caret and the document's URI.
+pub fn refusals_leave_the_editor()
+    ensures { RefusalsLeaveTheEditor }
+{}
+
+/// The names, strings and details that a text gives are text.
+pub fn texts_give_text()
+    ensures { TextsGiveText }
+{}
