@@ -20,7 +20,7 @@ TextsHaveOneAnswer = (text : List ℕ) (one other : Result (List RncToken) LexFa
 
 -- and it has an answer
 abbrev pub TextsHaveAnAnswer : Type 0
-TextsHaveAnAnswer = (text : List ℕ) → IsUtf8 text → (answer : Result (List RncToken) LexFault) × Tells answer × Lexes text answer
+TextsHaveAnAnswer = (text : List ℕ) → (answer : Result (List RncToken) LexFault) × Tells answer × Lexes text answer
 
 -- the texts of a token are UTF-8
 abbrev pub HasUtf8Texts : Lexeme → Type 0

@@ -2,3 +2,4 @@ pub mod Letters
 pub mod Words
 pub mod Tokens
 pub mod Laws
+pub mod Reading
