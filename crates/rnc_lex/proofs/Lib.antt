@@ -1,0 +1,16 @@
+pub mod Prefixes
+pub mod Steps
+pub mod Ascii
+pub mod Escapes
+pub mod Spelled
+pub mod LettersRead
+pub mod TokenSteps
+pub mod Names
+pub mod Meant
+pub mod NamesRead
+pub mod LiteralsRead
+pub mod MarksRead
+pub mod Fronts
+pub mod TokensRead
+pub mod Lexed
+pub mod Places

@@ -1,0 +1,5 @@
+pub mod Letters
+pub mod Words
+pub mod Tokens
+pub mod Laws
+pub mod Reading
