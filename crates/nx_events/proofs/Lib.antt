@@ -31,3 +31,4 @@ pub mod SpelledTags
 pub mod TagKinds
 pub mod OpenTags
 pub mod StatesKnown
+pub mod MarkupForms

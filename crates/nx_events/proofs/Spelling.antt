@@ -27,7 +27,7 @@ joined_all p [] ys h k = k
 joined_all p (x ∷ xs) ys h k = (h.0, joined_all p xs ys h.1 k)
 
 -- white space is between attributes, and no quote
-space_between : (b : ℕ) → is_space b ≡ true → is_between b ≡ true
+pub space_between : (b : ℕ) → is_space b ≡ true → is_between b ≡ true
 space_between b e = ap (λ (t : Bool). t || (b == 47) || (b == 62)) e
 
 space_no_quote : (b : ℕ) → is_space b ≡ true → is_quote b ≡ false

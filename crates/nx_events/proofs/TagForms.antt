@@ -63,7 +63,7 @@ ends_one : (c : ℕ) → ends_name c ≡ true → (c ≡ 9) ⊎ ((c ≡ 10) ⊎ 
 unfolding is_space
 ends_one c h = grind (arith, nat_tests)
 
-no_name_char : (c : ℕ) → ends_name c ≡ true → is_name_char c ≡ false
+pub no_name_char : (c : ℕ) → ends_name c ≡ true → is_name_char c ≡ false
 unfolding is_name_char is_name_start
 no_name_char c h =
     elim (ends_one c h) [

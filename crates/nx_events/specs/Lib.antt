@@ -23,3 +23,4 @@ pub mod Spans
 pub mod Moves
 pub mod Spelling
 pub mod SpelledTags
+pub mod MarkupForm

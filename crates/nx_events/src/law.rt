@@ -1,6 +1,7 @@
 //! Laws of events and faults, by which the layers above know where they lie and that they move with the text. Nothing here runs.
 
 ghost use Rattle.nx_events.specs.DeclarationForm.{DeclarationsAreSpelled};
+ghost use Rattle.nx_events.specs.MarkupForm.{CommentsAreJudged, InstructionsAreJudged};
 ghost use Rattle.nx_events.specs.Moves.{ItemsMoveWithTokens, StatesHoldNoPlace, ItemsMoveWithEnd};
 ghost use Rattle.nx_events.specs.Spelling.{TagsAreRead};
 ghost use Rattle.nx_events.specs.OpenTags.{StatesAreKnown};
@@ -93,4 +94,14 @@ pub fn tags_are_spelled()
 /// data, and these make the state: its elements, its scope, its pending run and its flags.
 pub fn states_are_known()
     ensures { StatesAreKnown }
+{}
+
+/// A comment is bad exactly where its content has `--`, or `-` at its end.
+pub fn comments_are_judged()
+    ensures { CommentsAreJudged }
+{}
+
+/// A processing instruction is good exactly where a target of its own stands at its front.
+pub fn instructions_are_judged()
+    ensures { InstructionsAreJudged }
 {}
