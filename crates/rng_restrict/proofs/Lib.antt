@@ -1,0 +1,10 @@
+pub mod Members
+pub mod PartsFound
+pub mod PathsFound
+pub mod ContentsFound
+pub mod AttributesFound
+pub mod ElementsFound
+pub mod TextsFound
+pub mod Sides
+pub mod Reached
+pub mod Judged

@@ -1,0 +1,33 @@
+//! Refusals.
+
+ghost use Rattle.std.specs.Prelude.{◌≡◌};
+ghost use Rattle.rng_restrict.specs.declared.fault.RestrictFault.TheVariants.{NoMemory as OutOfMemory};
+
+use nx_base::memory::NoMemory;
+
+/// The restriction that a grammar breaks (ISO/IEC 19757-2, section 7).
+#[derive(Clone, Copy, Debug, PartialEq, Eq)]
+pub enum RestrictFault {
+    /// A prohibited path (7.1).
+    Path,
+    /// An element's content mixes data with elements or text (7.2).
+    Mixture,
+    /// Both sides of a group or an interleave have an attribute with a name in common (7.3).
+    AttributeOverlap,
+    /// An attribute with anyName or nsName isn't repeated (7.3).
+    WildcardOnce,
+    /// Both sides of an interleave refer to an element with a name in common (7.4).
+    InterleaveOverlap,
+    /// Text occurs in both sides of an interleave (7.4).
+    TextTwice,
+    /// There was no memory.
+    NoMemory,
+}
+
+impl From<NoMemory> for RestrictFault {
+    ghost from_gives = { λ _ fault. fault ≡ OutOfMemory };
+
+    fn from(_error: NoMemory) -> RestrictFault {
+        RestrictFault::NoMemory
+    }
+}
