@@ -31,7 +31,7 @@ use Rattle.nx_events.specs.declared.reading.Reading.TheVariants.{Plain, Text, Va
 use Rattle.nx_events.specs.declared.scope.Binding.{Binding}
 use Rattle.nx_document.specs.Constraints.{IsTag, no_attribute, declaration, attribute}
 use Rattle.nx_document.specs.Document.{absent, present, no_further, further, white_space, Element, by_empty, by_tags, Content, no_more, by_element, by_text, by_section, by_comment, Document}
-use Rattle.nx_document.specs.WellFormed.{faults_among}
+use Rattle.nx_events.specs.Among.{faults_among}
 use Rattle.nx_document.proofs.Characters.{is_legal}
 use Rattle.nx_document.proofs.Nesting.{document_reads}
 

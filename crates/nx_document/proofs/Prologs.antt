@@ -10,7 +10,7 @@ use Rattle.nx_events.specs.declared.item.Item.{Item}
 use Rattle.nx_events.specs.declared.state.EventState.{EventState}
 use Rattle.nx_document.specs.Constraints.{IsMark, IsXmlDeclaration, IsDoctype}
 use Rattle.nx_document.specs.Document.{Optional, absent, present, Repeated, no_further, further, IsMisc, comment, instruction, white_space, Element, Document}
-use Rattle.nx_document.specs.WellFormed.{faults_among}
+use Rattle.nx_events.specs.Among.{faults_among}
 use Rattle.nx_document.proofs.Told.{Clean, faulty}
 use Rattle.nx_document.proofs.Frames.{at}
 use Rattle.nx_document.proofs.Steps.{comment_silent, instruction_silent, mark_silent, declaration_silent, doctype_silent, blank_silent, declaration_kept, doctype_kept, comment_kept, instruction_kept, blank_kept, section_outside, bad_never, unclosed_never}

@@ -8,7 +8,7 @@ use Rattle.nx_events.specs.Items.{token_span, token_fault_if}
 use Rattle.nx_events.specs.declared.item.Event.{Event}
 use Rattle.nx_events.specs.declared.item.Item.{Item}
 use Rattle.nx_events.specs.declared.item.Item.TheVariants as items
-use Rattle.nx_document.specs.WellFormed.{faults_among, events_among}
+use Rattle.nx_events.specs.Among.{faults_among, events_among}
 
 -- no fault is among the items
 pub record Clean (all : List Item) : Type 0 where

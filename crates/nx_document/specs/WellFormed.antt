@@ -1,31 +1,18 @@
 -- A text has no fault exactly where it is a document, and its events are then those of its tree.
-use Rattle.std.specs.Prelude.{◌≡◌, ◌↔◌, ℕ, List, [], ◌∷◌, map}
+use Rattle.std.specs.Prelude.{◌≡◌, ◌↔◌, ℕ, List, [], map}
 use Rattle.std.specs.Str.{IsUtf8, chars}
 use Rattle.nx_base.specs.Characters.{is_nc_name}
 use Rattle.nx_base.specs.Tokens.{tokens_of}
 use Rattle.nx_base.specs.Trees.{Tree, AreChildren, AreWritable, alone, flat}
 use Rattle.nx_base.specs.Trees as trees
-use Rattle.nx_base.specs.declared.fault.Fault.{Fault}
 use Rattle.nx_base.specs.declared.token.Token.{Token}
+use Rattle.nx_events.specs.Among.{faults_among, events_among}
 use Rattle.nx_events.specs.Items.{items_of, items_of_text}
 use Rattle.nx_events.specs.Names.{is_ncname}
 use Rattle.nx_events.specs.declared.item.Event.{Event}
 use Rattle.nx_events.specs.declared.item.Event.TheVariants.{Enter, Att, TagEnd, Chars, Leave}
 use Rattle.nx_events.specs.declared.item.Item.{Item}
-use Rattle.nx_events.specs.declared.item.Item.TheVariants as items
 use Rattle.nx_document.specs.Document.{Document}
-
--- the faults among items, in order
-abbrev pub faults_among : List Item → List Fault
-faults_among [] = []
-faults_among (items.Event event span ∷ others) = faults_among others
-faults_among (items.Fault fault ∷ others) = fault ∷ faults_among others
-
--- and the events
-abbrev pub events_among : List Item → List Event
-events_among [] = []
-events_among (items.Event event span ∷ others) = event ∷ events_among others
-events_among (items.Fault fault ∷ others) = events_among others
 
 -- an event of a tree among the events of texts, which can also enter an element without a name
 abbrev pub as_event : trees.Event → Event

@@ -20,13 +20,14 @@ use Rattle.nx_events.specs.declared.item.Item.TheVariants as items
 use Rattle.nx_events.specs.declared.state.EventState.{EventState}
 use Rattle.nx_events.proofs.Folding.{back_grows}
 use Rattle.nx_events.proofs.TextItems.{all_text}
-use Rattle.nx_session.specs.Faults.{faults_in, faults_of, FaultsAreText, CutsTokens}
+use Rattle.nx_events.specs.Among.{faults_among}
+use Rattle.nx_session.specs.Faults.{faults_of, FaultsAreText, CutsTokens}
 
 -- what was read up to the place, and what is left
 pub record IsReading (text : List ℕ) (at : ℕ) (state : EventState) (faults : List Fault) (before now : ℕ) : Type 0 where
   pub place : IsPlace text at
   pub back : run_back state.run ≤ at
-  pub found : faults_of text ≡ faults ++ faults_in (items_from state (tokens_from text at) (length text))
+  pub found : faults_of text ≡ faults ++ faults_among (items_from state (tokens_from text at) (length text))
   pub later : before ≤ now
   pub cut_so_far : now + length (tokens_from text at) ≤ before + length (tokens_of text)
 
@@ -77,7 +78,7 @@ items-end state len = refl
 -- the token was read
 pub reading-more : (text : List ℕ) (at : ℕ) (state next : EventState) (old new : List Fault) (more : List Item) (before was now : ℕ) (token : Token) →
     IsReading text at state old before was → Reads text at token → more ≡ items_of_token state token → next ≡ state_behind state token →
-    new ≡ old ++ faults_in more → now ≡ was + 1 → IsReading text (at + length token.bytes) next new before now
+    new ≡ old ++ faults_among more → now ≡ was + 1 → IsReading text (at + length token.bytes) next new before now
 reading-more text at state next old new more before was now token h r m n f s =
     let len = length text in
     let rest = tokens_from text (at + length token.bytes) in
@@ -90,11 +91,11 @@ reading-more text at state next old new more before was now token h r m n f s =
       back = (let back = h.back in omega (arith, back_grows state token));
       found =
           h.found
-          ∙ ap (λ (ts : List Token). old ++ faults_in (items_from state ts len)) r.rest
-          ∙ ap (λ (is : List Item). old ++ faults_in is) (items-next state token rest len)
+          ∙ ap (λ (ts : List Token). old ++ faults_among (items_from state ts len)) r.rest
+          ∙ ap (λ (is : List Item). old ++ faults_among is) (items-next state token rest len)
           ∙ ap (λ (fs : List Fault). old ++ fs) (flat_map-append _ (items_of_token state token) (items_from (state_behind state token) rest len))
-          ∙ sym (append_assoc old (faults_in (items_of_token state token)) (faults_in (items_from (state_behind state token) rest len)))
-          ∙ ap (λ (fs : List Fault). fs ++ faults_in (items_from (state_behind state token) rest len)) (ap (λ (is : List Item). old ++ faults_in is) (sym m) ∙ sym f);
+          ∙ sym (append_assoc old (faults_among (items_of_token state token)) (faults_among (items_from (state_behind state token) rest len)))
+          ∙ ap (λ (fs : List Fault). fs ++ faults_among (items_from (state_behind state token) rest len)) (ap (λ (is : List Item). old ++ faults_among is) (sym m) ∙ sym f);
       later = omega arith;
       cut_so_far = omega arith;
     })
@@ -106,10 +107,10 @@ tokens-none (suc n) text at e = absurd (omega arith)
 
 -- the end was reached
 pub reading-ended : (text : List ℕ) (at : ℕ) (state : EventState) (old new : List Fault) (more : List Item) (before was : ℕ) →
-    IsReading text at state old before was → at ≡ length text → more ≡ items_at_end state (length text) → new ≡ old ++ faults_in more → new ≡ faults_of text
+    IsReading text at state old before was → at ≡ length text → more ≡ items_at_end state (length text) → new ≡ old ++ faults_among more → new ≡ faults_of text
 reading-ended text at state old new more before was h e m f =
     let none : tokens_from text at ≡ [] = tokens-none (length text - at) text at (omega arith) in
-    f ∙ ap (λ (is : List Item). old ++ faults_in is) (m ∙ sym (items-end state (length text)) ∙ ap (λ (ts : List Token). items_from state ts (length text)) (sym none)) ∙ sym h.found
+    f ∙ ap (λ (is : List Item). old ++ faults_among is) (m ∙ sym (items-end state (length text)) ∙ ap (λ (ts : List Token). items_from state ts (length text)) (sym none)) ∙ sym h.found
 
 -- wherever reading stops, and one more look is taken, no token was cut twice
 pub reading-stops : (text : List ℕ) (at : ℕ) (state : EventState) (faults : List Fault) (before was now : ℕ) → IsReading text at state faults before was → now ≡ was + 1 → CutsTokens text before now
@@ -140,7 +141,7 @@ tokens_text (suc n) text at utf8 place = elim (cases_lt at (length text)) [
 pub texts_give_text : (text : List ℕ) → IsUtf8 text → ItemsAreText (items_of_text text)
 texts_give_text text utf8 = all_text (tokens_of text) (length text) (tokens_text (length text - 0) text 0 utf8 (IsCharBoundary-start text utf8))
 
-details_text : (all : List Item) → ItemsAreText all → FaultsAreText (faults_in all)
+details_text : (all : List Item) → ItemsAreText all → FaultsAreText (faults_among all)
 details_text [] h = tt
 details_text (items.Event event span ∷ all) h = details_text all h.1
 details_text (items.Fault fault ∷ all) h = (h.0, details_text all h.1)

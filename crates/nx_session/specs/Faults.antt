@@ -1,26 +1,16 @@
 -- The faults of a whole text.
-use Rattle.std.specs.Prelude.{ℕ, suc, ◌+◌, ◌≤◌, List, [], ◌∷◌, length}
-use Rattle.std.specs.List.{AllByRecursion, flat_map}
+use Rattle.std.specs.Prelude.{ℕ, suc, ◌+◌, ◌≤◌, List, length}
+use Rattle.std.specs.List.{AllByRecursion}
 use Rattle.std.specs.Str.{IsUtf8}
 use Rattle.nx_base.specs.Tokens.{tokens_of}
 use Rattle.nx_base.specs.declared.fault.Fault.{Fault}
+use Rattle.nx_events.specs.Among.{faults_among}
 use Rattle.nx_events.specs.Items.{items_of_text}
 use Rattle.nx_events.specs.Texts.{ItemsAreText}
-use Rattle.nx_events.specs.declared.item.Item.{Item}
-use Rattle.nx_events.specs.declared.item.Item.TheVariants as items
-
--- the fault that an item is, if it is one
-abbrev pub fault_in : Item → List Fault
-fault_in (items.Event event span) = []
-fault_in (items.Fault fault) = fault ∷ []
-
--- those of the items that are faults, in order
-abbrev pub faults_in : List Item → List Fault
-faults_in all = flat_map fault_in all
 
 -- the faults of a text, in the order in which they arise: those of its characters, its markup, its nesting and its namespaces
 abbrev pub faults_of : List ℕ → List Fault
-faults_of text = faults_in (items_of_text text)
+faults_of text = faults_among (items_of_text text)
 
 -- the details of the faults are text
 abbrev pub FaultsAreText : List Fault → Type 0
