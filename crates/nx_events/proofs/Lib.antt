@@ -31,3 +31,5 @@ pub mod TagKinds
 pub mod OpenTags
 pub mod StatesKnown
 pub mod MarkupForms
+pub mod SeenNames
+pub mod KeptNames

@@ -14,6 +14,7 @@ pub mod Tags
 pub mod Scopes
 pub mod Declarations
 pub mod Elements
+pub mod SeenNames
 pub mod Runs
 pub mod Items
 pub mod OpenTags
