@@ -33,3 +33,4 @@ pub mod StatesKnown
 pub mod MarkupForms
 pub mod SeenNames
 pub mod KeptNames
+pub mod QualifiedNames

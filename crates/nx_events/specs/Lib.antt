@@ -24,3 +24,4 @@ pub mod Moves
 pub mod Spelling
 pub mod SpelledTags
 pub mod MarkupForm
+pub mod QualifiedNames
