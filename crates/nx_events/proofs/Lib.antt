@@ -32,3 +32,6 @@ pub mod TagKinds
 pub mod OpenTags
 pub mod StatesKnown
 pub mod MarkupForms
+pub mod SeenNames
+pub mod KeptNames
+pub mod QualifiedNames

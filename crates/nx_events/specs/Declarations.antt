@@ -34,13 +34,17 @@ is_bad_binding prefix uri =
 abbrev pub has_attribute : List Attribute → List ℕ → Bool
 has_attribute attributes name = list_any (λ other. bytes_eq other.name name) attributes
 
--- what is wrong with a declaration behind the attributes `before` of its tag
-unfoldable pub flaw_kind : List Attribute → Attribute → Option Kind
-flaw_kind before it =
-    if has_attribute before it.name then Some DuplicateAttribute
+-- what is wrong with a declaration, by whether its name came before in its tag
+abbrev pub flaw_if : Bool → Attribute → Option Kind
+flaw_if came it =
+    if came then Some DuplicateAttribute
     else (if not (is_qname it.name) then Some BadName
     else (if is_bad_binding (declared_prefix it.name) it.string then Some BadBinding
     else None))
+
+-- behind the attributes `before` of its tag
+unfoldable pub flaw_kind : List Attribute → Attribute → Option Kind
+flaw_kind before it = flaw_if (has_attribute before it.name) it
 
 -- the same with the written name
 abbrev pub with_name : List ℕ → Option Kind → Option Flaw

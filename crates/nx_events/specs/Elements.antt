@@ -62,6 +62,15 @@ unfoldable pub resolved_if_attribute : List Binding → List Name → Attribute 
 resolved_if_attribute scope kept it =
     if is_declaration it.name then None else Some (attribute_resolved scope kept it.name)
 
+-- the same in two steps: the name by its prefix, and whether it is new
+unfoldable pub attribute_declared : List Binding → List ℕ → Resolved
+attribute_declared scope written =
+    if not (is_qname written) then flawed_as BadName written
+    else declared_or_flaw (expand_attribute scope written) written
+
+unfoldable pub declared_if_attribute : List Binding → Attribute → Option Resolved
+declared_if_attribute scope it = if is_declaration it.name then None else Some (attribute_declared scope it.name)
+
 -- what it gives, and the name that it keeps
 abbrev pub attribute_item : Attribute → Option Resolved → List Item
 attribute_item it None = []

@@ -15,6 +15,7 @@ pub mod Tags
 pub mod Scopes
 pub mod Declarations
 pub mod Elements
+pub mod SeenNames
 pub mod Runs
 pub mod Items
 pub mod OpenTags
@@ -25,3 +26,4 @@ pub mod Spelling
 pub mod SpelledTags
 pub mod MarkupForm
 pub mod Among
+pub mod QualifiedNames

@@ -1,14 +1,17 @@
 //! The element of a tag, and its attributes (Namespaces in XML 1.0, sections 5 and 6).
 
-ghost use Rattle.std.specs.Prelude.{◌≡◌, ◌++◌, [], ◌∷◌, IfOk, OnOk};
+ghost use Rattle.std.specs.Prelude.{◌≡◌, ◌++◌, [], ◌∷◌, List, Some, IfOk, OnOk};
 ghost use Rattle.nx_events.specs.Faults.{faults_as_items};
-ghost use Rattle.nx_events.specs.Elements.{flawed_as, declared_or_flaw, element_resolved, element_items, is_same_name, has_name, new_or_flaw, attribute_resolved, resolved_if_attribute, attribute_item, kept_name, attribute_items};
+ghost use Rattle.nx_base.specs.declared.name.Name.{Name};
+ghost use Rattle.nx_events.specs.Elements.{flawed_as, declared_or_flaw, element_resolved, element_items, new_or_flaw, attribute_declared, declared_if_attribute, attribute_item, kept_name, attribute_items};
+ghost use Rattle.nx_events.specs.SeenNames.{AreKept, new_of};
 
 use crate::flaw::{Flaw, Resolved};
 use crate::item::{Event, Item, Items};
 use crate::namespace::{is_declaration, push_flaw};
 use crate::qname::{is_qname, prefix_of};
 use crate::scope::{Binding, expand_attribute, expand_element};
+use crate::seen::Seen;
 use crate::tag::{Attribute, copy_of};
 use nx_base::fault::{Kind, Span};
 use nx_base::memory::NoMemory;
@@ -83,38 +86,22 @@ pub(crate) fn push_element(
     Ok(())
 }
 
-fn is_same_name(a: &Name, b: &Name) -> bool
-    ensures { result ≡ is_same_name a.now b.now }
-{
-    a.ns.as_slice() == b.ns.as_slice() && a.local.as_slice() == b.local.as_slice()
-}
-
-// Whether the name is among these.
-fn has_name(kept: &[Name], name: &Name) -> bool
-    ensures { result ≡ has_name kept.now name.now }
-{
-    for other in kept {
-        if is_same_name(other, name) {
-            return true;
-        }
-    }
-    false
-}
-
-// The name, or that it is among these already.
+// The name, or that it is among those kept. A new name is kept.
 #[tactic(auto, unfolding(crate::specs::Elements::new_or_flaw))]
-fn new_or_flaw(
+fn keep_new(
     alloc: Global,
-    kept: &[Name],
+    kept: &mut Seen,
     resolved: Resolved,
     written: &[u8],
 ) -> Result<Resolved, NoMemory>
-    ensures { IfOk result (λ outcome. outcome ≡ new_or_flaw kept.now resolved written.now) }
+    ensures outcome { (names : List Name) → AreKept kept.old.names.keys names → IfOk result (λ outcome. outcome ≡ new_or_flaw names resolved written.now) }
+    ensures kept { (names : List Name) → AreKept kept.old.names.keys names →
+        IfOk result (λ outcome. AreKept kept.new.names.keys (names ++ kept_name (Some outcome))) }
 {
     match resolved {
         Resolved::Flawed(flaw) => Ok(Resolved::Flawed(flaw)),
         Resolved::Named(name) => {
-            if has_name(kept, &name) {
+            if kept.insert(alloc, name.ns.as_slice(), name.local.as_slice())? {
                 let twice = flawed(alloc, Kind::DuplicateAttribute, written)?;
                 Ok(twice)
             } else {
@@ -124,16 +111,15 @@ fn new_or_flaw(
     }
 }
 
-// The name of an attribute behind those that kept these names.
-#[tactic(auto, unfolding(crate::specs::Elements::attribute_resolved))]
-fn attribute_resolved(
+// The name of an attribute by its prefix.
+#[tactic(auto, unfolding(crate::specs::Elements::attribute_declared))]
+fn attribute_declared(
     alloc: Global,
     outer: &[Binding],
     own: &[Binding],
-    kept: &[Name],
     written: &[u8],
 ) -> Result<Resolved, NoMemory>
-    ensures { IfOk result (λ resolved. resolved ≡ attribute_resolved (outer.now ++ own.now) kept.now written.now) }
+    ensures { IfOk result (λ resolved. resolved ≡ attribute_declared (outer.now ++ own.now) written.now) }
 {
     if !is_qname(written) {
         let resolved = flawed(alloc, Kind::BadName, written)?;
@@ -141,43 +127,54 @@ fn attribute_resolved(
     }
     let name = expand_attribute(alloc, outer, own, written)?;
     let declared = declared_or_flaw(alloc, name, written)?;
-    let resolved = new_or_flaw(alloc, kept, declared, written)?;
-    Ok(resolved)
+    Ok(declared)
 }
 
-#[tactic(auto, unfolding(crate::specs::Elements::resolved_if_attribute))]
-fn resolved_if_attribute(
+#[tactic(auto, unfolding(crate::specs::Elements::declared_if_attribute))]
+fn declared_if_attribute(
     alloc: Global,
     outer: &[Binding],
     own: &[Binding],
-    kept: &[Name],
     it: &Attribute,
 ) -> Result<Option<Resolved>, NoMemory>
-    ensures { IfOk result (λ resolved. resolved ≡ resolved_if_attribute (outer.now ++ own.now) kept.now it.now) }
+    ensures { IfOk result (λ resolved. resolved ≡ declared_if_attribute (outer.now ++ own.now) it.now) }
 {
     if is_declaration(it.name.as_slice()) {
         return Ok(None);
     }
-    let resolved = attribute_resolved(alloc, outer, own, kept, it.name.as_slice())?;
+    let resolved = attribute_declared(alloc, outer, own, it.name.as_slice())?;
     Ok(Some(resolved))
+}
+
+// Adds the item of an attribute.
+fn push_resolved(items: &mut Items, it: &Attribute, resolved: Resolved) -> Result<(), NoMemory>
+    ensures { OnOk result (items.new ≡ items.old ++ attribute_item it.now (Some resolved)) }
+{
+    match resolved {
+        Resolved::Flawed(flaw) => push_flaw(items, it.span, flaw)?,
+        Resolved::Named(name) => {
+            items.push(Item::Event(Event::Att(name, it.string.copy()?), it.value))?;
+        }
+    }
+    Ok(())
 }
 
 // Adds the item of an attribute, and its name to those kept.
 fn push_attribute(
+    alloc: Global,
     items: &mut Items,
-    kept: &mut Vec<Name>,
+    kept: &mut Seen,
     it: &Attribute,
-    resolved: Option<Resolved>,
+    declared: Option<Resolved>,
 ) -> Result<(), NoMemory>
-    ensures items { OnOk result (items.new ≡ items.old ++ attribute_item it.now resolved) }
-    ensures kept { OnOk result (kept.new.items ≡ kept.old.items ++ kept_name resolved) }
+    ensures items { (names : List Name) → AreKept kept.old.names.keys names → OnOk result (items.new ≡ items.old ++ attribute_item it.now (new_of names declared it.now.name)) }
+    ensures kept { (names : List Name) → AreKept kept.old.names.keys names → OnOk result (AreKept kept.new.names.keys (names ++ kept_name (new_of names declared it.now.name))) }
 {
-    match resolved {
+    match declared {
         None => {}
-        Some(Resolved::Flawed(flaw)) => push_flaw(items, it.span, flaw)?,
-        Some(Resolved::Named(name)) => {
-            kept.push(name.copy()?)?;
-            items.push(Item::Event(Event::Att(name, it.string.copy()?), it.value))?;
+        Some(resolved) => {
+            let outcome = keep_new(alloc, kept, resolved, it.name.as_slice())?;
+            push_resolved(items, it, outcome)?;
         }
     }
     Ok(())
@@ -193,10 +190,10 @@ pub(crate) fn push_attributes(
 ) -> Result<(), NoMemory>
     ensures { OnOk result (items.new ≡ items.old ++ attribute_items (outer.now ++ own.now) [] attributes.now) }
 {
-    let mut kept = Vec::new(alloc);
+    let mut kept = Seen::new(alloc);
     for it in attributes {
-        let resolved = resolved_if_attribute(alloc, outer, own, kept.as_slice(), it)?;
-        push_attribute(items, &mut kept, it, resolved)?;
+        let declared = declared_if_attribute(alloc, outer, own, it)?;
+        push_attribute(alloc, items, &mut kept, it, declared)?;
     }
     Ok(())
 }

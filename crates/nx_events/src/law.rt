@@ -5,6 +5,7 @@ ghost use Rattle.nx_events.specs.MarkupForm.{CommentsAreJudged, InstructionsAreJ
 ghost use Rattle.nx_events.specs.Moves.{ItemsMoveWithTokens, StatesHoldNoPlace, ItemsMoveWithEnd};
 ghost use Rattle.nx_events.specs.Spelling.{TagsAreRead};
 ghost use Rattle.nx_events.specs.OpenTags.{StatesAreKnown};
+ghost use Rattle.nx_events.specs.QualifiedNames.{QNamesAreSpelled};
 ghost use Rattle.nx_events.specs.SpelledTags.{TagsAreSpelled};
 ghost use Rattle.nx_events.specs.StringsRead.{StringsAreRead};
 ghost use Rattle.nx_events.specs.Texts.{TokensGiveText, FirstStateIsText, EndsGiveText, AllTokensGiveText};
@@ -104,4 +105,10 @@ pub fn comments_are_judged()
 /// A processing instruction is good exactly where a target of its own stands at its front.
 pub fn instructions_are_judged()
     ensures { InstructionsAreJudged }
+{}
+
+/// A name is a QName exactly where its grammar says so, in one way at most, and its prefix and local part are those
+/// of that way.
+pub fn qnames_are_spelled()
+    ensures { QNamesAreSpelled }
 {}

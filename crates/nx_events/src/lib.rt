@@ -32,6 +32,7 @@ pub mod reader;
 mod reading;
 mod reference;
 mod scope;
+mod seen;
 mod stage;
 mod start_tag;
 pub mod state;

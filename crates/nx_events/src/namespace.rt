@@ -1,13 +1,16 @@
 //! The namespace declarations of a tag (Namespaces in XML 1.0, sections 2.2, 3 and 5).
 
-ghost use Rattle.std.specs.Prelude.{◌≡◌, ◌++◌, [], IfOk, OnOk};
+ghost use Rattle.std.specs.Prelude.{◌≡◌, ◌++◌, [], ◌∷◌, List, IfOk, OnOk};
 ghost use Rattle.nx_events.specs.Faults.{fault_of, faults_as_items};
-ghost use Rattle.nx_events.specs.Declarations.{is_declaration, declared_prefix, is_bad_binding, has_attribute, flaw_kind, declaration_flaw, flaw_faults, binding_unless, faults_at, bindings_at, declaration_faults, bindings};
+ghost use Rattle.nx_events.specs.declared.tag.Attribute.{Attribute};
+ghost use Rattle.nx_events.specs.Declarations.{is_declaration, declared_prefix, is_bad_binding, flaw_if, with_name, flaw_faults, binding_unless, faults_at, bindings_at, declaration_faults, bindings};
+ghost use Rattle.nx_events.specs.SeenNames.{AreDeclared};
 
 use crate::flaw::Flaw;
 use crate::item::{Item, Items};
 use crate::qname::is_qname;
 use crate::scope::{Binding, XML_URI, XMLNS_URI};
+use crate::seen::Seen;
 use crate::tag::{Attribute, copy_of};
 use nx_base::fault::{Fault, Kind, Span};
 use nx_base::memory::NoMemory;
@@ -46,24 +49,11 @@ fn is_bad_binding(prefix: &[u8], uri: &[u8]) -> bool
         || (!prefix.is_empty() && uri.is_empty())
 }
 
-// Whether an attribute of this name is among these.
-fn has_attribute(attributes: &[Attribute], name: &[u8]) -> bool
-    ensures { result ≡ has_attribute attributes.now name.now }
+// What is wrong with a declaration, by whether its name came before in its tag.
+fn flaw_if(came: bool, it: &Attribute) -> Option<Kind>
+    ensures { result ≡ flaw_if came it.now }
 {
-    for other in attributes {
-        if other.name.as_slice() == name {
-            return true;
-        }
-    }
-    false
-}
-
-// What is wrong with a declaration behind these attributes of its tag.
-#[tactic(auto, unfolding(crate::specs::Declarations::flaw_kind))]
-fn flaw_kind(before: &[Attribute], it: &Attribute) -> Option<Kind>
-    ensures { result ≡ flaw_kind before.now it.now }
-{
-    if has_attribute(before, it.name.as_slice()) {
+    if came {
         return Some(Kind::DuplicateAttribute);
     }
     if !is_qname(it.name.as_slice()) {
@@ -92,13 +82,13 @@ fn declare(
     alloc: Global,
     items: &mut Items,
     own: &mut Vec<Binding>,
-    before: &[Attribute],
+    came: bool,
     it: &Attribute,
 ) -> Result<(), NoMemory>
-    ensures faults { OnOk result (items.new ≡ items.old ++ faults_as_items (flaw_faults it.now.span (declaration_flaw before.now it.now))) }
-    ensures pairs { OnOk result (own.new.items ≡ own.old.items ++ binding_unless it.now (declaration_flaw before.now it.now)) }
+    ensures faults { OnOk result (items.new ≡ items.old ++ faults_as_items (flaw_faults it.now.span (with_name it.now.name (flaw_if came it.now)))) }
+    ensures pairs { OnOk result (own.new.items ≡ own.old.items ++ binding_unless it.now (with_name it.now.name (flaw_if came it.now))) }
 {
-    match flaw_kind(before, it) {
+    match flaw_if(came, it) {
         Some(kind) => {
             let detail = it.name.copy()?;
             push_flaw(items, it.span, Flaw { kind, detail })?;
@@ -113,20 +103,22 @@ fn declare(
     Ok(())
 }
 
-// The same of any attribute.
+// The same of any attribute, behind those before whose declarations came.
 #[tactic(auto, unfolding(crate::specs::Declarations::faults_at, crate::specs::Declarations::bindings_at))]
 fn declare_if(
     alloc: Global,
     items: &mut Items,
     own: &mut Vec<Binding>,
-    before: &[Attribute],
+    came: &mut Seen,
     it: &Attribute,
 ) -> Result<(), NoMemory>
-    ensures faults { OnOk result (items.new ≡ items.old ++ faults_as_items (faults_at before.now it.now)) }
-    ensures pairs { OnOk result (own.new.items ≡ own.old.items ++ bindings_at before.now it.now) }
+    ensures faults { (before : List Attribute) → AreDeclared came.old.names.keys before → OnOk result (items.new ≡ items.old ++ faults_as_items (faults_at before it.now)) }
+    ensures pairs { (before : List Attribute) → AreDeclared came.old.names.keys before → OnOk result (own.new.items ≡ own.old.items ++ bindings_at before it.now) }
+    ensures came { (before : List Attribute) → AreDeclared came.old.names.keys before → OnOk result (AreDeclared came.new.names.keys (before ++ it.now ∷ [])) }
 {
     if is_declaration(it.name.as_slice()) {
-        declare(alloc, items, own, before, it)?;
+        let is_double = came.insert(alloc, &[], it.name.as_slice())?;
+        declare(alloc, items, own, is_double, it)?;
     }
     Ok(())
 }
@@ -141,8 +133,9 @@ pub(crate) fn declarations(
     ensures pairs { IfOk result (λ own. own.items ≡ bindings [] attributes.now) }
 {
     let mut own = Vec::new(alloc);
-    for (i, it) in attributes.iter().enumerate() {
-        declare_if(alloc, items, &mut own, &attributes[..i], it)?;
+    let mut came = Seen::new(alloc);
+    for it in attributes {
+        declare_if(alloc, items, &mut own, &mut came, it)?;
     }
     Ok(own)
 }

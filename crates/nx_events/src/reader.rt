@@ -46,10 +46,28 @@ pub fn take(alloc: Global, state: &mut EventState, token: &Token) -> Result<Item
     Ok(items)
 }
 
-/// Adds the items of one more token to a list, which a caller can use again for the next. Where it is refused,
-/// the state is as before, and the list holds some items.
+/// The same in the memory of a list that was used before, whatever it held.
+pub fn take_again(
+    alloc: Global,
+    used: Items,
+    state: &mut EventState,
+    token: &Token,
+) -> Result<Items, NoMemory>
+    requires place { run_back state.old.run ≤ token.now.from }
+    requires room { token.now.from + length token.now.bytes < 2 ^ 64 }
+    ensures items { IfOk result (λ items. items ≡ items_of_token state.old token.now) }
+    ensures state { OnOk result (state.new ≡ state_behind state.old token.now) }
+    ensures unchanged { OnErr result (state.new ≡ state.old) }
+{
+    let mut items = used;
+    items.cut(0, items.len());
+    take_into(alloc, &mut items, state, token)?;
+    Ok(items)
+}
+
+// Adds the items of one more token to a list.
 #[tactic(auto, unfolding(crate::specs::Items::items_of_token, crate::specs::Items::state_behind))]
-pub fn take_into(
+fn take_into(
     alloc: Global,
     items: &mut Items,
     state: &mut EventState,

@@ -1,7 +1,10 @@
-use Rattle.std.proofs.Common.{◌≡◌, ◌++◌, [], drop}
+use Rattle.std.proofs.Common.{◌≡◌, ◌++◌, List, [], drop}
+use Rattle.nx_base.specs.declared.name.Name.{Name}
 use Rattle.nx_events.specs.Elements.{attribute_items}
+use Rattle.nx_events.specs.SeenNames.{AreKept}
 use Rattle.nx_events.proofs.element.push_attributes.Given as goal
 
 abbrev pub invariant-loop-it : goal.invariant-loop-it
 invariant-loop-it l =
-    l.items ++ attribute_items (l.outer ++ l.own) l.kept.items (drop l.it-index l.attributes) ≡ l.initial.items ++ attribute_items (l.outer ++ l.own) [] l.attributes
+    (names : List Name) × AreKept l.kept.names.keys names
+    × (l.items ++ attribute_items (l.outer ++ l.own) names (drop l.it-index l.attributes) ≡ l.initial.items ++ attribute_items (l.outer ++ l.own) [] l.attributes)

@@ -1,17 +1,27 @@
-use Rattle.std.proofs.Common.{arith, refl}
-use Rattle.nx_events.proofs.Declarations.{declared_faults_more, declared_pairs_more, declared_faults_whole, declared_pairs_whole}
+use Rattle.std.proofs.Common.{◌≡◌, ◌++◌, ap, arith, refl, rules, subst, take, []}
+use Rattle.nx_events.specs.Declarations.{bindings}
+use Rattle.nx_events.specs.SeenNames.{AreDeclared}
+use Rattle.nx_events.proofs.Declarations.{next_before, declared_faults_more, declared_pairs_more, declared_faults_whole, declared_pairs_whole}
 use Rattle.nx_events.proofs.namespace.declarations.Goals as goal
 
-pub loop-i-preserved : goal.loop-i-preserved
-loop-i-preserved c =
+pub loop-it-init : goal.loop-it-init
+loop-it-init c =
+    let none : c.new-own.result.items ≡ [] = search rules in
+    (refl, ap (λ pairs. pairs ++ bindings [] c.args.attributes.now) none, λ name d. c.new-came.ensures [] name)
+
+pub loop-it-preserved : goal.loop-it-preserved
+loop-it-preserved c =
     let xs = c.args.attributes.now in
-    let it = c.index-attributes-i.result in (
-      declared_faults_more xs _ c.loop-i.i it c.loop-i.items c.declare_if.new.items _ (omega arith) c.index-attributes-i.is refl c.in_ok-declare_if.ensures.faults c.loop-i.invariant.0,
-      declared_pairs_more xs _ c.loop-i.i it c.loop-i.own.items c.declare_if.new.own.items _ (omega arith) c.index-attributes-i.is refl c.in_ok-declare_if.ensures.pairs c.loop-i.invariant.1,
+    let i = c.loop-it.it-index in
+    let it = c.it-item.result in
+    let inv = c.loop-it.invariant in (
+      declared_faults_more xs (take i xs) i it c.loop-it.items c.declare_if.new.items _ (omega arith) c.it-item.is refl (c.in_ok-declare_if.ensures.faults (take i xs) inv.2) inv.0,
+      declared_pairs_more xs (take i xs) i it c.loop-it.own.items c.declare_if.new.own.items _ (omega arith) c.it-item.is refl (c.in_ok-declare_if.ensures.pairs (take i xs) inv.2) inv.1,
+      subst (λ ys. AreDeclared c.declare_if.new.came.names.keys ys) (next_before xs i it (omega arith) c.it-item.is) (c.in_ok-declare_if.ensures.came (take i xs) inv.2),
     )
 
 pub returns-clause-faults : goal.returns-clause-faults
-returns-clause-faults c = declared_faults_whole c.args.attributes.now c.loop-i.i _ _ (omega arith) c.loop-i.invariant.0
+returns-clause-faults c = declared_faults_whole c.args.attributes.now c.loop-it.it-index _ _ (omega arith) c.loop-it.invariant.0
 
 pub returns-clause-pairs : goal.returns-clause-pairs
-returns-clause-pairs c = declared_pairs_whole c.args.attributes.now c.loop-i.i _ _ (omega arith) c.loop-i.invariant.1
+returns-clause-pairs c = declared_pairs_whole c.args.attributes.now c.loop-it.it-index _ _ (omega arith) c.loop-it.invariant.1

@@ -5,44 +5,44 @@ use Rattle.nx_session.proofs.Reading.{reads, reading-begun, reading-more, readin
 use Rattle.nx_session.proofs.faults.faults_of.Goals as goal
 
 pub loop-faults-init : goal.loop-faults-init
-loop-faults-init g c = (reading-begun c.args.text.now c.in_ok-state.state c.new-faults.result c.args.steps.now c.len-len.ensures.utf8 c.in_ok-state.ensures c.new-faults.ensures, c.new-items.ensures)
+loop-faults-init g c = reading-begun c.args.text.now c.in_ok-state.state c.new-faults.result c.args.steps.now c.len-len.ensures.utf8 c.in_ok-state.ensures c.new-faults.ensures
 
-pub push_token_faults-requires-clause-place : goal.push_token_faults-requires-clause-place
-push_token_faults-requires-clause-place g c =
-    let h = c.loop-faults.invariant.0 in
+pub take_again-requires-clause-place : goal.take_again-requires-clause-place
+take_again-requires-clause-place g c =
+    let h = c.loop-faults.invariant in
     let r = reads c.args.text.now c.loop-faults.at c.in-Some.token c.len-len.ensures.utf8 h.place (rw c.in-Some.is at c.in_ok-token.ensures.token) in
     omega (arith, r.from, h.back)
 
-pub push_token_faults-requires-clause-room : goal.push_token_faults-requires-clause-room
-push_token_faults-requires-clause-room g c =
-    let h = c.loop-faults.invariant.0 in
+pub take_again-requires-clause-room : goal.take_again-requires-clause-room
+take_again-requires-clause-room g c =
+    let h = c.loop-faults.invariant in
     let r = reads c.args.text.now c.loop-faults.at c.in-Some.token c.len-len.ensures.utf8 h.place (rw c.in-Some.is at c.in_ok-token.ensures.token) in
     omega (arith, r.from, r.fits, c.len-len.ensures.bytes)
 
 pub overflow_add-at : goal.overflow_add-at
 overflow_add-at g c =
-    let h = c.loop-faults.invariant.0 in
+    let h = c.loop-faults.invariant in
     let r = reads c.args.text.now c.loop-faults.at c.in-Some.token c.len-len.ensures.utf8 h.place (rw c.in-Some.is at c.in_ok-token.ensures.token) in
     omega (arith, c.len-at.ensures, r.fits, c.len-len.ensures.bytes)
 
 pub loop-faults-smaller : goal.loop-faults-smaller
 loop-faults-smaller g c =
-    let h = c.loop-faults.invariant.0 in
+    let h = c.loop-faults.invariant in
     let r = reads c.args.text.now c.loop-faults.at c.in-Some.token c.len-len.ensures.utf8 h.place (rw c.in-Some.is at c.in_ok-token.ensures.token) in
     omega (arith, c.len-at.ensures, r.fits, r.some)
 
 pub loop-faults-preserved : goal.loop-faults-preserved
 loop-faults-preserved g c =
-    let h = c.loop-faults.invariant.0 in
+    let h = c.loop-faults.invariant in
     let r = reads c.args.text.now c.loop-faults.at c.in-Some.token c.len-len.ensures.utf8 h.place (rw c.in-Some.is at c.in_ok-token.ensures.token) in
-    (rw c.len-at.ensures
-    (reading-more c.args.text.now c.loop-faults.at c.loop-faults.state c.push_token_faults.new.state c.loop-faults.faults c.push_token_faults.new.faults _ c.args.steps.now c.loop-faults.steps c.scan_token.new.steps c.in-Some.token
-    h r refl c.in_ok-push_token_faults.ensures.state c.in_ok-push_token_faults.ensures.faults c.scan_token.ensures.step), c.in_ok-push_token_faults.ensures.empty)
+    rw c.len-at.ensures
+    (reading-more c.args.text.now c.loop-faults.at c.loop-faults.state c.take_again.new.state c.loop-faults.faults c.push_faults.new.faults c.in_ok-items.items c.args.steps.now c.loop-faults.steps c.scan_token.new.steps c.in-Some.token
+    h r c.in_ok-items.ensures.items c.in_ok-items.ensures.state (rw c.as_slice.ensures at c.in_ok-push_faults.ensures) c.scan_token.ensures.step)
 
 pub returns-clause-faults : goal.returns-clause-faults
 returns-clause-faults g c =
     reading-ended c.args.text.now c.loop-faults.at c.loop-faults.state c.loop-faults.faults c.push_faults.new.faults c.in_ok-items.items c.args.steps.now c.loop-faults.steps
-    c.loop-faults.invariant.0 (rw c.in_default.is at c.in_ok-token.ensures.token) (rw c.len-len.ensures.bytes at c.in_ok-items.ensures) (rw c.as_slice.ensures at c.in_ok-push_faults.ensures)
+    c.loop-faults.invariant (rw c.in_default.is at c.in_ok-token.ensures.token) (rw c.len-len.ensures.bytes at c.in_ok-items.ensures) (rw c.as_slice.ensures at c.in_ok-push_faults.ensures)
 
 pub returns-clause-details : goal.returns-clause-details
 returns-clause-details g c = subst FaultsAreText (sym (returns-clause-faults g c)) (faults_are_text c.args.text.now c.len-len.ensures.utf8)
