@@ -129,7 +129,7 @@ abbrev pub RefusalsLeaveTheEditor : Type 0
 RefusalsLeaveTheEditor = (old new : World) (given : Command) (cause : Refusal) →
     Step old given (Refused cause) new → new.editor ≡ old.editor
 
--- the same for a line of a script: a line that is no command is refused, and to read a line takes memory
+-- what a line of a script may do: it is a command, and a step; or it is none, and refused; or there was no memory to read it
 abbrev pub LineStep : World → List ℕ → Reply → World → Type 0
 LineStep old line reply new =
     ((read : Command) × IsLine line read × Step old read reply new)

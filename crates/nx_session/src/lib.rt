@@ -11,3 +11,5 @@
 mod faults;
 pub mod law;
 pub mod session;
+#[cfg(test)]
+mod tests;
