@@ -5,7 +5,7 @@ use Rattle.rnc_lex.specs.declared.letter.Letter.{Letter}
 use Rattle.rnc_lex.specs.declared.fault.LexFault.{LexFault}
 use Rattle.rnc_lex.specs.declared.fault.LexFault.TheVariants.{BadEscape, BadLiteral, BadCharacter, NoMemory}
 use Rattle.rnc_lex.specs.declared.token.RncToken.{RncToken}
-use Rattle.rnc_lex.specs.Letters.{without_mark, IsInLetters}
+use Rattle.rnc_lex.specs.Letters.{without_mark, IsLettersOf}
 use Rattle.rnc_lex.specs.Tokens.{Lexes}
 use Rattle.rnc_lex.specs.Laws.{Tells, TextsHaveOneAnswer, TextsHaveAnAnswer}
 use Rattle.rnc_lex.specs.Reading.{Finds, letters_from, letters_of, tokens_from, tokens_of, after_letters, lexed}
@@ -14,7 +14,7 @@ use Rattle.rnc_lex.proofs.TokensRead.{TokensJudged, tokens_are_judged, tokens_ex
 
 -- ---- what is read is so
 
-lexes_tokens : (text : List ℕ) (letters : List Letter) (answer : Result (List RncToken) LexFault) → IsInLetters text letters → TokensJudged letters answer → Lexes text answer × Tells answer
+lexes_tokens : (text : List ℕ) (letters : List Letter) (answer : Result (List RncToken) LexFault) → IsLettersOf text letters → TokensJudged letters answer → Lexes text answer × Tells answer
 lexes_tokens text letters (Ok tokens) all h = ((letters, all, h), λ e. absurd cc)
 lexes_tokens text letters (Err (BadLiteral at)) all (rest, tokens, behind, begins, none, is) = ((rest, (letters, tokens, all, behind), begins, none, is), λ e. absurd cc)
 lexes_tokens text letters (Err (BadCharacter at)) all (rest, tokens, behind, begins, none, is) = (inr (rest, (letters, tokens, all, behind), begins, none, is), λ e. absurd cc)
@@ -50,7 +50,7 @@ lexed_so : (text : List ℕ) (found : Result (List Letter) LexFault) → Judged 
 unfolding lexed letters_of
 lexed_so text found h = ap after_letters (letters_exact (length text) (without_mark (chars text)) found h)
 
-letters_then : (text : List ℕ) (letters : List Letter) (answer : Result (List RncToken) LexFault) → IsInLetters text letters → TokensJudged letters answer → lexed text ≡ answer
+letters_then : (text : List ℕ) (letters : List Letter) (answer : Result (List RncToken) LexFault) → IsLettersOf text letters → TokensJudged letters answer → lexed text ≡ answer
 unfolding tokens_of
 letters_then text letters answer all h = lexed_so text (Ok letters) all ∙ tokens_exact letters answer h
 

@@ -52,8 +52,8 @@ abbrev pub BeginsWithLetters : List ℕ → List Letter → List ℕ → Type 0
 BeginsWithLetters text letters rest = AreLetters (length text) (without_mark (chars text)) letters rest
 
 -- the letters of a text
-abbrev pub IsInLetters : List ℕ → List Letter → Type 0
-IsInLetters text letters = BeginsWithLetters text letters []
+abbrev pub IsLettersOf : List ℕ → List Letter → Type 0
+IsLettersOf text letters = BeginsWithLetters text letters []
 
 -- behind letters, at this place, an escape begins that denotes no Char, or that has no digits or no `}`
 abbrev pub BadEscapeAt : List ℕ → ℕ → Type 0

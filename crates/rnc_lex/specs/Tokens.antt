@@ -11,7 +11,7 @@ use Rattle.rnc_lex.specs.declared.token.Symbol.{Symbol}
 use Rattle.rnc_lex.specs.declared.token.Lexeme.{Lexeme}
 use Rattle.rnc_lex.specs.declared.token.Lexeme.TheVariants as lexeme
 use Rattle.rnc_lex.specs.declared.token.RncToken.{RncToken}
-use Rattle.rnc_lex.specs.Letters.{IsInLetters, BadEscapeAt, NoCharAt}
+use Rattle.rnc_lex.specs.Letters.{IsLettersOf, BadEscapeAt, NoCharAt}
 use Rattle.rnc_lex.specs.Words.{keyword_text, symbol_text}
 
 -- the characters of letters, and their UTF-8
@@ -62,7 +62,7 @@ AreInLine quote inside = AllByRecursion (λ (letter : Letter). (letter.character
 abbrev pub three : ℕ → List ℕ
 three quote = quote ∷ quote ∷ quote ∷ []
 
--- of these characters and three quotes behind them, none but the last are three quotes
+-- three such quotes in a row stand nowhere in these characters and the first two of three behind them
 abbrev pub AreUpToThree : ℕ → List ℕ → Type 0
 AreUpToThree quote inside = (front back : List ℕ) → inside ++ quote ∷ quote ∷ [] ≢ front ++ three quote ++ back
 
@@ -77,9 +77,9 @@ pub data Stands (letters rest : List Letter) (found : Lexeme) : Type 0 where
   prefixed_name : (name local : List Letter) (colon : Letter) → letters ≡ name ++ colon ∷ local → IsTrue (is_nc_name (said name)) → colon.character ≡ 58 → IsWholeName local rest → found ≡ lexeme.PrefixedName (utf8 name) (utf8 local) → Stands letters rest found
   -- a name and `:*`
   namespace_wildcard : (name mark : List Letter) → letters ≡ name ++ mark → IsTrue (is_nc_name (said name)) → said mark ≡ codes ":*" → found ≡ lexeme.NamespaceWildcard (utf8 name) → Stands letters rest found
-  -- between two quotes, of which three in a row would open another literal
+  -- between two quotes, of which three in a row would open another literal instead
   short_literal : (first last : Letter) (inside : List Letter) → letters ≡ first ∷ inside ++ last ∷ [] → IsTrue (is_quote first.character) → last.character ≡ first.character → AreInLine first.character inside → (inside ≡ [] → Begins (λ c. c == first.character) (said rest) → ⊥) → found ≡ lexeme.Literal (utf8 inside) → Stands letters rest found
-  -- between three quotes and the next three
+  -- between three quotes and the next three in a row
   long_literal : (quote : ℕ) (before inside behind : List Letter) → letters ≡ before ++ inside ++ behind → IsTrue (is_quote quote) → said before ≡ three quote → said behind ≡ three quote → AreUpToThree quote (said inside) → found ≡ lexeme.Literal (utf8 inside) → Stands letters rest found
   -- a mark that doesn't go on to a longer one
   symbol : (s : Symbol) → said letters ≡ symbol_text s → ((t : Symbol) (c : ℕ) (more : List ℕ) → said rest ≡ c ∷ more → symbol_text t ≢ symbol_text s ++ c ∷ []) → found ≡ lexeme.Symbol s → Stands letters rest found
@@ -97,12 +97,12 @@ pub data AreTokens (rest : List Letter) : List Letter → List RncToken → Type
   taken : {letters : List Letter} {tokens : List RncToken} (front more : List Letter) (token : RncToken) (others : List RncToken) → letters ≡ front ++ more → tokens ≡ token ∷ others → Stands front more token.lexeme → token.at ≡ place_of front → AreTokens rest more others → AreTokens rest letters tokens
 
 -- the text is these tokens
-abbrev pub IsInTokens : List ℕ → List RncToken → Type 0
-IsInTokens text tokens = (letters : List Letter) × IsInLetters text letters × AreTokens [] letters tokens
+abbrev pub IsTokensOf : List ℕ → List RncToken → Type 0
+IsTokensOf text tokens = (letters : List Letter) × IsLettersOf text letters × AreTokens [] letters tokens
 
 -- the text's letters are tokens, and then these
 abbrev pub StandsBehindTokens : List ℕ → List Letter → Type 0
-StandsBehindTokens text rest = (letters : List Letter) × (tokens : List RncToken) × IsInLetters text letters × AreTokens rest letters tokens
+StandsBehindTokens text rest = (letters : List Letter) × (tokens : List RncToken) × IsLettersOf text letters × AreTokens rest letters tokens
 
 -- no token begins here
 abbrev pub BeginsNoToken : List Letter → Type 0
@@ -123,7 +123,7 @@ NoTokenAt text at = (rest : List Letter) × StandsBehindTokens text rest × Begi
 -- what reading a text answers: its tokens, or the place of the first fault. Escapes and Chars are judged in the whole text
 -- before its tokens are
 abbrev pub Lexes : List ℕ → Result (List RncToken) LexFault → Type 0
-Lexes text (Ok tokens) = IsInTokens text tokens
+Lexes text (Ok tokens) = IsTokensOf text tokens
 Lexes text (Err (BadEscape at)) = BadEscapeAt text at
 Lexes text (Err (BadLiteral at)) = BadLiteralAt text at
 Lexes text (Err (BadCharacter at)) = NoCharAt text at ⊎ NoTokenAt text at

@@ -24,11 +24,16 @@ pub(crate) fn begins_nc_name(c: char) -> bool
     is_name_start(c) && c != ':'
 }
 
-/// Whether it may stand in an NCName.
+/// Whether it may stand in an NCName. Most characters of names are ASCII, and are judged first.
+#[tactic(auto, unfolding(nx_base::specs::Characters::is_name_char, nx_base::specs::Characters::is_name_start), using(std::proofs::lemmas::Bool::Decides::nat_tests))]
 fn is_nc_name_char(c: char) -> bool
     ensures { result ≡ is_name_part c }
 {
-    is_name_char(c) && c != ':'
+    if c.is_ascii() {
+        c.is_ascii_alphanumeric() || matches!(c, '-' | '.' | '_')
+    } else {
+        is_name_char(c)
+    }
 }
 
 /// How many letters at the front may stand in an NCName.

@@ -23,7 +23,7 @@ fn append(text: &mut String, letters: &[Letter]) -> Result<(), NoMemory>
 pub(crate) fn text_of(alloc: Global, first: Letter, more: &[Letter]) -> Result<String, NoMemory>
     ensures { IfOk result (λ text. string_bytes text ≡ utf8 (first ∷ more.now)) }
 {
-    let mut text = String::with_capacity(alloc, more.len())?;
+    let mut text = String::with_capacity(alloc, more.len() + 1)?;
     text.push(first.character)?;
     append(&mut text, more)?;
     Ok(text)
