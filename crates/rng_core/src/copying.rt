@@ -5,13 +5,14 @@
 
 ghost use Rattle.std.specs.Prelude.{◌≡◌, IfOk, map};
 ghost use Rattle.rng_core.specs.Meaning.{class_of, pattern_of, definition_of};
+ghost use Rattle.rng_core.specs.Patterns.{not_allowed, empty, any_text, typed, literal, listed, attribute, ref, one_or_more, choice, group, interleave};
 ghost use Rattle.rng_core.specs.Spine.{choices};
 
-use crate::building::{attribute_of, choice_of, group_of, interleave_of, list_of, one_or_more_of};
 use crate::grammar::{Def, Pat};
 use crate::name_class::NameClass;
 use nx_base::memory::NoMemory;
-use nx_base::sequence::TryCopy;
+use nx_base::sequence::{Bytes, TryCopy};
+use rng_types::datatype::{Datatype, Excepts};
 use std::alloc::Global;
 
 /// The choice of a class and others, the last of the others being its innermost.
@@ -69,29 +70,141 @@ impl NameClass {
     }
 }
 
+// A copy of a pattern goes as deep as the pattern does, which may be thousands of nodes. So what calls itself holds
+// boxes alone, and what holds patterns is called for one node at a time.
+
+/// A pattern in a box.
+#[inline(never)]
+fn boxed(alloc: Global, pattern: Pat) -> Result<Box<Pat>, NoMemory>
+    ensures { IfOk result (λ made. pattern_of made.value ≡ pattern_of pattern) }
+{
+    Ok(Box::new(alloc, pattern)?)
+}
+
+/// The pattern that nothing matches, in a box.
+#[inline(never)]
+fn boxed_not_allowed(alloc: Global) -> Result<Box<Pat>, NoMemory>
+    ensures { IfOk result (λ made. pattern_of made.value ≡ not_allowed) }
+{
+    boxed(alloc, Pat::NotAllowed)
+}
+
+/// The empty pattern in a box.
+#[inline(never)]
+fn boxed_empty(alloc: Global) -> Result<Box<Pat>, NoMemory>
+    ensures { IfOk result (λ made. pattern_of made.value ≡ empty) }
+{
+    boxed(alloc, Pat::Empty)
+}
+
+/// The text pattern in a box.
+#[inline(never)]
+fn boxed_text(alloc: Global) -> Result<Box<Pat>, NoMemory>
+    ensures { IfOk result (λ made. pattern_of made.value ≡ any_text) }
+{
+    boxed(alloc, Pat::Text)
+}
+
+/// A reference in a box.
+#[inline(never)]
+fn boxed_ref(alloc: Global, number: u32) -> Result<Box<Pat>, NoMemory>
+    ensures { IfOk result (λ made. pattern_of made.value ≡ ref number) }
+{
+    boxed(alloc, Pat::Ref(number))
+}
+
+/// A list in a box.
+#[inline(never)]
+fn boxed_list(alloc: Global, body: Box<Pat>) -> Result<Box<Pat>, NoMemory>
+    ensures { IfOk result (λ made. pattern_of made.value ≡ listed (pattern_of body.value)) }
+{
+    boxed(alloc, Pat::List(body))
+}
+
+/// An attribute in a box.
+#[inline(never)]
+fn boxed_attribute(alloc: Global, class: &NameClass, body: Box<Pat>) -> Result<Box<Pat>, NoMemory>
+    ensures { IfOk result (λ made. pattern_of made.value ≡ attribute (class_of class.now) (pattern_of body.value)) }
+{
+    boxed(alloc, Pat::Attribute(class.copy(alloc)?, body))
+}
+
+/// A repetition in a box.
+#[inline(never)]
+fn boxed_one_or_more(alloc: Global, body: Box<Pat>) -> Result<Box<Pat>, NoMemory>
+    ensures { IfOk result (λ made. pattern_of made.value ≡ one_or_more (pattern_of body.value)) }
+{
+    boxed(alloc, Pat::OneOrMore(body))
+}
+
+/// A choice in a box.
+#[inline(never)]
+fn boxed_choice(alloc: Global, a: Box<Pat>, b: Box<Pat>) -> Result<Box<Pat>, NoMemory>
+    ensures { IfOk result (λ made. pattern_of made.value ≡ choice (pattern_of a.value) (pattern_of b.value)) }
+{
+    boxed(alloc, Pat::Choice(a, b))
+}
+
+/// A group in a box.
+#[inline(never)]
+fn boxed_group(alloc: Global, a: Box<Pat>, b: Box<Pat>) -> Result<Box<Pat>, NoMemory>
+    ensures { IfOk result (λ made. pattern_of made.value ≡ group (pattern_of a.value) (pattern_of b.value)) }
+{
+    boxed(alloc, Pat::Group(a, b))
+}
+
+/// An interleave in a box.
+#[inline(never)]
+fn boxed_interleave(alloc: Global, a: Box<Pat>, b: Box<Pat>) -> Result<Box<Pat>, NoMemory>
+    ensures { IfOk result (λ made. pattern_of made.value ≡ interleave (pattern_of a.value) (pattern_of b.value)) }
+{
+    boxed(alloc, Pat::Interleave(a, b))
+}
+
+/// A type with its excepts in a box.
+#[inline(never)]
+fn boxed_data(alloc: Global, datatype: &Datatype, excepts: &Excepts) -> Result<Box<Pat>, NoMemory>
+    ensures { IfOk result (λ made. pattern_of made.value ≡ typed datatype.now excepts.now) }
+{
+    boxed(alloc, Pat::Typed(datatype.copy()?, excepts.copy()?))
+}
+
+/// A value in a box.
+#[inline(never)]
+fn boxed_value(alloc: Global, datatype: &Datatype, text: &Bytes) -> Result<Box<Pat>, NoMemory>
+    ensures { IfOk result (λ made. pattern_of made.value ≡ literal datatype.now text.now) }
+{
+    boxed(alloc, Pat::Value(datatype.copy()?, text.copy()?))
+}
+
+/// The same pattern once more, in a box.
+fn boxed_copy(alloc: Global, pattern: &Pat) -> Result<Box<Pat>, NoMemory>
+    ensures { IfOk result (λ made. pattern_of made.value ≡ pattern_of pattern.now) }
+{
+    match pattern {
+        Pat::NotAllowed => boxed_not_allowed(alloc),
+        Pat::Empty => boxed_empty(alloc),
+        Pat::Text => boxed_text(alloc),
+        Pat::Typed(datatype, excepts) => boxed_data(alloc, datatype, excepts),
+        Pat::Value(datatype, text) => boxed_value(alloc, datatype, text),
+        Pat::Ref(number) => boxed_ref(alloc, *number),
+        Pat::List(body) => boxed_list(alloc, boxed_copy(alloc, body)?),
+        Pat::Attribute(class, body) => boxed_attribute(alloc, class, boxed_copy(alloc, body)?),
+        Pat::OneOrMore(body) => boxed_one_or_more(alloc, boxed_copy(alloc, body)?),
+        Pat::Choice(a, b) => boxed_choice(alloc, boxed_copy(alloc, a)?, boxed_copy(alloc, b)?),
+        Pat::Group(a, b) => boxed_group(alloc, boxed_copy(alloc, a)?, boxed_copy(alloc, b)?),
+        Pat::Interleave(a, b) => {
+            boxed_interleave(alloc, boxed_copy(alloc, a)?, boxed_copy(alloc, b)?)
+        }
+    }
+}
+
 impl Pat {
     /// The same pattern once more.
     pub fn copy(&self, alloc: Global) -> Result<Pat, NoMemory>
         ensures { IfOk result (λ copied. pattern_of copied ≡ pattern_of self.now) }
     {
-        match self {
-            Pat::NotAllowed => Ok(Pat::NotAllowed),
-            Pat::Empty => Ok(Pat::Empty),
-            Pat::Text => Ok(Pat::Text),
-            Pat::Typed(datatype, excepts) => Ok(Pat::Typed(datatype.copy()?, excepts.copy()?)),
-            Pat::Value(datatype, literal) => Ok(Pat::Value(datatype.copy()?, literal.copy()?)),
-            Pat::List(body) => list_of(alloc, body.copy(alloc)?),
-            Pat::Attribute(class, body) => attribute_of(
-                alloc,
-                class.copy(alloc)?,
-                body.copy(alloc)?,
-            ),
-            Pat::Ref(number) => Ok(Pat::Ref(*number)),
-            Pat::OneOrMore(body) => one_or_more_of(alloc, body.copy(alloc)?),
-            Pat::Choice(a, b) => choice_of(alloc, a.copy(alloc)?, b.copy(alloc)?),
-            Pat::Group(a, b) => group_of(alloc, a.copy(alloc)?, b.copy(alloc)?),
-            Pat::Interleave(a, b) => interleave_of(alloc, a.copy(alloc)?, b.copy(alloc)?),
-        }
+        Ok(Box::into_inner(boxed_copy(alloc, self)?))
     }
 }
 

@@ -125,3 +125,24 @@ fn copies_patterns(rt: HostRuntime) -> Result<(), Fail> {
     assert!(rt; matches!(copied.content, Pat::Interleave(_, _)));
     Ok(())
 }
+
+// A path of so many nodes, to the left and to the right.
+fn deep(alloc: Global, count: u32) -> Result<Pat, Fail> {
+    let mut pattern = Pat::Text;
+    for i in 0..count {
+        pattern = if i % 2 == 0 {
+            group_of(alloc, pattern, Pat::Text)?
+        } else {
+            choice_of(alloc, Pat::Empty, pattern)?
+        };
+    }
+    Ok(pattern)
+}
+
+#[test]
+fn copies_deep_patterns(rt: HostRuntime) -> Result<(), Fail> {
+    let pattern = deep(rt.alloc(), 8_000)?;
+    let copied = pattern.copy(rt.alloc())?;
+    assert!(rt; matches!(copied, Pat::Choice(_, _)));
+    Ok(())
+}

@@ -1,5 +1,5 @@
 -- Overlaps of attributes, and wildcards, are found.
-use Rattle.std.specs.Prelude.{◌≡◌, ℕ, Bool, true, false, ◌||◌, List, [], ◌∷◌, ◌++◌}
+use Rattle.std.specs.Prelude.{◌≡◌, true, ◌||◌, List, [], ◌∷◌, ◌++◌}
 use Rattle.std.specs.List.{list_any}
 use Rattle.std.proofs.Common.{refl, inl, inr}
 use Rattle.std.proofs.lemmas.Bool.{false≢true, or_left, or_right, or_cases}
@@ -9,8 +9,8 @@ use Rattle.rng_core.proofs.Overlaps.{overlap_is_found, overlap_is_there}
 use Rattle.rng_restrict.specs.Standing.{Stands, StandsOnce, once_itself, once_in_list, once_in_attribute, once_in_first_choice, once_in_second_choice, once_in_first_of_group, once_in_second_of_group, once_in_first_of_interleave, once_in_second_of_interleave, Occurs, as_itself, below_one_or_more, below_first_choice, below_second_choice, below_first_of_group, below_second_of_group, below_first_of_interleave, below_second_of_interleave}
 use Rattle.rng_restrict.specs.Attributes.{HasAttributeOverlap, in_group, in_interleave, HasWildcard, any_name_stands, ns_name_stands, in_first, in_second, in_all, in_taken, HasWildcardOnce, wildcard_once}
 use Rattle.rng_restrict.specs.Finding.{has_part, share_name, any_share, attribute_classes, is_attribute_overlap, is_wildcard, has_wildcard_once}
-use Rattle.rng_restrict.proofs.Members.{IsIn, here, further, in_left, in_right, in_either, Passing, any_passes, passes_any}
-use Rattle.rng_restrict.proofs.PartsFound.{Part, part_found, part_is_found}
+use Rattle.rng_restrict.proofs.Members.{IsIn, here, further, in_left, in_right, in_either, any_passes, passes_any}
+use Rattle.rng_restrict.proofs.PartsFound.{part_found, part_is_found}
 
 -- one class of each list, with a name in common
 pub record Shared (cs ds : List Class) : Type 0 where

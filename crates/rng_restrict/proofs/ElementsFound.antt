@@ -1,15 +1,15 @@
 -- Overlaps of elements in an interleave are found.
-use Rattle.std.specs.Prelude.{◌≡◌, ℕ, Bool, true, false, ◌||◌, List, [], ◌∷◌, ◌++◌, Option, Some, None, slice_get}
-use Rattle.std.proofs.Common.{refl, inl, inr, ap, ◌∙◌, subst}
+use Rattle.std.specs.Prelude.{◌≡◌, ℕ, true, List, [], ◌∷◌, ◌++◌, Option, Some, None, slice_get}
+use Rattle.std.proofs.Common.{refl, inl, inr}
 use Rattle.std.proofs.lemmas.Bool.{false≢true}
 use Rattle.rng_core.specs.Names.{Class, Overlap}
 use Rattle.rng_core.specs.Patterns.{Pattern, Definition, not_allowed, empty, any_text, typed, literal, listed, attribute, ref, one_or_more, choice, group, interleave}
 use Rattle.rng_restrict.specs.Standing.{Stands, Occurs, as_itself, below_one_or_more, below_first_choice, below_second_choice, below_first_of_group, below_second_of_group, below_first_of_interleave, below_second_of_interleave}
 use Rattle.rng_restrict.specs.Interleaves.{HasInterleaveOverlap, elements_overlap}
-use Rattle.rng_restrict.specs.Finding.{has_part, any_share, class_at, element_classes, is_element_overlap}
+use Rattle.rng_restrict.specs.Finding.{has_part, class_at, element_classes, is_element_overlap}
 use Rattle.rng_restrict.proofs.Members.{IsIn, here, further, in_left, in_right, in_either}
-use Rattle.rng_restrict.proofs.PartsFound.{Part, part_found, part_is_found}
-use Rattle.rng_restrict.proofs.AttributesFound.{Shared, share_found, share_is_found}
+use Rattle.rng_restrict.proofs.PartsFound.{part_found, part_is_found}
+use Rattle.rng_restrict.proofs.AttributesFound.{share_found, share_is_found}
 
 -- a reference to an element with the class occurs in the pattern
 record Named (defs : List Definition) (p : Pattern) (class : Class) : Type 0 where

@@ -1,14 +1,12 @@
 -- What is judged of each pattern is judged of the start and of all that it reaches.
-use Rattle.std.specs.Prelude.{◌≡◌, ℕ, Bool, true, false, ◌||◌, ◌==◌, List, [], ◌∷◌, Option, Some, None, slice_get, IsTrue, ◌↔◌, map, Result, Ok, Err, IfOk}
-use Rattle.std.specs.List.{list_any}
-use Rattle.std.specs.Option.{option_map}
-use Rattle.std.proofs.Common.{refl, sym, ap, ◌∙◌, inl, inr, ◌⊎◌}
+use Rattle.std.specs.Prelude.{◌≡◌, ℕ, Bool, true, false, ◌||◌, ◌==◌, List, [], ◌∷◌, Option, Some, None, slice_get, IsTrue, ◌↔◌}
+use Rattle.std.proofs.Common.{refl, sym, ap, ◌∙◌, inl, inr}
 use Rattle.std.proofs.lemmas.Bool.{false≢true, or_left, or_right, or_cases, eqb-true, eq-eqb}
 use Rattle.rng_core.specs.Patterns.{Pattern, Definition}
-use Rattle.rng_restrict.specs.Reaching.{IsReached, Somewhere, in_start, in_content}
-use Rattle.rng_restrict.specs.Paths.{HasPath, HasStartPath, BreaksPath}
-use Rattle.rng_restrict.specs.Contents.{IsMixture, BreaksMixture}
-use Rattle.rng_restrict.specs.Finding.{is_among, passes, some_passes, HasNumber, AreReached, has_part, begins_path, is_outside_start, is_mixture}
+use Rattle.rng_restrict.specs.Reaching.{Somewhere, in_start, in_content}
+use Rattle.rng_restrict.specs.Paths.{HasPath, BreaksPath}
+use Rattle.rng_restrict.specs.Contents.{BreaksMixture}
+use Rattle.rng_restrict.specs.Finding.{is_among, passes, some_passes, AreReached, has_part, begins_path, is_outside_start, is_mixture}
 use Rattle.rng_restrict.proofs.PathsFound.{path_found, path_is_found, start_path_found, start_path_is_found}
 use Rattle.rng_restrict.proofs.ContentsFound.{mixture_found, mixture_is_found}
 

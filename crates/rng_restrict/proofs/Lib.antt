@@ -8,3 +8,4 @@ pub mod TextsFound
 pub mod Sides
 pub mod Reached
 pub mod Judged
+pub mod Examples

@@ -1,5 +1,5 @@
 -- Prohibited paths are found.
-use Rattle.std.specs.Prelude.{◌≡◌, ℕ, Bool, true, false, ◌||◌}
+use Rattle.std.specs.Prelude.{◌≡◌, true}
 use Rattle.std.proofs.Common.{refl}
 use Rattle.std.proofs.lemmas.Bool.{false≢true}
 use Rattle.rng_core.specs.Names.{Class}
@@ -7,7 +7,7 @@ use Rattle.rng_core.specs.Patterns.{Pattern, not_allowed, empty, any_text, typed
 use Rattle.rng_restrict.specs.Standing.{Stands}
 use Rattle.rng_restrict.specs.Paths.{HasPath, attribute_below_attribute, ref_below_attribute, attribute_below_repeated_group, attribute_below_repeated_interleave, list_below_list, ref_below_list, attribute_below_list, text_below_list, interleave_below_list, HasStartPath, attribute_in_start, data_in_start, value_in_start, text_in_start, list_in_start, group_in_start, interleave_in_start, one_or_more_in_start, empty_in_start}
 use Rattle.rng_restrict.specs.Finding.{has_part, is_attribute, is_outside_attributes, is_outside_lists, is_attribute_group, begins_path, is_outside_start}
-use Rattle.rng_restrict.proofs.PartsFound.{Part, part_found, part_is_found}
+use Rattle.rng_restrict.proofs.PartsFound.{part_found, part_is_found}
 
 -- an attribute stands in the pattern
 record AttributeIn (p : Pattern) : Type 0 where

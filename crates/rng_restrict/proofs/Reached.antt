@@ -1,9 +1,9 @@
 -- The work list finds what the start reaches.
 use Rattle.std.specs.Prelude.{◌≡◌, ℕ, suc, ◌+◌, ◌<◌, ◌≤◌, Bool, true, false, not, ◌||◌, ◌&&◌, ◌==◌, nat_lt, if◌then◌else◌, List, [], ◌∷◌, ◌++◌, length, take, get_or, Option, Some, None, slice_get}
-use Rattle.std.specs.List.{list_any, sum_by}
+use Rattle.std.specs.List.{sum_by}
 use Rattle.std.proofs.Common.{refl, sym, ap, ◌∙◌, subst, append_assoc, append-nil, length-append, arith, inl, inr, ◌⊎◌}
 use Rattle.std.proofs.Math.Seq.{take-length}
-use Rattle.std.proofs.lemmas.Bool.{false≢true, cases_Bool, or_left, or_right, or_cases, and_from, and_parts, and_left, and_right, lt-ltb, le-ltb, eqb-true, eq-eqb}
+use Rattle.std.proofs.lemmas.Bool.{false≢true, cases_Bool, or_left, or_right, or_cases, and_from, and_right, lt-ltb, le-ltb, eqb-true, eq-eqb}
 use Rattle.std.proofs.lemmas.List.{take-append-le, get_or_default}
 use Rattle.std.proofs.lemmas.List.Folds.{list_any-append, list_any_more, list_any_at}
 use Rattle.std.proofs.lemmas.List.Sums.{sum_by-cons}

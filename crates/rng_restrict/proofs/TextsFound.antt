@@ -1,12 +1,12 @@
 -- Text in both sides of an interleave is found.
-use Rattle.std.specs.Prelude.{◌≡◌, ℕ, Bool, true, false, ◌||◌, ◌&&◌}
+use Rattle.std.specs.Prelude.{◌≡◌, true}
 use Rattle.std.proofs.Common.{refl, inl, inr}
 use Rattle.std.proofs.lemmas.Bool.{false≢true, or_left, or_right, or_cases, and_parts, and_from}
 use Rattle.rng_core.specs.Patterns.{Pattern, not_allowed, empty, any_text, typed, literal, listed, attribute, ref, one_or_more, choice, group, interleave}
 use Rattle.rng_restrict.specs.Standing.{Stands, Occurs, as_itself, below_one_or_more, below_first_choice, below_second_choice, below_first_of_group, below_second_of_group, below_first_of_interleave, below_second_of_interleave}
 use Rattle.rng_restrict.specs.Interleaves.{HasTextTwice, text_twice}
 use Rattle.rng_restrict.specs.Finding.{has_part, text_occurs, is_text_twice}
-use Rattle.rng_restrict.proofs.PartsFound.{Part, part_found, part_is_found}
+use Rattle.rng_restrict.proofs.PartsFound.{part_found, part_is_found}
 
 text_found : (p : Pattern) → text_occurs p ≡ true → Occurs any_text p
 text_found not_allowed found = absurd (false≢true found)

@@ -1,5 +1,5 @@
 -- The answer that a grammar is given: the first restriction that it breaks.
-use Rattle.std.specs.Prelude.{◌≡◌, List, Result, Ok, Err, ◌⊎◌}
+use Rattle.std.specs.Prelude.{List, Result, Ok, Err}
 use Rattle.rng_core.specs.Patterns.{Pattern, Definition}
 use Rattle.rng_core.specs.Meaning.{pattern_of, definitions_of}
 use Rattle.rng_core.specs.declared.grammar.Grammar.{Grammar}

@@ -181,7 +181,7 @@ fn judges_a_wide_group(rt: HostRuntime) -> Result<(), Fail> {
 fn judges_a_deep_pattern(rt: HostRuntime) -> Result<(), Fail> {
     let mut left = Pat::Text;
     let mut right = Pat::Ref(1);
-    for _ in 0..1_999 {
+    for _ in 0..7_999 {
         left = group_of(rt.alloc(), left, Pat::Text)?;
         right = interleave_of(rt.alloc(), Pat::Empty, right)?;
     }

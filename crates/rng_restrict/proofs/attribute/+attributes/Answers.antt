@@ -1,7 +1,6 @@
-use Rattle.std.proofs.Common.{◌∙◌, List, map, sym, ap}
+use Rattle.std.proofs.Common.{◌∙◌, sym}
 use Rattle.std.proofs.lemmas.List.{length-map}
-use Rattle.rng_core.specs.Meaning.{class_of, pattern_of}
-use Rattle.rng_restrict.specs.Finding.{has_part, any_share, attribute_classes, is_attribute_overlap, sides_share}
+use Rattle.rng_core.specs.Meaning.{class_of}
 use Rattle.rng_restrict.proofs.Sides.{both_sides}
 use Rattle.rng_restrict.proofs.attribute.+attributes.Goals as goal
 

@@ -1,4 +1,4 @@
-use Rattle.std.proofs.Common.{◌≡◌, false, map, take}
+use Rattle.std.proofs.Common.{◌≡◌, false, take}
 use Rattle.std.specs.List.{list_any}
 use Rattle.rng_core.specs.Meaning.{class_of}
 use Rattle.rng_restrict.specs.Finding.{share_name}

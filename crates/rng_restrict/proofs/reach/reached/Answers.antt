@@ -1,7 +1,7 @@
-use Rattle.std.proofs.Common.{◌≡◌, ◌<◌, ◌≤◌, length, sym, ◌∙◌, arith, map}
+use Rattle.std.proofs.Common.{◌≡◌, ◌<◌, ◌≤◌, length, sym, ◌∙◌, arith}
 use Rattle.std.proofs.lemmas.List.{length-map}
 use Rattle.rng_core.specs.Meaning.{pattern_of, definition_of, definitions_of}
-use Rattle.rng_restrict.proofs.Reached.{Spread, begun_with, gone_on, within_after, spread_ends, few}
+use Rattle.rng_restrict.proofs.Reached.{begun_with, gone_on, within_after, spread_ends, few}
 use Rattle.rng_restrict.proofs.reach.reached.Goals as goal
 
 pub loop-next-init : goal.loop-next-init

@@ -1,6 +1,4 @@
-use Rattle.std.proofs.Common.{◌≡◌, ◌<◌, ℕ, List, length, get_or, Bool, true, false, sym, ap, ◌∙◌, arith}
-use Rattle.std.proofs.lemmas.Bool.{false≢true}
-use Rattle.rng_restrict.specs.Finding.{with_number, is_among, IsMarked}
+use Rattle.std.proofs.Common.{◌<◌, length, true, false, sym, ◌∙◌, arith}
 use Rattle.rng_restrict.proofs.Reached.{stays_without, stays_among, is_added, mark_read}
 use Rattle.rng_restrict.proofs.reach.Reach.add.Goals as goal
 
