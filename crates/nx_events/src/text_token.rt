@@ -64,7 +64,14 @@ pub(crate) fn take_text(
 {
     let bytes = token.bytes.as_slice();
     let outside = !is_inside(state) && !are_spaces(bytes);
-    push_characters(alloc, items, Reading::Text, outside, Kind::TextOutside, token)?;
+    push_characters(
+        alloc,
+        items,
+        Reading::Text,
+        outside,
+        Kind::TextOutside,
+        token,
+    )?;
     join(alloc, state, token, Reading::Text, bytes)?;
     Ok(())
 }
@@ -84,7 +91,14 @@ pub(crate) fn take_cdata(
 {
     let bytes = token.bytes.as_slice();
     let outside = !is_inside(state);
-    push_characters(alloc, items, Reading::Plain, outside, Kind::TextOutside, token)?;
+    push_characters(
+        alloc,
+        items,
+        Reading::Plain,
+        outside,
+        Kind::TextOutside,
+        token,
+    )?;
     join(alloc, state, token, Reading::Plain, cdata_content(bytes))?;
     Ok(())
 }
