@@ -1,7 +1,6 @@
-use Rattle.std.proofs.Common.{◌+◌, refl, ap, sym, ◌∙◌, subst, arith}
-use Rattle.nx_events.specs.Among.{faults_among}
+use Rattle.std.proofs.Common.{sym, subst, arith}
 use Rattle.nx_session.specs.Faults.{FaultsAreText}
-use Rattle.nx_session.proofs.Reading.{reads, reading-begun, reading-more, reading-ended, reading-stops, faults_are_text}
+use Rattle.nx_session.proofs.Reading.{reads, reading-begun, reading-more, reading-ended, faults_are_text}
 use Rattle.nx_session.proofs.faults.faults_of.Goals as goal
 
 pub loop-faults-init : goal.loop-faults-init
@@ -41,8 +40,8 @@ loop-faults-preserved g c =
 
 pub returns-clause-faults : goal.returns-clause-faults
 returns-clause-faults g c =
-    reading-ended c.args.text.now c.loop-faults.at c.loop-faults.state c.loop-faults.faults c.push_faults.new.faults c.in_ok-items.items c.args.steps.now c.loop-faults.steps
-    c.loop-faults.invariant (rw c.in_default.is at c.in_ok-token.ensures.token) (rw c.len-len.ensures.bytes at c.in_ok-items.ensures) (rw c.as_slice.ensures at c.in_ok-push_faults.ensures)
+    reading-ended c.args.text.now c.loop-faults.at c.loop-faults.state c.loop-faults.faults c.push_faults-2.new.faults c.in_ok-items-2.items c.args.steps.now c.loop-faults.steps
+    c.loop-faults.invariant (rw c.in_default.is at c.in_ok-token.ensures.token) (rw c.len-len.ensures.bytes at c.in_ok-items-2.ensures) (rw c.as_slice-2.ensures at c.in_ok-push_faults-2.ensures)
 
 pub returns-clause-details : goal.returns-clause-details
 returns-clause-details g c = subst FaultsAreText (sym (returns-clause-faults g c)) (faults_are_text c.args.text.now c.len-len.ensures.utf8)
