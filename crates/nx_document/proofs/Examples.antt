@@ -1,5 +1,5 @@
 -- What is a document and what isn't, worked out by hand.
-use Rattle.std.proofs.Common.{◌≡◌, ℕ, Bool, true, false, Some, None, List, [], ◌∷◌, refl, ap, sym, ◌∙◌, codes}
+use Rattle.std.proofs.Common.{◌≡◌, ℕ, Bool, true, false, Some, None, List, [], ◌∷◌, ◌++◌, refl, ap, sym, ◌∙◌, codes}
 use Rattle.std.specs.Str.{chars}
 use Prim.Native.String.{String}
 use lib.Utf8.{encode}
@@ -29,7 +29,7 @@ use Rattle.nx_events.specs.Utf8.{front_char}
 use Rattle.nx_events.specs.XmlDeclaration.{after_some_spaces, after_word, after_equals, is_version, is_encoding, is_yes_or_no, after_value, after_spaced_word, after_setting, after_optional_setting, after_settings, is_xml_declaration}
 use Rattle.nx_events.specs.declared.reading.Reading.TheVariants.{Plain, Text, Value}
 use Rattle.nx_events.specs.declared.scope.Binding.{Binding}
-use Rattle.nx_document.specs.Constraints.{IsTag, no_attribute, declaration, attribute}
+use Rattle.nx_document.specs.Constraints.{IsLegalTag, no_attribute, declaration, attribute}
 use Rattle.nx_document.specs.Document.{absent, present, no_further, further, white_space, Element, by_empty, by_tags, Content, no_more, by_element, by_text, by_section, by_comment, Document}
 use Rattle.nx_events.specs.Among.{faults_among}
 use Rattle.nx_document.proofs.Characters.{is_legal}
@@ -57,7 +57,7 @@ joined_tokens : tokens_of joined_text ≡ token kinds.Start 0 "<a>" ∷ token ki
 unfolding opened
 joined_tokens = refl
 
-start_a : IsTag [] (token kinds.Start 0 "<a>") (name "" "a") []
+start_a : IsLegalTag [] (token kinds.Start 0 "<a>") (name "" "a") []
 unfolding opened
 start_a = record {
   characters = is_legal Value 0 (codes "<a>") refl;
@@ -139,11 +139,81 @@ alone_document tag tree one = record {
   last_misc = no_further;
 }
 
+-- an empty section is no child
+empty_section : Document (tokens_of (codes "<a><![CDATA[]]></a>")) (tree_of (name "" "a") [] nil)
+unfolding opened
+empty_section = record {
+  behind_mark = _;
+  behind_declaration = _;
+  before_doctype = _;
+  behind_doctype = _;
+  root = _;
+  behind_root = _;
+  mark = absent;
+  declaration = absent;
+  first_misc = no_further;
+  doctype = absent;
+  second_misc = no_further;
+  element = by_tags {inner = _} refl start_a (by_section (record { kind = refl; characters = is_legal Plain 0 (codes "<![CDATA[]]>") refl }) no_more) (record { kind = refl; matches = refl });
+  last_misc = no_further;
+}
+
+-- a line's end of two bytes is one space in a value
+abbrev broken_text : List ℕ
+broken_text = codes "<a b='x" ++ 13 ∷ 10 ∷ codes "y'/>"
+
+broken_tag : IsLegalTag [] (record { kind = kinds.Empty; from = 0; bytes = broken_text }) (name "" "a") (record { name = name "" "b"; value = codes "x y" } ∷ [])
+unfolding opened
+broken_tag = record {
+  characters = is_legal Value 0 broken_text refl;
+  once = (tt, tt);
+  declarations = ((λ e. cc), tt);
+  qualified = refl;
+  named = refl;
+  expanded = attribute refl refl refl no_attribute;
+  distinct = (tt, tt);
+}
+
+broken_value : Document (tokens_of broken_text) (tree_of (name "" "a") (record { name = name "" "b"; value = codes "x y" } ∷ []) nil)
+unfolding opened
+broken_value = alone_document _ _ (by_empty refl broken_tag)
+
+-- nothing is asked of what lies in a document type
+behind_doctype : IsLegalTag [] (token kinds.Empty 10 "<a/>") (name "" "a") []
+unfolding opened
+behind_doctype = record {
+  characters = is_legal Value 0 (codes "<a/>") refl;
+  once = tt;
+  declarations = tt;
+  qualified = refl;
+  named = refl;
+  expanded = no_attribute;
+  distinct = tt;
+}
+
+bare_doctype : Document (tokens_of (codes "<!DOCTYPE><a/>")) (tree_of (name "" "a") [] nil)
+unfolding opened
+bare_doctype = record {
+  behind_mark = _;
+  behind_declaration = _;
+  before_doctype = _;
+  behind_doctype = _;
+  root = _;
+  behind_root = _;
+  mark = absent;
+  declaration = absent;
+  first_misc = no_further;
+  doctype = present refl;
+  second_misc = no_further;
+  element = by_empty refl behind_doctype;
+  last_misc = no_further;
+}
+
 -- a declaration in the tag itself counts for its name and its attributes, and is no attribute
 abbrev prefixed_text : List ℕ
 prefixed_text = codes "<p:a xmlns:p='u' p:b='1' c='2'/>"
 
-prefixed_tag : IsTag [] (record { kind = kinds.Empty; from = 0; bytes = prefixed_text }) (name "u" "a")
+prefixed_tag : IsLegalTag [] (record { kind = kinds.Empty; from = 0; bytes = prefixed_text }) (name "u" "a")
     (record { name = name "u" "b"; value = codes "1" } ∷ record { name = name "" "c"; value = codes "2" } ∷ [])
 unfolding opened
 prefixed_tag = record {
@@ -162,7 +232,7 @@ unfolding opened
 prefixed_document = alone_document _ _ (by_empty refl prefixed_tag)
 
 -- a default namespace holds inside, until it is taken back; it doesn't hold for attributes
-outer_tag : IsTag [] (token kinds.Start 0 "<a xmlns='u' b=''>") (name "u" "a") (record { name = name "" "b"; value = [] } ∷ [])
+outer_tag : IsLegalTag [] (token kinds.Start 0 "<a xmlns='u' b=''>") (name "u" "a") (record { name = name "" "b"; value = [] } ∷ [])
 unfolding opened
 outer_tag = record {
   characters = is_legal Value 0 (codes "<a xmlns='u' b=''>") refl;
@@ -177,7 +247,7 @@ outer_tag = record {
 abbrev default_u : List Binding
 default_u = record { prefix = []; uri = codes "u" } ∷ []
 
-inside_tag : IsTag default_u (token kinds.Empty 18 "<c/>") (name "u" "c") []
+inside_tag : IsLegalTag default_u (token kinds.Empty 18 "<c/>") (name "u" "c") []
 unfolding opened
 inside_tag = record {
   characters = is_legal Value 0 (codes "<c/>") refl;
@@ -189,7 +259,7 @@ inside_tag = record {
   distinct = tt;
 }
 
-taken_back : IsTag default_u (token kinds.Empty 22 "<b xmlns=''/>") (name "" "b") []
+taken_back : IsLegalTag default_u (token kinds.Empty 22 "<b xmlns=''/>") (name "" "b") []
 unfolding opened
 taken_back = record {
   characters = is_legal Value 0 (codes "<b xmlns=''/>") refl;
@@ -230,7 +300,7 @@ mixed_content =
 
 -- what no tag may be, by each constraint
 abbrev IsNoTag : Token → Type 0
-IsNoTag tag = (named : Name) (attributes : List trees.Attribute) → IsTag [] tag named attributes → ⊥
+IsNoTag tag = (named : Name) (attributes : List trees.Attribute) → IsLegalTag [] tag named attributes → ⊥
 
 undeclared : IsNoTag (token kinds.Empty 0 "<p:a/>")
 unfolding opened
@@ -251,6 +321,10 @@ declared_twice named attributes is = is.once.0.0 refl
 bound_to_nothing : IsNoTag (token kinds.Start 0 "<a xmlns:p=''>")
 unfolding opened
 bound_to_nothing named attributes is = let bad : true ≡ false = (is.declarations.0 refl).binding in cc
+
+xml_elsewhere : IsNoTag (token kinds.Empty 0 "<a xmlns:xml='u'/>")
+unfolding opened
+xml_elsewhere named attributes is = let bad : true ≡ false = (is.declarations.0 refl).binding in cc
 
 bad_reference : IsNoTag (token kinds.Start 0 "<a x='&b;'>")
 unfolding opened
@@ -306,6 +380,35 @@ two_doctypes = refuted (tokens_of (codes "<!DOCTYPE a><!DOCTYPE a><a/>")) refl
 other_name : IsNoDocument "<a xmlns:p='u' xmlns:q='u'><p:b></q:b></a>"
 unfolding opened
 other_name = refuted (tokens_of (codes "<a xmlns:p='u' xmlns:q='u'><p:b></q:b></a>")) refl
+
+late_doctype : IsNoDocument "<a/><!DOCTYPE a>"
+unfolding opened
+late_doctype = refuted (tokens_of (codes "<a/><!DOCTYPE a>")) refl
+
+inner_declaration : IsNoDocument "<a><?xml version='1.0'?></a>"
+unfolding opened
+inner_declaration = refuted (tokens_of (codes "<a><?xml version='1.0'?></a>")) refl
+
+loose_brackets : IsNoDocument "<a>]]></a>"
+unfolding opened
+loose_brackets = refuted (tokens_of (codes "<a>]]></a>")) refl
+
+prefixed_target : IsNoDocument "<?a:b?><a/>"
+unfolding opened
+prefixed_target = refuted (tokens_of (codes "<?a:b?><a/>")) refl
+
+three_hyphens : IsNoDocument "<!--a---><a/>"
+unfolding opened
+three_hyphens = refuted (tokens_of (codes "<!--a---><a/>")) refl
+
+xml_bound_elsewhere : IsNoDocument "<a xmlns:xml='u'/>"
+unfolding opened
+xml_bound_elsewhere = refuted (tokens_of (codes "<a xmlns:xml='u'/>")) refl
+
+-- a document type declares no entity here
+declared_entity : IsNoDocument "<!DOCTYPE a [<!ENTITY b 'c'>]><a>&b;</a>"
+unfolding opened
+declared_entity = refuted (tokens_of (codes "<!DOCTYPE a [<!ENTITY b 'c'>]><a>&b;</a>")) refl
 
 -- two prefixes for one namespace
 same_expanded : IsNoDocument "<a xmlns:p='u' xmlns:q='u' p:x='1' q:x='2'/>"

@@ -23,7 +23,7 @@ use Rattle.nx_events.specs.declared.reading.Reading.TheVariants.{Plain, Text}
 use Rattle.nx_events.specs.declared.state.EventState.{EventState}
 use Rattle.nx_events.specs.declared.state.OpenElement.{OpenElement}
 use Rattle.nx_events.specs.declared.state.Run.{Run}
-use Rattle.nx_document.specs.Constraints.{IsComment, IsInstruction, IsTag}
+use Rattle.nx_document.specs.Constraints.{IsComment, IsInstruction, IsLegalTag}
 use Rattle.nx_document.specs.Document.{Repeated, no_further, further, IsMisc, comment, instruction, white_space, with_text, Element, by_empty, by_tags, Content, no_more, by_element, by_text, by_section, by_comment, by_instruction}
 use Rattle.nx_document.proofs.Told.{Clean, clean_first, clean_second, faulty}
 use Rattle.nx_document.proofs.Frames.{Frame, scope_of, open_of, elements_of, at, around_other, around_within}
@@ -74,7 +74,7 @@ pub record Rooted (frames : List Frame) (all : List Token) : Type 0 where
   pub one : Element (scope_of frames) all behind tree
   pub rest : Rest frames behind
 
-rooted : (frames : List Frame) (token : Token) (others : List Token) (name : Name) (attributes : List trees.Attribute) → token.kind ≡ kinds.Start → IsTag (scope_of frames) token name attributes →
+rooted : (frames : List Frame) (token : Token) (others : List Token) (name : Name) (attributes : List trees.Attribute) → token.kind ≡ kinds.Start → IsLegalTag (scope_of frames) token name attributes →
     Rest (frame_of token ∷ frames) others → Rooted frames (token ∷ others)
 rooted frames token others name attributes kind is (inside_one {others = behind} {end = end} {children = children} content ends named rest) = record {
   tree = record { name = name; attributes = attributes; children = children };
@@ -83,7 +83,7 @@ rooted frames token others name attributes kind is (inside_one {others = behind}
   rest = rest;
 }
 
-empty_rooted : (frames : List Frame) (token : Token) (others : List Token) (name : Name) (attributes : List trees.Attribute) → token.kind ≡ kinds.Empty → IsTag (scope_of frames) token name attributes →
+empty_rooted : (frames : List Frame) (token : Token) (others : List Token) (name : Name) (attributes : List trees.Attribute) → token.kind ≡ kinds.Empty → IsLegalTag (scope_of frames) token name attributes →
     Rest frames others → Rooted frames (token ∷ others)
 empty_rooted frames token others name attributes kind is rest = record {
   tree = record { name = name; attributes = attributes; children = nil };

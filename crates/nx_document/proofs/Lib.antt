@@ -18,3 +18,5 @@ pub mod Strings
 pub mod Values
 pub mod Names
 pub mod Proper
+pub mod ApartStrings
+pub mod LegalReadings

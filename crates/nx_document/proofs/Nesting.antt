@@ -21,7 +21,7 @@ use Rattle.nx_events.specs.declared.scope.Binding.{Binding}
 use Rattle.nx_events.specs.declared.state.EventState.{EventState}
 use Rattle.nx_events.specs.declared.state.OpenElement.{OpenElement}
 use Rattle.nx_events.specs.declared.state.Run.{Run}
-use Rattle.nx_document.specs.Constraints.{IsMark, IsXmlDeclaration, IsDoctype, declared, written_in, IsTag, Closes}
+use Rattle.nx_document.specs.Constraints.{IsMark, IsXmlDeclaration, IsDoctype, declared, written_in, IsLegalTag, EndsElement}
 use Rattle.nx_document.specs.Document.{Optional, absent, present, Repeated, no_further, further, IsMisc, comment, instruction, white_space, with_text, Element, by_empty, by_tags, Content, no_more, by_element, by_text, by_section, by_comment, by_instruction, Document}
 use Rattle.nx_events.specs.Among.{faults_among, events_among}
 use Rattle.nx_document.specs.WellFormed.{as_event, AreOfTree}
@@ -141,7 +141,7 @@ end_told frame outer doctype run end kind named =
 
 -- an element by its two tags
 tags_read : (frames : List Frame) (came doctype started : Bool) (run : Option Run) (tag end : Token) (inner rest : List Token) (name : Name) (attributes : List trees.Attribute) (children : Children) →
-    tag.kind ≡ kinds.Start → TagTold (at frames came doctype started run) tag name attributes → ContentRead (frame_of tag) frames doctype None inner (end ∷ rest) children → Closes tag end →
+    tag.kind ≡ kinds.Start → TagTold (at frames came doctype started run) tag name attributes → ContentRead (frame_of tag) frames doctype None inner (end ∷ rest) children → EndsElement tag end →
     ElementRead frames came doctype started run (tag ∷ inner) rest (record { name = name; attributes = attributes; children = children })
 tags_read frames came doctype started run tag end inner rest name attributes children kind told content closes =
     let state = at frames came doctype started run in
@@ -225,10 +225,10 @@ mutual
       ElementRead frames came doctype started run all rest tree
   element_reads (by_empty {tag = tag} {rest = rest} {name = name} {attributes = attributes} kind is) frames came doctype started run e inside =
       empty_read frames came doctype started run tag name attributes
-      (tag_told (at frames came doctype started run) tag name attributes inside (subst (λ s. IsTag s tag name attributes) e is)) rest kind
+      (tag_told (at frames came doctype started run) tag name attributes inside (subst (λ s. IsLegalTag s tag name attributes) e is)) rest kind
   element_reads (by_tags {tag = tag} {end = end} {inner = inner} {rest = rest} {name = name} {attributes = attributes} {children = children} kind is content closes) frames came doctype started run e inside =
       tags_read frames came doctype started run tag end inner rest name attributes children kind
-      (tag_told (at frames came doctype started run) tag name attributes inside (subst (λ s. IsTag s tag name attributes) e is))
+      (tag_told (at frames came doctype started run) tag name attributes inside (subst (λ s. IsLegalTag s tag name attributes) e is))
       (content_reads content (frame_of tag) frames doctype None (ap (λ (s : List Binding). s ++ declared (written_in tag)) e)) closes
 
   content_reads : {scope : List Binding} {all rest : List Token} {children : Children} → Content scope all rest children →

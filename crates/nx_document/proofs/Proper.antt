@@ -17,7 +17,7 @@ use Rattle.nx_events.specs.declared.scope.Binding.{Binding}
 use Rattle.nx_events.specs.declared.tag.Attribute.{Attribute}
 use Rattle.nx_events.proofs.TextKinds.{HasContent, content_text}
 use Rattle.nx_events.proofs.TextTags.{AttributesAreText, name_text, tag_text}
-use Rattle.nx_document.specs.Constraints.{written_in, in_force, IsTag, Expand, no_attribute, declaration, attribute, AreDistinct}
+use Rattle.nx_document.specs.Constraints.{written_in, in_force, IsLegalTag, Expand, no_attribute, declaration, attribute, AreDistinct}
 use Rattle.nx_document.specs.Document.{Optional, absent, present, Repeated, no_further, further, with_text, Element, by_empty, by_tags, Content, no_more, by_element, by_text, by_section, by_comment, by_instruction, Document}
 use Rattle.nx_document.proofs.Borders.{IsText, tokens_are_text}
 use Rattle.nx_document.proofs.Legal.{legal_of_chars}
@@ -80,7 +80,7 @@ record ProperTag (scope : List Binding) (tag : Token) (name : Name) (attributes 
   expanded : AreAttributes attributes
   values : ValuesOfChars attributes
 
-tag_proper : (scope : List Binding) (tag : Token) (name : Name) (attributes : List trees.Attribute) → AreProper scope → IsUtf8 tag.bytes → IsUtf8 (drop 1 tag.bytes) → IsTag scope tag name attributes →
+tag_proper : (scope : List Binding) (tag : Token) (name : Name) (attributes : List trees.Attribute) → AreProper scope → IsUtf8 tag.bytes → IsUtf8 (drop 1 tag.bytes) → IsLegalTag scope tag name attributes →
     ProperTag scope tag name attributes
 tag_proper scope tag name attributes p u v is =
     let chars = tag_chars tag.from tag.bytes v (legal_of_chars Value tag.bytes u is.characters) in

@@ -31,7 +31,7 @@ use Rattle.nx_events.specs.declared.reading.Reading.{Reading}
 use Rattle.nx_events.specs.declared.reading.Reading.TheVariants.{Plain, Text, Value}
 use Rattle.nx_events.specs.declared.state.EventState.{EventState}
 use Rattle.nx_events.specs.declared.state.Run.{Run}
-use Rattle.nx_document.specs.Constraints.{IsXmlDeclaration, IsComment, IsInstruction, IsWhiteSpace, IsCharacterData, IsSection, IsLegal, declared, written_in, in_force, IsTag, Expand}
+use Rattle.nx_document.specs.Constraints.{IsXmlDeclaration, IsComment, IsInstruction, IsWhiteSpace, IsCharacterData, IsSection, IsLegal, declared, written_in, in_force, IsLegalTag, Expand}
 use Rattle.nx_events.specs.Among.{events_among}
 use Rattle.nx_document.specs.WellFormed.{as_event}
 use Rattle.nx_document.proofs.Told.{Clean, clean_nil, clean_both, clean_first, clean_second, faulty, no_faults, clean_faults, fault_events, no_fault_if, clean_if, if_events, events_append, events_skip}
@@ -239,7 +239,7 @@ pub record TagKept (state : EventState) (token : Token) : Type 0 where
   pub name : Name
   pub attributes : List trees.Attribute
   pub inside : is_behind state ≡ false
-  pub tag : IsTag state.scope token name attributes
+  pub tag : IsLegalTag state.scope token name attributes
   pub own : own_bindings token ≡ declared (written_in token)
 
 pub tag_kept : (state : EventState) (token : Token) → Clean (start_items state token) → TagKept state token
@@ -285,7 +285,7 @@ pub record TagTold (state : EventState) (token : Token) (name : Name) (attribute
   pub events : (x : List trees.Event) → events_among (start_items state token) ++ map as_event x
       ≡ map as_event (text_flat (pending state.run) (trees.Enter name ∷ attributes_flat attributes (trees.TagEnd ∷ x)))
 
-pub tag_told : (state : EventState) (token : Token) (name : Name) (attributes : List trees.Attribute) → is_behind state ≡ false → IsTag state.scope token name attributes →
+pub tag_told : (state : EventState) (token : Token) (name : Name) (attributes : List trees.Attribute) → is_behind state ≡ false → IsLegalTag state.scope token name attributes →
     TagTold state token name attributes
 unfolding start_items
 tag_told state token name attributes inside tag =

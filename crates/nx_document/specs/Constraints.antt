@@ -112,7 +112,7 @@ AreDistinct attributes = NoTwoShare (λ (a : trees.Attribute). a.name) attribute
 
 -- a start tag or an empty-element tag (XML 1.0, 3.1 [40] and [44]) inside of these declarations, of an element with this expanded
 -- name and these attributes
-pub record IsTag (around : List Binding) (token : Token) (name : Name) (attributes : List trees.Attribute) : Type 0 where
+pub record IsLegalTag (around : List Binding) (token : Token) (name : Name) (attributes : List trees.Attribute) : Type 0 where
   -- its characters, and the references in its values (2.2, 4.1)
   pub characters : IsLegal Value token.bytes
   -- Unique Att Spec (3.1)
@@ -127,6 +127,6 @@ pub record IsTag (around : List Binding) (token : Token) (name : Name) (attribut
   pub distinct : AreDistinct attributes
 
 -- ETag, with the name of the start tag (3, Element Type Match)
-pub record Closes (start end : Token) : Type 0 where
+pub record EndsElement (start end : Token) : Type 0 where
   pub kind : end.kind ≡ kinds.End
   pub matches : end_name end.bytes ≡ start_name start.bytes

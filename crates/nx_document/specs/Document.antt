@@ -9,7 +9,7 @@ use Rattle.nx_base.specs.declared.token.TokenKind.TheVariants as kinds
 use Rattle.nx_events.specs.Strings.{string_of, cdata_content}
 use Rattle.nx_events.specs.declared.reading.Reading.TheVariants.{Plain, Text}
 use Rattle.nx_events.specs.declared.scope.Binding.{Binding}
-use Rattle.nx_document.specs.Constraints.{IsMark, IsXmlDeclaration, IsDoctype, IsComment, IsInstruction, IsWhiteSpace, IsCharacterData, IsSection, in_force, IsTag, Closes}
+use Rattle.nx_document.specs.Constraints.{IsMark, IsXmlDeclaration, IsDoctype, IsComment, IsInstruction, IsWhiteSpace, IsCharacterData, IsSection, in_force, IsLegalTag, EndsElement}
 
 -- one such token or none, up to what follows
 pub data Optional (P : Token → Type 0) : List Token → List Token → Type 0 where
@@ -38,11 +38,11 @@ mutual
   -- element (3 [39]), inside of these declarations
   pub data Element : List Binding → List Token → List Token → Tree → Type 0 where
     by_empty : {scope : List Binding} {tag : Token} {rest : List Token} {name : Name} {attributes : List trees.Attribute} →
-        tag.kind ≡ kinds.Empty → IsTag scope tag name attributes →
+        tag.kind ≡ kinds.Empty → IsLegalTag scope tag name attributes →
         Element scope (tag ∷ rest) rest (record { name = name; attributes = attributes; children = nil })
     by_tags : {scope : List Binding} {tag end : Token} {inner rest : List Token} {name : Name} {attributes : List trees.Attribute} {children : Children} →
-        tag.kind ≡ kinds.Start → IsTag scope tag name attributes → Content (in_force scope tag) inner (end ∷ rest) children →
-        Closes tag end → Element scope (tag ∷ inner) rest (record { name = name; attributes = attributes; children = children })
+        tag.kind ≡ kinds.Start → IsLegalTag scope tag name attributes → Content (in_force scope tag) inner (end ∷ rest) children →
+        EndsElement tag end → Element scope (tag ∷ inner) rest (record { name = name; attributes = attributes; children = children })
 
   -- content (3.1 [43]): what stands between the elements is joined to strings, also over comments and processing instructions
   pub data Content : List Binding → List Token → List Token → Children → Type 0 where

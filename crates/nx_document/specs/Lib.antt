@@ -1,3 +1,5 @@
+pub mod ApartStrings
 pub mod Constraints
 pub mod Document
+pub mod LegalReadings
 pub mod WellFormed

@@ -1,19 +1,27 @@
-//! Laws of well-formed documents. Nothing here runs.
+//! Laws of well-formed documents: of XML 1.0 without what lies in a document type, of which nothing is
+//! asked or used. Nothing here runs.
 
 ghost use Rattle.nx_document.specs.WellFormed.{WellFormedIsDocument, DocumentsHaveNoFault, DocumentsHaveOneTree, DocumentsHaveProperNames, DocumentsAreWritable, TreeEventsStayApart, UnprefixedNamesAgree};
+ghost use Rattle.nx_document.specs.ApartStrings.{DocumentsHaveApartStrings};
+ghost use Rattle.nx_document.specs.LegalReadings.{LegalIsReadWithoutFault};
 
 /// A text holds no fault exactly where its tokens are a document, and its events are then those of the
 /// document's tree.
+///
+/// A document is one by XML 1.0 without what lies in a document type: nothing inside of that is asked
+/// or used, references to other entities than the five predefined ones are faults even where it
+/// declares them, and the encoding that an XML declaration names isn't compared with the bytes.
 pub fn well_formed_is_document()
     ensures { WellFormedIsDocument }
 {}
 
-/// Any tokens that are a document have no fault, and the events of its tree.
+/// Any tokens that are a document have no fault, and the events of its tree; also where they aren't
+/// those of a text. What lies in a document type plays no part.
 pub fn documents_have_no_fault()
     ensures { DocumentsHaveNoFault }
 {}
 
-/// Tokens are a document of one tree at most.
+/// Tokens are a document of one tree at most: a document type adds nothing to it.
 pub fn documents_have_one_tree()
     ensures { DocumentsHaveOneTree }
 {}
@@ -27,6 +35,19 @@ pub fn documents_have_proper_names()
 /// Its strings, too, are of characters that XML allows.
 pub fn documents_are_writable()
     ensures { DocumentsAreWritable }
+{}
+
+/// No string among the children of an element of a document is empty, and no two stand side by side:
+/// text, CDATA sections and references are joined, also over comments and processing instructions.
+pub fn documents_have_apart_strings()
+    ensures { DocumentsHaveApartStrings }
+{}
+
+/// Bytes are legal, as a document asks of its text, values, sections, comments and instructions, exactly
+/// where reading them part by part, by the cases of XML 1.0, finds no fault. References to other entities
+/// than the five predefined ones are faults there, whatever a document type declares.
+pub fn legal_is_read_without_fault()
+    ensures { LegalIsReadWithoutFault }
 {}
 
 /// The events of trees stay apart among those of texts.
