@@ -20,3 +20,5 @@ pub mod Names
 pub mod Proper
 pub mod ApartStrings
 pub mod LegalReadings
+pub mod CleanTexts
+pub mod LegalTags

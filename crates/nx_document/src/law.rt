@@ -3,7 +3,7 @@
 
 ghost use Rattle.nx_document.specs.WellFormed.{WellFormedIsDocument, DocumentsHaveNoFault, DocumentsHaveOneTree, DocumentsHaveProperNames, DocumentsAreWritable, TreeEventsStayApart, UnprefixedNamesAgree};
 ghost use Rattle.nx_document.specs.ApartStrings.{DocumentsHaveApartStrings};
-ghost use Rattle.nx_document.specs.LegalReadings.{LegalIsReadWithoutFault};
+ghost use Rattle.nx_document.specs.LegalReadings.{LegalIsReadWithoutFault, LegalTagsHaveLegalValues};
 
 /// A text holds no fault exactly where its tokens are a document, and its events are then those of the
 /// document's tree.
@@ -48,6 +48,12 @@ pub fn documents_have_apart_strings()
 /// than the five predefined ones are faults there, whatever a document type declares.
 pub fn legal_is_read_without_fault()
     ensures { LegalIsReadWithoutFault }
+{}
+
+/// A tag that is spelled by the grammar is legal exactly where each value that is written in it is: all
+/// else in a tag is of characters that XML allows, and without references.
+pub fn legal_tags_have_legal_values()
+    ensures { LegalTagsHaveLegalValues }
 {}
 
 /// The events of trees stay apart among those of texts.

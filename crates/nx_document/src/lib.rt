@@ -7,8 +7,8 @@
 //!
 //! This is the well-formedness of XML 1.0 without what lies in a document type:
 //! - a document type is a token that begins with `<!DOCTYPE` and ends where its marks say; nothing inside
-//!   of it is asked or used, so that `<!DOCTYPE><a/>` is a document, and defaults of attributes that are
-//!   declared there aren't added;
+//!   of it is asked or used, so that `<!DOCTYPE><a/>` is a document, and types and defaults of attributes
+//!   that are declared there don't count;
 //! - references stand for a character by its number, or for one of the five predefined entities; each
 //!   other is a fault, also where a document type declares that entity;
 //! - texts are UTF-8 already: the encoding that an XML declaration names has to be a name, and isn't
