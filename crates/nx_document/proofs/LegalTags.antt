@@ -12,7 +12,9 @@ use Rattle.nx_events.proofs.TextTags.{quote_small}
 use Rattle.nx_events.proofs.Texts.{up_to, behind}
 use Rattle.nx_document.specs.Constraints.{IsLegal}
 use Rattle.nx_document.specs.LegalReadings.{LegalTagsHaveLegalValues}
-use Rattle.nx_document.proofs.CleanTexts.{IsClean, clean_append, clean_legal, legal_clean, AreFine, fine_append, fine_clean, fine_between, quote_fine, less_fine, equals_fine, fine_name, behind_fine, value_apart}
+use Rattle.nx_document.proofs.CleanTexts.{IsClean, clean_append, clean_legal, legal_clean}
+use Rattle.nx_document.proofs.FineTexts.{AreFine, fine_append, fine_clean, fine_between, quote_fine, less_fine, equals_fine, fine_name, behind_fine}
+use Rattle.nx_document.proofs.QuotedTexts.{value_apart}
 
 -- what stands before a value, with its quote
 abbrev before_quote : Written → List ℕ

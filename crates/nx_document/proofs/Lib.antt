@@ -1,4 +1,5 @@
-mod Examples
+pub mod Examples
+mod NoDocuments
 pub mod Told
 pub mod Characters
 pub mod Tags
@@ -21,4 +22,6 @@ pub mod Proper
 pub mod ApartStrings
 pub mod LegalReadings
 pub mod CleanTexts
+pub mod FineTexts
+pub mod QuotedTexts
 pub mod LegalTags
