@@ -43,9 +43,9 @@ pub fn documents_have_apart_strings()
     ensures { DocumentsHaveApartStrings }
 {}
 
-/// Bytes are legal, as a document asks of its text, values, sections, comments and instructions, exactly
-/// where reading them part by part, by the cases of XML 1.0, finds no fault. References to other entities
-/// than the five predefined ones are faults there, whatever a document type declares.
+/// Bytes are legal, as a document asks it of its text, tags, sections, comments and instructions,
+/// exactly where reading them part by part, by the cases of XML 1.0, finds no fault. References to
+/// other entities than the five predefined ones are faults there, whatever a document type declares.
 pub fn legal_is_read_without_fault()
     ensures { LegalIsReadWithoutFault }
 {}
