@@ -11,8 +11,8 @@
 //!   attributes that are declared there don't count;
 //! - references stand for a character by its number, or for one of the five predefined entities; each
 //!   other is a fault, even where a document type declares that entity;
-//! - the encoding that an XML declaration names has to be the name of one, and isn't compared with the
-//!   bytes, which are UTF-8.
+//! - the encoding that an XML declaration names has to be spelled as such a name (EncName), and isn't
+//!   compared with the bytes, which are UTF-8.
 #![tactic(auto)]
 
 pub mod law;
