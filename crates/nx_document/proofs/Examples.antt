@@ -326,3 +326,33 @@ xml_elsewhere named attributes is = let bad : true ≡ false = (is.declarations.
 bad_reference : IsNoTag (token kinds.Start 0 "<a x='&b;'>")
 unfolding opened
 bad_reference named attributes is = let bad : Some BadReference ≡ None = is.characters.1.1.1.1.1.1.0 in cc
+
+-- the encoding that a declaration names isn't compared with the bytes
+abbrev called_ascii : List ℕ
+called_ascii = codes "<?xml version='1.0' encoding='US-ASCII'?><a>" ++ 0xC3 ∷ 0xA9 ∷ codes "</a>"
+
+called_document : Document (tokens_of called_ascii) (tree_of (name "" "a") [] (string (0xC3 ∷ 0xA9 ∷ []) nil))
+unfolding opened
+called_document = record {
+  behind_mark = _;
+  behind_declaration = _;
+  before_doctype = _;
+  behind_doctype = _;
+  root = _;
+  behind_root = _;
+  mark = absent;
+  declaration = present (record { kind = refl; form = refl });
+  first_misc = no_further;
+  doctype = absent;
+  second_misc = no_further;
+  element = by_tags {inner = _} refl (record {
+    characters = is_legal Value 0 (codes "<a>") refl;
+    once = tt;
+    declarations = tt;
+    qualified = refl;
+    named = refl;
+    expanded = no_attribute;
+    distinct = tt;
+  }) (by_text (record { kind = refl; characters = is_legal Text 0 (0xC3 ∷ 0xA9 ∷ []) refl }) no_more) (record { kind = refl; matches = refl });
+  last_misc = no_further;
+}

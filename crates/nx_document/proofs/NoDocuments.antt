@@ -94,3 +94,8 @@ declared_entity = refuted (tokens_of (codes "<!DOCTYPE a [<!ENTITY b 'c'>]><a>&b
 same_expanded : IsNoDocument "<a xmlns:p='u' xmlns:q='u' p:x='1' q:x='2'/>"
 unfolding opened
 same_expanded = refuted (tokens_of (codes "<a xmlns:p='u' xmlns:q='u' p:x='1' q:x='2'/>")) refl
+
+-- a text is UTF-8, and may call itself US-ASCII, but nothing else
+other_encoding : IsNoDocument "<?xml version='1.0' encoding='ISO-8859-1'?><a/>"
+unfolding opened
+other_encoding = refuted (tokens_of (codes "<?xml version='1.0' encoding='ISO-8859-1'?><a/>")) refl

@@ -28,7 +28,7 @@ IsLegal reading bytes = AllByRecursion (λ (piece : Piece). piece_flaw reading p
 abbrev pub IsMark : Token → Type 0
 IsMark token = token.kind ≡ kinds.Bom
 
--- XMLDecl (2.8 [23]); the encoding that it names (4.3.3) isn't compared with the bytes
+-- XMLDecl (2.8 [23]), with UTF-8 or US-ASCII where it names an encoding (4.3.3), which isn't compared with the bytes
 pub record IsXmlDeclaration (token : Token) : Type 0 where
   pub kind : token.kind ≡ kinds.Decl
   pub form : is_xml_declaration token.bytes ≡ true

@@ -10,7 +10,8 @@ ghost use Rattle.nx_document.specs.LegalReadings.{LegalIsReadWithoutFault, Legal
 ///
 /// A document is one by XML 1.0 without what lies in a document type: nothing inside of that is asked
 /// or used, references to other entities than the five predefined ones are faults even where it
-/// declares them, and the encoding that an XML declaration names isn't compared with the bytes.
+/// declares them, and the encoding that an XML declaration names, UTF-8 or US-ASCII, isn't compared with
+/// the bytes.
 pub fn well_formed_is_document()
     ensures { WellFormedIsDocument }
 {}

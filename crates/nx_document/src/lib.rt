@@ -11,8 +11,9 @@
 //!   attributes that are declared there don't count;
 //! - references stand for a character by its number, or for one of the five predefined entities; each
 //!   other is a fault, even where a document type declares that entity;
-//! - the encoding that an XML declaration names has to be spelled as such a name (EncName), and isn't
-//!   compared with the bytes, which are UTF-8.
+//! - an XML declaration may name UTF-8 or US-ASCII as its encoding, and each other is a fault; the
+//!   encoding that it names isn't compared with the bytes, which are UTF-8, so that a text that calls
+//!   itself US-ASCII may hold other characters.
 #![tactic(auto)]
 
 pub mod law;
