@@ -36,17 +36,17 @@ flaw_rest : (flaw : Option Kind) (span : Span) (fs : List Fault) → bare_faults
 flaw_rest None span fs e = e
 flaw_rest (Some kind) span fs e = let bad : record { span = span; kind = kind; detail = [] } ∷ fs ≡ [] = e in absurd (cc)
 
-abbrev NoFlaw : Reading → Piece → Type 0
+abbrev pub NoFlaw : Reading → Piece → Type 0
 NoFlaw reading piece = piece_flaw reading piece.bytes ≡ None
 
-pieces_legal : (reading : Reading) (ps : List Piece) → flat_map (piece_faults reading) ps ≡ [] → AllByRecursion (NoFlaw reading) ps
+pub pieces_legal : (reading : Reading) (ps : List Piece) → flat_map (piece_faults reading) ps ≡ [] → AllByRecursion (NoFlaw reading) ps
 pieces_legal reading [] e = tt
 pieces_legal reading (p ∷ ps) e = (
   flaw_none (piece_flaw reading p.bytes) (piece_span p) (flat_map (piece_faults reading) ps) e,
   pieces_legal reading ps (flaw_rest (piece_flaw reading p.bytes) (piece_span p) (flat_map (piece_faults reading) ps) e),
 )
 
-pieces_faultless : (reading : Reading) (ps : List Piece) → AllByRecursion (NoFlaw reading) ps → flat_map (piece_faults reading) ps ≡ []
+pub pieces_faultless : (reading : Reading) (ps : List Piece) → AllByRecursion (NoFlaw reading) ps → flat_map (piece_faults reading) ps ≡ []
 pieces_faultless reading [] h = refl
 pieces_faultless reading (p ∷ ps) h =
     ap (λ flaw. bare_faults flaw (piece_span p) ++ flat_map (piece_faults reading) ps) h.0 ∙ pieces_faultless reading ps h.1

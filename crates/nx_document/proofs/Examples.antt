@@ -1,5 +1,5 @@
--- What is a document and what isn't, worked out by hand.
-use Rattle.std.proofs.Common.{◌≡◌, ℕ, Bool, true, false, Some, None, List, [], ◌∷◌, ◌++◌, refl, ap, sym, ◌∙◌, codes}
+-- What is a document, and what is no tag, worked out by hand.
+use Rattle.std.proofs.Common.{◌≡◌, ℕ, true, false, Some, None, List, [], ◌∷◌, ◌++◌, refl, ap, codes}
 use Rattle.std.specs.Str.{chars}
 use Prim.Native.String.{String}
 use lib.Utf8.{encode}
@@ -8,7 +8,6 @@ use Rattle.nx_base.specs.Form.{spells, begins, shortest_front, passing_front}
 use Rattle.nx_base.specs.Tokens.{first_token, markup, begins_declaration, instruction, doctype, begins_with, closed, bytes_before, bytes_up_to, doctype_bytes, piece, bad, bad_rest, tag_or, tag, cut, tokens_within, tokens_of}
 use Rattle.nx_base.specs.Trees.{Tree, Children, nil, string, element}
 use Rattle.nx_base.specs.Trees as trees
-use Rattle.nx_base.specs.declared.fault.Fault.{Fault}
 use Rattle.nx_base.specs.declared.fault.Kind.TheVariants.{BadReference}
 use Rattle.nx_base.specs.declared.name.Name.{Name}
 use Rattle.nx_base.specs.declared.token.Token.{Token}
@@ -17,7 +16,7 @@ use Rattle.nx_base.specs.declared.token.TokenKind.TheVariants as kinds
 use Rattle.nx_events.specs.CharacterFaults.{character_flaw, tag_flaw, text_flaw, once, character_faults}
 use Rattle.nx_events.specs.Declarations.{is_declaration, declared_prefix, is_bad_binding, flaw_kind, faults_at, bindings_at, declaration_faults, bindings}
 use Rattle.nx_events.specs.Elements.{element_resolved, new_or_flaw, attribute_resolved, resolved_if_attribute, attribute_items}
-use Rattle.nx_events.specs.Items.{declaration_items, doctype_items, comment_items, pi_items, cdata_items, text_items, start_items, empty_items, around_innermost, end_items, items_of_token, state_behind, items_at_end, items_from, items_of}
+use Rattle.nx_events.specs.Items.{declaration_items, doctype_items, comment_items, pi_items, cdata_items, text_items, start_items, empty_items, around_innermost, end_items, items_of_token, state_behind, items_at_end, items_from}
 use Rattle.nx_events.specs.Markup.{has_loose_hyphen, is_bad_comment, is_bad_pi}
 use Rattle.nx_events.specs.Names.{begins_unprefixed, goes_on_unprefixed, is_ncname, prefix_of, local_of, is_qname}
 use Rattle.nx_events.specs.References.{name_chars_len, name_len, reference_body_len, reference_len, number_of, char_or_none, numbered, character_named, referenced, spelled}
@@ -31,12 +30,10 @@ use Rattle.nx_events.specs.declared.reading.Reading.TheVariants.{Plain, Text, Va
 use Rattle.nx_events.specs.declared.scope.Binding.{Binding}
 use Rattle.nx_document.specs.Constraints.{IsLegalTag, no_attribute, declaration, attribute}
 use Rattle.nx_document.specs.Document.{absent, present, no_further, further, white_space, Element, by_empty, by_tags, Content, no_more, by_element, by_text, by_section, by_comment, Document}
-use Rattle.nx_events.specs.Among.{faults_among}
 use Rattle.nx_document.proofs.Characters.{is_legal}
-use Rattle.nx_document.proofs.Nesting.{document_reads}
 
 -- what must compute
-unfoldable opened : Unit {0}
+unfoldable pub opened : Unit {0}
 unfolding first_token markup begins_declaration instruction doctype begins_with closed bytes_before bytes_up_to doctype_bytes piece bad bad_rest tag_or tag cut tokens_within spells begins shortest_front passing_front is_char is_space is_name_start is_name_char chars encode character_flaw tag_flaw text_flaw once character_faults is_declaration declared_prefix is_bad_binding flaw_kind faults_at bindings_at declaration_faults bindings element_resolved new_or_flaw attribute_resolved resolved_if_attribute attribute_items declaration_items doctype_items comment_items pi_items cdata_items text_items start_items empty_items around_innermost end_items items_of_token state_behind items_at_end items_from has_loose_hyphen is_bad_comment is_bad_pi begins_unprefixed goes_on_unprefixed is_ncname prefix_of local_of is_qname name_chars_len name_len reference_body_len reference_len number_of char_or_none numbered character_named referenced spelled run_items last_uri bound_uri element_uri attribute_uri cut_by line_piece_len text_piece_len line_string_of text_string_of value_string_of string_of written_name value_len written_value attribute_len begins_attribute attribute_at front_attribute front_len attributes_from tag_attributes front_char after_some_spaces after_word after_equals is_version is_encoding is_yes_or_no after_value after_spaced_word after_setting after_optional_setting after_settings is_xml_declaration
 opened = tt
 
@@ -330,87 +327,32 @@ bad_reference : IsNoTag (token kinds.Start 0 "<a x='&b;'>")
 unfolding opened
 bad_reference named attributes is = let bad : Some BadReference ≡ None = is.characters.1.1.1.1.1.1.0 in cc
 
--- texts that are no document
-abbrev IsNoDocument : String → Type 0
-IsNoDocument text = (tree : Tree) → Document (tokens_of (codes text)) tree → ⊥
+-- the encoding that a declaration names isn't compared with the bytes
+abbrev called_ascii : List ℕ
+called_ascii = codes "<?xml version='1.0' encoding='US-ASCII'?><a>" ++ 0xC3 ∷ 0xA9 ∷ codes "</a>"
 
-abbrev has_some : List Fault → Bool
-has_some [] = false
-has_some (fault ∷ others) = true
-
-refuted : (all : List Token) → has_some (faults_among (items_of all 0)) ≡ true → (tree : Tree) → Document all tree → ⊥
-refuted all e tree is = let bad : false ≡ true = sym (ap has_some (document_reads all tree 0 is).0) ∙ e in cc
-
-missing_end : IsNoDocument "<a><b></a>"
+called_document : Document (tokens_of called_ascii) (tree_of (name "" "a") [] (string (0xC3 ∷ 0xA9 ∷ []) nil))
 unfolding opened
-missing_end = refuted (tokens_of (codes "<a><b></a>")) refl
-
-twice_and_unknown : IsNoDocument "<a x='1' x='2'>&nbsp;</a>"
-unfolding opened
-twice_and_unknown = refuted (tokens_of (codes "<a x='1' x='2'>&nbsp;</a>")) refl
-
-no_token : IsNoDocument "<a><b </a>"
-unfolding opened
-no_token = refuted (tokens_of (codes "<a><b </a>")) refl
-
-second_root : IsNoDocument "<a/><b/>"
-unfolding opened
-second_root = refuted (tokens_of (codes "<a/><b/>")) refl
-
-no_declaration : IsNoDocument "<p:a/>"
-unfolding opened
-no_declaration = refuted (tokens_of (codes "<p:a/>")) refl
-
-nothing : IsNoDocument ""
-unfolding opened
-nothing = refuted (tokens_of (codes "")) refl
-
-text_outside : IsNoDocument "<a/>x"
-unfolding opened
-text_outside = refuted (tokens_of (codes "<a/>x")) refl
-
-late_declaration : IsNoDocument " <?xml version='1.0'?><a/>"
-unfolding opened
-late_declaration = refuted (tokens_of (codes " <?xml version='1.0'?><a/>")) refl
-
-two_doctypes : IsNoDocument "<!DOCTYPE a><!DOCTYPE a><a/>"
-unfolding opened
-two_doctypes = refuted (tokens_of (codes "<!DOCTYPE a><!DOCTYPE a><a/>")) refl
-
-other_name : IsNoDocument "<a xmlns:p='u' xmlns:q='u'><p:b></q:b></a>"
-unfolding opened
-other_name = refuted (tokens_of (codes "<a xmlns:p='u' xmlns:q='u'><p:b></q:b></a>")) refl
-
-late_doctype : IsNoDocument "<a/><!DOCTYPE a>"
-unfolding opened
-late_doctype = refuted (tokens_of (codes "<a/><!DOCTYPE a>")) refl
-
-inner_declaration : IsNoDocument "<a><?xml version='1.0'?></a>"
-unfolding opened
-inner_declaration = refuted (tokens_of (codes "<a><?xml version='1.0'?></a>")) refl
-
-loose_brackets : IsNoDocument "<a>]]></a>"
-unfolding opened
-loose_brackets = refuted (tokens_of (codes "<a>]]></a>")) refl
-
-prefixed_target : IsNoDocument "<?a:b?><a/>"
-unfolding opened
-prefixed_target = refuted (tokens_of (codes "<?a:b?><a/>")) refl
-
-three_hyphens : IsNoDocument "<!--a---><a/>"
-unfolding opened
-three_hyphens = refuted (tokens_of (codes "<!--a---><a/>")) refl
-
-xml_bound_elsewhere : IsNoDocument "<a xmlns:xml='u'/>"
-unfolding opened
-xml_bound_elsewhere = refuted (tokens_of (codes "<a xmlns:xml='u'/>")) refl
-
--- a document type declares no entity here
-declared_entity : IsNoDocument "<!DOCTYPE a [<!ENTITY b 'c'>]><a>&b;</a>"
-unfolding opened
-declared_entity = refuted (tokens_of (codes "<!DOCTYPE a [<!ENTITY b 'c'>]><a>&b;</a>")) refl
-
--- two prefixes for one namespace
-same_expanded : IsNoDocument "<a xmlns:p='u' xmlns:q='u' p:x='1' q:x='2'/>"
-unfolding opened
-same_expanded = refuted (tokens_of (codes "<a xmlns:p='u' xmlns:q='u' p:x='1' q:x='2'/>")) refl
+called_document = record {
+  behind_mark = _;
+  behind_declaration = _;
+  before_doctype = _;
+  behind_doctype = _;
+  root = _;
+  behind_root = _;
+  mark = absent;
+  declaration = present (record { kind = refl; form = refl });
+  first_misc = no_further;
+  doctype = absent;
+  second_misc = no_further;
+  element = by_tags {inner = _} refl (record {
+    characters = is_legal Value 0 (codes "<a>") refl;
+    once = tt;
+    declarations = tt;
+    qualified = refl;
+    named = refl;
+    expanded = no_attribute;
+    distinct = tt;
+  }) (by_text (record { kind = refl; characters = is_legal Text 0 (0xC3 ∷ 0xA9 ∷ []) refl }) no_more) (record { kind = refl; matches = refl });
+  last_misc = no_further;
+}

@@ -1,4 +1,5 @@
-mod Examples
+pub mod Examples
+mod NoDocuments
 pub mod Told
 pub mod Characters
 pub mod Tags
@@ -20,3 +21,7 @@ pub mod Names
 pub mod Proper
 pub mod ApartStrings
 pub mod LegalReadings
+pub mod CleanTexts
+pub mod FineTexts
+pub mod QuotedTexts
+pub mod LegalTags

@@ -27,7 +27,7 @@ joined_chars xs ys u = ap (list_all is_char) (chars-append xs ys u) ∙ list_all
 pub of_both : (xs ys : List ℕ) → OfChars xs → OfChars ys → OfChars (xs ++ ys)
 of_both xs ys o p = record { utf8 = IsUtf8-append xs ys o.utf8 p.utf8; each = joined_chars xs ys o.utf8 ∙ and_from _ _ o.each p.each }
 
-char_scalar : (c : ℕ) → is_char c ≡ true → scalar c ≡ true
+pub char_scalar : (c : ℕ) → is_char c ≡ true → scalar c ≡ true
 unfolding is_char
 char_scalar c h = grind (arith, nat_tests)
 

@@ -19,8 +19,8 @@ use Rattle.nx_events.specs.declared.reading.Reading.TheVariants.{Plain, Text, Va
 use Rattle.nx_events.specs.declared.scope.Binding.{Binding}
 use Rattle.nx_events.specs.declared.tag.Attribute.{Attribute}
 
--- each character is a Char (XML 1.0, 2.2); where references are read, each `&` begins one that stands for a character
--- (4.1, 4.6), and `]]>` doesn't stand in character data (2.4)
+-- each character is a Char (XML 1.0, 2.2); where references are read, each `&` begins one that stands for a character, by its number
+-- (4.1) or as one of the five predefined entities (4.6), whatever a document type declares; and `]]>` doesn't stand in character data (2.4)
 abbrev pub IsLegal : Reading → List ℕ → Type 0
 IsLegal reading bytes = AllByRecursion (λ (piece : Piece). piece_flaw reading piece.bytes ≡ None) (pieces reading 0 bytes)
 
@@ -28,12 +28,12 @@ IsLegal reading bytes = AllByRecursion (λ (piece : Piece). piece_flaw reading p
 abbrev pub IsMark : Token → Type 0
 IsMark token = token.kind ≡ kinds.Bom
 
--- XMLDecl (2.8 [23])
+-- XMLDecl (2.8 [23]), with UTF-8 or US-ASCII where it names an encoding (4.3.3), which isn't compared with the bytes
 pub record IsXmlDeclaration (token : Token) : Type 0 where
   pub kind : token.kind ≡ kinds.Decl
   pub form : is_xml_declaration token.bytes ≡ true
 
--- doctypedecl (2.8 [28]), of which its marks alone are asked
+-- doctypedecl (2.8 [28]), of which its marks alone are asked: nothing inside of it is asked or used
 abbrev pub IsDoctype : Token → Type 0
 IsDoctype token = token.kind ≡ kinds.Doctype
 

@@ -3,14 +3,15 @@
 
 ghost use Rattle.nx_document.specs.WellFormed.{WellFormedIsDocument, DocumentsHaveNoFault, DocumentsHaveOneTree, DocumentsHaveProperNames, DocumentsAreWritable, TreeEventsStayApart, UnprefixedNamesAgree};
 ghost use Rattle.nx_document.specs.ApartStrings.{DocumentsHaveApartStrings};
-ghost use Rattle.nx_document.specs.LegalReadings.{LegalIsReadWithoutFault};
+ghost use Rattle.nx_document.specs.LegalReadings.{LegalIsReadWithoutFault, LegalTagsHaveLegalValues};
 
 /// A text holds no fault exactly where its tokens are a document, and its events are then those of the
 /// document's tree.
 ///
 /// A document is one by XML 1.0 without what lies in a document type: nothing inside of that is asked
 /// or used, references to other entities than the five predefined ones are faults even where it
-/// declares them, and the encoding that an XML declaration names isn't compared with the bytes.
+/// declares them, and the encoding that an XML declaration names, UTF-8 or US-ASCII, isn't compared with
+/// the bytes.
 pub fn well_formed_is_document()
     ensures { WellFormedIsDocument }
 {}
@@ -43,11 +44,17 @@ pub fn documents_have_apart_strings()
     ensures { DocumentsHaveApartStrings }
 {}
 
-/// Bytes are legal, as a document asks of its text, values, sections, comments and instructions, exactly
-/// where reading them part by part, by the cases of XML 1.0, finds no fault. References to other entities
-/// than the five predefined ones are faults there, whatever a document type declares.
+/// Bytes are legal, as a document asks it of its text, tags, sections, comments and instructions,
+/// exactly where reading them part by part, by the cases of XML 1.0, finds no fault. References to
+/// other entities than the five predefined ones are faults there, whatever a document type declares.
 pub fn legal_is_read_without_fault()
     ensures { LegalIsReadWithoutFault }
+{}
+
+/// A tag that is spelled by the grammar is legal exactly where each value that is written in it is: all
+/// else in a tag is of characters that XML allows, and without references.
+pub fn legal_tags_have_legal_values()
+    ensures { LegalTagsHaveLegalValues }
 {}
 
 /// The events of trees stay apart among those of texts.
