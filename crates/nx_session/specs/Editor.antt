@@ -1,5 +1,5 @@
 -- The editor, and the world that it works in.
-use Rattle.std.specs.Prelude.{◌≡◌, ℕ, ◌+◌, List, [], ◌==◌, length, codes, Option, if◌then◌else◌}
+use Rattle.std.specs.Prelude.{ℕ, List, [], ◌==◌, length, codes, Option, if◌then◌else◌}
 use Rattle.nx_base.specs.Text.{edited, moved_place}
 use Rattle.nx_base.specs.declared.edit.Edit.{Edit}
 use Rattle.nx_host.specs.Files.{FileMap}

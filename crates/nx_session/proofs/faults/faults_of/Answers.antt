@@ -1,6 +1,6 @@
-use Rattle.std.proofs.Common.{◌+◌, ap, sym, ◌∙◌, subst, arith}
-use Rattle.nx_session.specs.Faults.{faults_in, FaultsAreText}
-use Rattle.nx_session.proofs.Reading.{reads, reading-begun, reading-more, reading-ended, reading-stops, faults_are_text}
+use Rattle.std.proofs.Common.{sym, subst, arith}
+use Rattle.nx_session.specs.Faults.{FaultsAreText}
+use Rattle.nx_session.proofs.Reading.{reads, reading-begun, reading-more, reading-ended, faults_are_text}
 use Rattle.nx_session.proofs.faults.faults_of.Goals as goal
 
 pub loop-faults-init : goal.loop-faults-init

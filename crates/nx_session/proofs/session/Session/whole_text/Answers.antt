@@ -1,4 +1,3 @@
-use Rattle.std.proofs.Common.{arith}
 use Rattle.std.proofs.lemmas.Str.{IsCharBoundary-start}
 use Rattle.nx_session.proofs.session.Session.whole_text.Goals as goal
 
