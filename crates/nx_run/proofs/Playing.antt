@@ -11,13 +11,13 @@ use Rattle.nx_script.specs.Lines.{lines_of}
 use Rattle.nx_script.specs.Printing.{reply_text}
 use Rattle.nx_script.specs.declared.reply.Reply.{Reply}
 use Rattle.nx_run.specs.declared.status.Status.{Status}
-use Rattle.nx_run.specs.declared.status.Status.TheVariants.{Done, Refused, Words, Script, Output, Memory}
+use Rattle.nx_run.specs.declared.status.Status.TheVariants.{Done, Refused, Memory}
 use Rattle.nx_script.specs.Replies.{ReplyIsText}
 use Rattle.nx_session.specs.Editor.{EditorState, World, world, new_editor}
 use Rattle.nx_session.specs.Step.{LineStep}
 use Rattle.nx_run.specs.Output.{OutState}
 use Rattle.nx_run.specs.Surroundings.{Surroundings, begun_in}
-use Rattle.nx_run.specs.Play.{Plays, texts_from, wants_memory, is_refusal, status_of, stop_status, IsWhole, IsCutOff, IsPlayOf}
+use Rattle.nx_run.specs.Play.{Plays, texts_from, wants_memory, is_refusal, stop_status, IsWhole, IsCutOff, IsPlayOf}
 
 -- a play goes on by one line
 pub plays-push : (old : World) (lines : List (List ℕ)) (answers : List Reply) (mid new : World) (line : List ℕ) (answer : Reply) →
