@@ -14,7 +14,7 @@ use Rattle.nx_base.specs.declared.fault.Kind.TheVariants.{BadReference, BadText}
 use Rattle.nx_events.specs.References.{reference_body_len, reference_len, character_named}
 use Rattle.nx_events.specs.Faults.{bare_faults}
 use Rattle.nx_events.specs.Strings.{string_of, cut_by}
-use Rattle.nx_events.specs.StringsRead.{reads_references, character_in, flaw_of, IsOrdinary, IsPart, return_and_feed, return, character, reference, unknown, ampersand, brackets, Reads, finished, goes_on}
+use Rattle.nx_events.specs.StringsRead.{reads_references, character_in, flaw_of, IsOrdinary, IsPart, return_and_feed, return, character, reference, unknown, ampersand, brackets, IsReadInParts, finished, goes_on}
 use Rattle.nx_events.specs.ReferenceForm.{HasShape}
 use Rattle.nx_events.specs.declared.reading.Reading.{Reading}
 use Rattle.nx_events.specs.declared.reading.Reading.TheVariants.{Plain, Text, Value}
@@ -51,7 +51,7 @@ no_faults : (reading : Reading) (at : ℕ) → all_faults reading at [] ≡ []
 unfolding cut_by
 no_faults reading at = refl
 
-pub reads_sound : (reading : Reading) (at : ℕ) (bytes string : List ℕ) (faults : List Fault) → Reads reading at bytes string faults → IsUtf8 bytes →
+pub reads_sound : (reading : Reading) (at : ℕ) (bytes string : List ℕ) (faults : List Fault) → IsReadInParts reading at bytes string faults → IsUtf8 bytes →
     (string ≡ string_of reading bytes) × (faults ≡ all_faults reading at bytes)
 reads_sound reading at bytes string faults (finished _ _ _ _ e s f) u =
     (s ∙ sym (ap (string_of reading) e ∙ string_nil reading), f ∙ sym (ap (all_faults reading at) e ∙ no_faults reading at))
@@ -144,7 +144,7 @@ some_part reading bytes u lt = on u.0 u.1.0 u.1.1
 pub record SomeReading (reading : Reading) (at : ℕ) (bytes : List ℕ) : Type 0 where
   pub string : List ℕ
   pub faults : List Fault
-  pub reads : Reads reading at bytes string faults
+  pub reads : IsReadInParts reading at bytes string faults
 
 pub some_reading : (n : ℕ) (reading : Reading) (at : ℕ) (bytes : List ℕ) → length bytes ≤ n → IsUtf8 bytes → SomeReading reading at bytes
 some_reading n reading at [] le u = record { string = []; faults = []; reads = finished at [] [] [] refl refl refl }

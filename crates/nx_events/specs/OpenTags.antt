@@ -80,7 +80,7 @@ last_of token (other ∷ others) = last_of other others
 
 -- a run of these tokens, where the last token of all ended at the place `at`: their strings joined, and the distances back
 -- from there to the start of the first of them and to the end of the last
-pub record IsRunOf (at : ℕ) (first : Token) (others : List Token) (run : Run) : Type 0 where
+pub record IsTextRunOf (at : ℕ) (first : Token) (others : List Token) (run : Run) : Type 0 where
   pub string : run.string ≡ flat_map string_in (first ∷ others)
   pub begins : first.from + run.len + run.gap ≡ at
   pub ends : end_of (last_of first others) + run.gap ≡ at
@@ -89,7 +89,7 @@ pub record IsRunOf (at : ℕ) (first : Token) (others : List Token) (run : Run) 
 abbrev pub IsPending : ℕ → List Token → Option Run → Type 0
 IsPending at [] run = run ≡ None
 IsPending at (first ∷ others) None = ⊥
-IsPending at (first ∷ others) (Some run) = IsRunOf at first others run
+IsPending at (first ∷ others) (Some run) = IsTextRunOf at first others run
 
 abbrev pub is_order_mark : TokenKind → Bool
 is_order_mark kinds.Bom = true

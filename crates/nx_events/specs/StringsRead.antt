@@ -60,12 +60,12 @@ pub data IsPart (reading : Reading) (rest bytes string : List ℕ) (flaw : Optio
   brackets : reading ≡ Text → bytes ≡ codes "]]>" → string ≡ codes "]]>" → flaw ≡ Some BadText → IsPart reading rest bytes string flaw
 
 -- a text that begins at the place `at`, part by part; its string, and all that is wrong, by place
-pub data Reads (reading : Reading) : ℕ → List ℕ → List ℕ → List Fault → Type 0 where
-  finished : (at : ℕ) (bytes string : List ℕ) (faults : List Fault) → bytes ≡ [] → string ≡ [] → faults ≡ [] → Reads reading at bytes string faults
+pub data IsReadInParts (reading : Reading) : ℕ → List ℕ → List ℕ → List Fault → Type 0 where
+  finished : (at : ℕ) (bytes string : List ℕ) (faults : List Fault) → bytes ≡ [] → string ≡ [] → faults ≡ [] → IsReadInParts reading at bytes string faults
   goes_on : (at : ℕ) (bytes string : List ℕ) (faults : List Fault) (front rest first others : List ℕ) (flaw : Option Kind) (later : List Fault) →
-      IsPart reading rest front first flaw → Reads reading (at + length front) rest others later →
+      IsPart reading rest front first flaw → IsReadInParts reading (at + length front) rest others later →
       bytes ≡ front ++ rest → string ≡ first ++ others → faults ≡ bare_faults flaw (record { from = at; to = at + length front }) ++ later →
-      Reads reading at bytes string faults
+      IsReadInParts reading at bytes string faults
 
 -- BadChar and BadText are told once
 abbrev pub IsToldOnce : Kind → Type 0
@@ -88,7 +88,7 @@ pub data AreTold : List Kind → List Fault → List Fault → Type 0 where
 -- the string that stands for bytes at a place, and their faults
 pub record IsReadAs (reading : Reading) (at : ℕ) (bytes string : List ℕ) (faults : List Fault) : Type 0 where
   pub all : List Fault
-  pub reads : Reads reading at bytes string all
+  pub reads : IsReadInParts reading at bytes string all
   pub told : AreTold [] all faults
 
 -- bytes that are UTF-8 are read as exactly one string with exactly one list of faults

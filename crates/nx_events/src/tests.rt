@@ -230,7 +230,7 @@ fn faults(rt: HostRuntime) -> Result<(), Fail> {
 }
 
 // The same, and all of their items.
-const EVENTS: [(&str, &str); 4] = [
+const EVENTS: [(&str, &str); 5] = [
     (
         "s<p:a xmlns:p='u' x='1' p:x=\"a &lt; b\tc\">|ta&#65;\r\nb|c<!---->|d<![CDATA[&\r]]>|e</p:a>",
         "0-40 Enter {u}a;20-21 Att {}x=1;28-38 Att {u}x=a < b c;0-40 TagEnd;40-70 Chars aA\nb&\n;70-76 Leave;",
@@ -246,6 +246,10 @@ const EVENTS: [(&str, &str); 4] = [
     (
         "s<a>|tx|e</b>|ty|e</a>",
         "0-3 Enter {}a;0-3 TagEnd;4-8 ExtraEnd b;3-9 Chars xy;9-13 Leave;",
+    ),
+    (
+        "s<a>|tx|s<b q:c='&d;' xmlns:q=''>|e</a>|s<c>",
+        "0-3 Enter {}a;0-3 TagEnd;3-4 Chars x;12-15 BadReference ;17-27 BadBinding xmlns:q;4-28 Enter {}b;7-16 UndeclaredPrefix q;4-28 TagEnd;28-32 MissingEnd b;28-32 Leave;28-32 Leave;32-35 SecondRoot c;32-35 EnterLost;32-35 TagEnd;35-35 UnclosedElement c;35-35 Leave;",
     ),
 ];
 
