@@ -13,7 +13,7 @@ use Rattle.nx_base.specs.declared.fault.Span.{Span}
 use Rattle.nx_events.specs.Faults.{bare_faults}
 use Rattle.nx_events.specs.ReferenceForm.{Denotes}
 use Rattle.nx_events.specs.Strings.{cut_by, pieces}
-use Rattle.nx_events.specs.StringsRead.{character_in, flaw_of, IsPart, return_and_feed, return, character, reference, unknown, ampersand, brackets, Reads, finished, goes_on}
+use Rattle.nx_events.specs.StringsRead.{character_in, flaw_of, IsPart, return_and_feed, return, character, reference, unknown, ampersand, brackets, IsReadInParts, finished, goes_on}
 use Rattle.nx_events.specs.declared.reading.Reading.TheVariants.{Text, Value}
 use Rattle.nx_events.proofs.ReferenceValues.{denotes_shape}
 use Rattle.nx_events.proofs.StringParts.{all_faults, part_goes_on}
@@ -142,7 +142,7 @@ nothing_first : (flaw : Option Kind) (span : Span) (later : List Fault) → bare
 nothing_first None span later e = (refl, e)
 nothing_first (Some kind) span later e = let bad : record { span = span; kind = kind; detail = [] } ∷ later ≡ [] = e in absurd (cc)
 
-reads_clean : (at : ℕ) (xs string : List ℕ) (faults : List Fault) → Reads Value at xs string faults → faults ≡ [] → IsClean xs
+reads_clean : (at : ℕ) (xs string : List ℕ) (faults : List Fault) → IsReadInParts Value at xs string faults → faults ≡ [] → IsClean xs
 reads_clean at xs string faults (finished _ _ _ _ e s f) n = empty xs e
 reads_clean at xs string faults (goes_on _ _ _ _ front rest first others flaw later part more e s f) n =
     let t = nothing_first flaw (record { from = at; to = at + length front }) later (sym f ∙ n) in
