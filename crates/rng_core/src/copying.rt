@@ -200,7 +200,7 @@ fn boxed_copy(alloc: Global, pattern: &Pat) -> Result<Box<Pat>, NoMemory>
 }
 
 impl Pat {
-    /// The same pattern once more.
+    /// The same pattern once more. It calls itself as deep as the pattern is (see `Pat`).
     pub fn copy(&self, alloc: Global) -> Result<Pat, NoMemory>
         ensures { IfOk result (λ copied. pattern_of copied ≡ pattern_of self.now) }
     {
@@ -209,7 +209,7 @@ impl Pat {
 }
 
 impl Def {
-    /// The same definition once more.
+    /// The same definition once more. It calls itself as deep as the content is (see `Pat`).
     pub fn copy(&self, alloc: Global) -> Result<Def, NoMemory>
         ensures { IfOk result (λ copied. definition_of copied ≡ definition_of self.now) }
     {

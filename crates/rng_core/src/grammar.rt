@@ -4,7 +4,8 @@ use crate::name_class::NameClass;
 use nx_base::sequence::{Bytes, Sequence};
 use rng_types::datatype::{Datatype, Excepts};
 
-/// A pattern of the simple form.
+/// A pattern of the simple form. What walks over one, its destruction included, calls itself as deep as the pattern is;
+/// simplification bounds a path in it at 8,000 nodes, for which 2 MB of stack suffice.
 #[derive(Drop)]
 pub enum Pat {
     /// Nothing at all matches.

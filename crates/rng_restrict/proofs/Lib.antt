@@ -6,6 +6,7 @@ pub mod AttributesFound
 pub mod ElementsFound
 pub mod TextsFound
 pub mod Sides
+pub mod Alike
 pub mod Reached
 pub mod Judged
 pub mod Examples

@@ -187,6 +187,15 @@ element_classes defs (choice p q) = element_classes defs p ++ element_classes de
 element_classes defs (group p q) = element_classes defs p ++ element_classes defs q
 element_classes defs (interleave p q) = element_classes defs p ++ element_classes defs q
 
+-- the classes of the definitions of these numbers
+abbrev pub classes_at : List Definition → List ℕ → List Class
+classes_at defs [] = []
+classes_at defs (i ∷ numbers) = class_at (slice_get defs i) ++ classes_at defs numbers
+
+-- whatever the test is, some of one list pass it exactly where some of the other do
+unfoldable pub PassAlike : {A : Type 0} → List A → List A → Type 0
+PassAlike {A = A} xs ys = (test : A → Bool) → list_any test xs ≡ list_any test ys
+
 abbrev pub is_element_overlap : List Definition → Pattern → Bool
 is_element_overlap defs (interleave p q) = any_share (element_classes defs p) (element_classes defs q)
 is_element_overlap defs p = false

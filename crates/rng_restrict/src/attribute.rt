@@ -4,7 +4,8 @@ ghost use Rattle.std.specs.Prelude.{◌≡◌, ◌++◌, ◌||◌, map, IfOk};
 ghost use Rattle.rng_core.specs.Meaning.{class_of, pattern_of};
 ghost use Rattle.rng_restrict.specs.Finding.{has_part, any_share, attribute_classes, is_attribute_overlap};
 
-use crate::classes::{any_fault, sides_share};
+use crate::classes::sides_share;
+use crate::fault::any_fault;
 use nx_base::memory::NoMemory;
 use rng_core::grammar::Pat;
 use rng_core::name_class::NameClass;

@@ -14,7 +14,8 @@ use std::alloc::Global;
 /// Judges a grammar by the restrictions of ISO/IEC 19757-2, section 7.
 ///
 /// A refusal comes exactly where its restriction is broken and none before it is, in the order of `RestrictFault`.
-/// Only the start and what it reaches are judged.
+/// Only the start and what it reaches are judged. The walks call themselves as deep as a pattern is; simplification
+/// bounds a path in it at 8,000 nodes, for which 2 MB of stack suffice.
 pub fn check(alloc: Global, grammar: &Grammar) -> Result<(), RestrictFault>
     ensures { ChecksGrammar grammar.now result }
 {

@@ -3,7 +3,7 @@
 ghost use Rattle.std.specs.Prelude.{◌≡◌, ◌≤◌, ◌||◌, map, length, IfOk};
 ghost use Rattle.std.specs.List.{list_any};
 ghost use Rattle.rng_core.specs.Meaning.{class_of};
-ghost use Rattle.rng_restrict.specs.Finding.{share_name as share_name_of, sides_share as sides_share_of};
+ghost use Rattle.rng_restrict.specs.Finding.{share_name as share_name_of, sides_share as sides_share_of, any_share as any_share_of};
 
 use nx_base::memory::NoMemory;
 use rng_core::name_class::NameClass;
@@ -41,6 +41,17 @@ fn any_share(alloc: Global, classes: &[&NameClass], others: &[&NameClass]) -> Re
     Ok(false)
 }
 
+/// Whether some name is in one of the classes and in one of others.
+pub(crate) fn some_share(
+    alloc: Global,
+    classes: &[&NameClass],
+    others: &[&NameClass],
+) -> Result<bool, NoMemory>
+    ensures { IfOk result (λ found. found ≡ any_share_of (map (λ c. class_of c.now) classes.now) (map (λ c. class_of c.now) others.now)) }
+{
+    any_share(alloc, classes, others)
+}
+
 /// Whether one of the classes from `before` to `between` has a name in common with one of those behind.
 pub(crate) fn sides_share(
     alloc: Global,
@@ -53,11 +64,4 @@ pub(crate) fn sides_share(
     ensures { IfOk result (λ found. found ≡ sides_share_of before between (map (λ c. class_of c.now) classes.now)) }
 {
     any_share(alloc, &classes[before..between], &classes[between..])
-}
-
-/// Whether both sides share a name, or one of them has a fault.
-pub(crate) fn any_fault(shared: bool, first: bool, second: bool) -> bool
-    ensures { result ≡ (shared || (first || second)) }
-{
-    shared || first || second
 }

@@ -1,39 +1,41 @@
 //! Elements with a name in common in both sides of an interleave.
 
-ghost use Rattle.std.specs.Prelude.{◌≡◌, ◌++◌, ◌||◌, map, slice_get, IfOk, OnOk};
-ghost use Rattle.rng_core.specs.Meaning.{class_of, pattern_of, definition_of};
-ghost use Rattle.rng_restrict.specs.Finding.{has_part, any_share, class_at, element_classes, is_element_overlap};
+ghost use Rattle.std.specs.Prelude.{◌≡◌, ◌++◌, ◌||◌, map, IfOk};
+ghost use Rattle.rng_core.specs.Meaning.{pattern_of, definition_of};
+ghost use Rattle.rng_restrict.specs.Finding.{has_part, any_share, classes_at, PassAlike, element_classes, is_element_overlap};
 
-use crate::classes::{any_fault, sides_share};
+use crate::classes::some_share;
+use crate::fault::either;
+use crate::numbers::{classes_of_numbers, keep_once};
 use nx_base::memory::NoMemory;
 use rng_core::grammar::{Defs, Pat};
-use rng_core::name_class::NameClass;
 use std::alloc::Global;
 
-/// Adds the class of the definition of a number, if there is one.
-fn add_class<'a>(
-    defs: &'a Defs,
-    found: &mut Vec<&'a NameClass>,
-    number: u32,
-) -> Result<(), NoMemory>
-    ensures { OnOk result (map (λ c. class_of c.now) found.new.items ≡ map (λ c. class_of c.now) found.old.items ++ class_at (slice_get (map definition_of defs.now) number)) }
+/// Whether the classes of definitions of these numbers have a name in common with those of others. It isn't asked where
+/// a fault is known.
+fn shared_or_known(
+    alloc: Global,
+    defs: &Defs,
+    known: bool,
+    numbers: &[u32],
+    others: &[u32],
+) -> Result<bool, NoMemory>
+    ensures { let all = map definition_of defs.now in IfOk result (λ fault. fault ≡ (known || any_share (classes_at all numbers.now) (classes_at all others.now))) }
 {
-    if let Some(def) = defs.get(number as usize) {
-        found.push(&def.class)?;
+    if known {
+        return Ok(true);
     }
-    Ok(())
+    let classes = classes_of_numbers(alloc, defs, numbers)?;
+    let other_classes = classes_of_numbers(alloc, defs, others)?;
+    some_share(alloc, classes.as_slice(), other_classes.as_slice())
 }
 
-/// Adds the classes of the elements that a pattern refers to, where the references occur in it. Answers whether two of
+/// Adds the numbers of the elements that a pattern refers to, where the references occur in it. Answers whether two of
 /// them overlap in an interleave that stands there.
 #[cycle(elements)]
-fn gather<'a>(
-    alloc: Global,
-    defs: &'a Defs,
-    found: &mut Vec<&'a NameClass>,
-    pattern: &Pat,
-) -> Result<bool, NoMemory>
-    ensures { let all = map definition_of defs.now in IfOk result (λ fault. (fault ≡ has_part (is_element_overlap all) (pattern_of pattern.now)) × (map (λ c. class_of c.now) found.new.items ≡ map (λ c. class_of c.now) found.old.items ++ element_classes all (pattern_of pattern.now))) }
+#[tactic(auto, using(crate::proofs::Alike::none_added, crate::proofs::Alike::number_added, crate::proofs::Alike::both_added))]
+fn gather(alloc: Global, defs: &Defs, found: &mut Vec<u32>, pattern: &Pat) -> Result<bool, NoMemory>
+    ensures { let all = map definition_of defs.now in IfOk result (λ fault. (fault ≡ has_part (is_element_overlap all) (pattern_of pattern.now)) × PassAlike (classes_at all found.new.items) (classes_at all found.old.items ++ element_classes all (pattern_of pattern.now))) }
 {
     match pattern {
         Pat::NotAllowed => Ok(false),
@@ -44,41 +46,47 @@ fn gather<'a>(
         Pat::List(body) => has_element_overlap(alloc, defs, body),
         Pat::Attribute(_, body) => has_element_overlap(alloc, defs, body),
         Pat::Ref(number) => {
-            add_class(defs, found, *number)?;
+            found.push(*number)?;
             Ok(false)
         }
         Pat::OneOrMore(body) => gather(alloc, defs, found, body),
         Pat::Choice(a, b) => {
             let first = gather(alloc, defs, found, a)?;
             let second = gather(alloc, defs, found, b)?;
-            Ok(first || second)
+            Ok(either(first, second))
         }
         Pat::Group(a, b) => {
             let first = gather(alloc, defs, found, a)?;
             let second = gather(alloc, defs, found, b)?;
-            Ok(first || second)
+            Ok(either(first, second))
         }
         Pat::Interleave(a, b) => gather_sides(alloc, defs, found, a, b),
     }
 }
 
-/// The same for the sides of an interleave.
+/// The same for the sides of an interleave. Each number of a side is kept once, so that what an interleave adds is no
+/// longer than its sides have definitions.
 #[cycle(elements)]
-fn gather_sides<'a>(
+fn gather_sides(
     alloc: Global,
-    defs: &'a Defs,
-    found: &mut Vec<&'a NameClass>,
+    defs: &Defs,
+    found: &mut Vec<u32>,
     a: &Pat,
     b: &Pat,
 ) -> Result<bool, NoMemory>
-    ensures { let all = map definition_of defs.now in IfOk result (λ fault. (fault ≡ (any_share (element_classes all (pattern_of a.now)) (element_classes all (pattern_of b.now)) || (has_part (is_element_overlap all) (pattern_of a.now) || has_part (is_element_overlap all) (pattern_of b.now)))) × (map (λ c. class_of c.now) found.new.items ≡ map (λ c. class_of c.now) found.old.items ++ (element_classes all (pattern_of a.now) ++ element_classes all (pattern_of b.now)))) }
+    ensures { let all = map definition_of defs.now in IfOk result (λ fault. (fault ≡ (any_share (element_classes all (pattern_of a.now)) (element_classes all (pattern_of b.now)) || (has_part (is_element_overlap all) (pattern_of a.now) || has_part (is_element_overlap all) (pattern_of b.now)))) × PassAlike (classes_at all found.new.items) (classes_at all found.old.items ++ (element_classes all (pattern_of a.now) ++ element_classes all (pattern_of b.now)))) }
 {
-    let before = found.len();
-    let first = gather(alloc, defs, found, a)?;
-    let between = found.len();
-    let second = gather(alloc, defs, found, b)?;
-    let shared = sides_share(alloc, found.as_slice(), before, between)?;
-    Ok(any_fault(shared, first, second))
+    let mut numbers = Vec::new(alloc);
+    let first = gather(alloc, defs, &mut numbers, a)?;
+    let mut others = Vec::new(alloc);
+    let second = gather(alloc, defs, &mut others, b)?;
+    keep_once(&mut numbers);
+    keep_once(&mut others);
+    let known = either(first, second);
+    let fault = shared_or_known(alloc, defs, known, numbers.as_slice(), others.as_slice())?;
+    found.append(&mut numbers)?;
+    found.append(&mut others)?;
+    Ok(fault)
 }
 
 /// Whether elements overlap in an interleave that stands in a pattern.

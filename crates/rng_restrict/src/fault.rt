@@ -1,6 +1,6 @@
 //! Refusals.
 
-ghost use Rattle.std.specs.Prelude.{◌≡◌};
+ghost use Rattle.std.specs.Prelude.{◌≡◌, ◌||◌};
 ghost use Rattle.rng_restrict.specs.declared.fault.RestrictFault.TheVariants.{NoMemory as OutOfMemory};
 
 use nx_base::memory::NoMemory;
@@ -30,4 +30,18 @@ impl From<NoMemory> for RestrictFault {
     fn from(_error: NoMemory) -> RestrictFault {
         RestrictFault::NoMemory
     }
+}
+
+/// Whether one of two has a fault.
+pub(crate) fn either(first: bool, second: bool) -> bool
+    ensures { result ≡ (first || second) }
+{
+    first || second
+}
+
+/// Whether one of three has a fault.
+pub(crate) fn any_fault(first: bool, second: bool, third: bool) -> bool
+    ensures { result ≡ (first || (second || third)) }
+{
+    first || second || third
 }

@@ -9,22 +9,15 @@ ghost use Rattle.rng_restrict.specs.Interleaves.{BreaksInterleaveOverlap, Breaks
 ghost use Rattle.rng_restrict.specs.Finding.{AreReached, passes, some_passes, has_part, begins_path, is_mixture as is_mixture_of, is_attribute_overlap, has_wildcard_once as has_wildcard_once_of, is_element_overlap, is_text_twice};
 
 use crate::attribute::has_attribute_overlap;
-use crate::classes::any_fault;
 use crate::content::is_mixture;
 use crate::element::has_element_overlap;
+use crate::fault::{any_fault, either};
 use crate::path::{has_path, has_start_path};
 use crate::text::has_text_twice;
 use crate::wildcard::has_wildcard_once;
 use nx_base::memory::NoMemory;
 use rng_core::grammar::{Defs, Grammar};
 use std::alloc::Global;
-
-/// Whether one of two has a fault.
-fn either(first: bool, second: bool) -> bool
-    ensures { result ≡ (first || second) }
-{
-    first || second
-}
 
 /// Whether a prohibited path stands in the content of a definition.
 fn path_at(defs: &Defs, number: u32) -> bool

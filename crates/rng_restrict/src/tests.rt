@@ -219,3 +219,48 @@ fn judges_many_definitions(rt: HostRuntime) -> Result<(), Fail> {
     assert_eq!(rt; check(rt.alloc(), &grammar).err(), None);
     Ok(())
 }
+
+// A choice of references to the definitions of these numbers.
+fn any_of(alloc: Global, from: u32, to: u32) -> Result<Pat, Fail> {
+    let mut all = Pat::Ref(from);
+    for number in from..to {
+        all = choice_of(alloc, all, Pat::Ref(number))?;
+    }
+    Ok(all)
+}
+
+// The same choice 4,000 times over.
+fn repeated(alloc: Global, from: u32, to: u32) -> Result<Pat, Fail> {
+    let mut all = Pat::Ref(from);
+    for _ in 0..4_000 {
+        let more = any_of(alloc, from, to)?;
+        all = choice_of(alloc, all, more)?;
+    }
+    Ok(all)
+}
+
+// 80,000 references on each side of an interleave, to 20 definitions.
+#[test]
+fn compares_a_definition_once(rt: HostRuntime) -> Result<(), Fail> {
+    let mut defs = Defs::new(rt.alloc());
+    for i in 0u32..40 {
+        let local = format!(in rt.alloc(); "e{i}")?;
+        defs.push(Def {
+            class: named(rt.alloc(), local.as_str())?,
+            content: Pat::Empty,
+        })?;
+    }
+    let left = repeated(rt.alloc(), 0, 20)?;
+    let right = repeated(rt.alloc(), 20, 40)?;
+    let content = interleave_of(rt.alloc(), left, right)?;
+    defs.push(Def {
+        class: named(rt.alloc(), "all")?,
+        content,
+    })?;
+    let grammar = Grammar {
+        start: Pat::Ref(40),
+        defs,
+    };
+    assert_eq!(rt; check(rt.alloc(), &grammar).err(), None);
+    Ok(())
+}

@@ -1,14 +1,15 @@
-use Rattle.std.proofs.Common.{◌∙◌, sym}
-use Rattle.std.proofs.lemmas.List.{length-map}
-use Rattle.rng_core.specs.Meaning.{class_of}
-use Rattle.rng_restrict.proofs.Sides.{both_sides}
+use Rattle.std.specs.Prelude.{map}
+use Rattle.rng_core.specs.Meaning.{definition_of}
+use Rattle.rng_restrict.proofs.Alike.{sides_once}
 use Rattle.rng_restrict.proofs.element.+elements.Goals as goal
 
 pub gather_sides-returns : goal.gather_sides-returns
 gather_sides-returns t c =
-    let shared = rw c.as_slice.ensures.value at c.in_ok-shared.ensures in
-    both_sides _ _ _ _ _ c.len-before.result c.len-between.result c.in_ok-shared.shared c.in_ok-first.first c.in_ok-second.second c.any_fault.result _ _
-    c.in_ok-first.ensures.1 c.in_ok-second.ensures.1
-    (c.len-before.ensures ∙ c.args.found.now.ok.0 ∙ sym (length-map c.args.found.now.items (λ x. class_of x.now)))
-    (c.len-between.ensures ∙ c.gather.new.found.ok.0 ∙ sym (length-map c.gather.new.found.items (λ x. class_of x.now)))
-    shared c.in_ok-first.ensures.0 c.in_ok-second.ensures.0 c.any_fault.ensures
+    let one = rw c.as_slice.ensures.value at c.in_ok-fault.ensures in
+    let both = rw c.as_slice-2.ensures.value at one in
+    sides_once (map definition_of c.args.defs.now) c.args.found.now.items c.new-numbers.result.items c.new-others.result.items
+    c.gather.new.found.items c.gather-2.new.found.items c.keep_once.new.numbers.items c.keep_once-2.new.numbers.items
+    c.append.new.self.items c.append-2.new.self.items _ _ c.in_ok-first.first c.in_ok-second.second c.either-known.result c.in_ok-fault.fault _ _
+    c.new-numbers.ensures.items c.new-others.ensures.items c.in_ok-first.ensures c.in_ok-second.ensures
+    c.keep_once.ensures c.keep_once-2.ensures c.either-known.ensures both
+    c.in_ok-append.ensures.items c.in_ok-append-2.ensures.items
