@@ -1,0 +1,545 @@
+use crate::read::{ReadFault, read};
+use crate::surface::{
+    Combine, Defined, FileReference, Item, NameClass, Namespace, Params, Pattern, Replacement,
+    Surface, TypeName,
+};
+use nx_base::sequence::Bytes;
+use rnc_lex::fault::LexFault;
+use std::alloc::Global;
+use std::test::Fail;
+
+/// A surface as one line: patterns by the signs of the compact syntax, names with their namespace in braces, `?` where it
+/// is inherited.
+#[derive(Drop)]
+struct Printer {
+    line: String,
+}
+
+impl Printer {
+    fn word(&mut self, word: &str) -> Result<(), Fail> {
+        self.line.push_str(word)?;
+        Ok(())
+    }
+
+    fn bytes(&mut self, bytes: &Bytes) -> Result<(), Fail> {
+        self.word(std::str::from_utf8(bytes.as_slice())?)
+    }
+
+    fn namespace(&mut self, ns: &Namespace) -> Result<(), Fail> {
+        self.word("{")?;
+        match ns {
+            Namespace::Inherited => self.word("?")?,
+            Namespace::Uri(uri) => self.bytes(uri)?,
+        }
+        self.word("}")
+    }
+
+    #[cycle(print_class)]
+    fn class(&mut self, class: &NameClass) -> Result<(), Fail> {
+        match class {
+            NameClass::AnyName => self.word("*"),
+            NameClass::NsName(ns) => {
+                self.namespace(ns)?;
+                self.word("*")
+            }
+            NameClass::Name(ns, local) => {
+                self.namespace(ns)?;
+                self.bytes(local)
+            }
+            NameClass::Choice(classes) => {
+                self.word("(")?;
+                for class in classes {
+                    self.word("|")?;
+                    self.class(class)?;
+                }
+                self.word(")")
+            }
+            NameClass::Except(class, except) => {
+                self.class(class)?;
+                self.word("-")?;
+                self.class(except)
+            }
+        }
+    }
+
+    fn type_name(&mut self, name: &TypeName) -> Result<(), Fail> {
+        self.word("{")?;
+        self.bytes(&name.library)?;
+        self.word("}")?;
+        self.bytes(&name.name)
+    }
+
+    fn params(&mut self, params: &Params) -> Result<(), Fail> {
+        for param in params.as_slice() {
+            self.word(" ")?;
+            self.bytes(&param.name)?;
+            self.word("=")?;
+            self.bytes(&param.value)?;
+        }
+        Ok(())
+    }
+
+    fn file(&mut self, file: &FileReference) -> Result<(), Fail> {
+        self.namespace(&file.namespace)?;
+        self.bytes(&file.uri)
+    }
+
+    fn defined(&mut self, name: &Defined, combine: Combine) -> Result<(), Fail> {
+        match name {
+            Defined::Start => self.word("start")?,
+            Defined::Name(name) => self.bytes(name)?,
+        }
+        match combine {
+            Combine::Alone => self.word("="),
+            Combine::Choice => self.word("|="),
+            Combine::Interleave => self.word("&="),
+        }
+    }
+
+    #[cycle(print)]
+    fn patterns(&mut self, sign: &str, patterns: &[Pattern]) -> Result<(), Fail> {
+        self.word("(")?;
+        for pattern in patterns {
+            self.word(sign)?;
+            self.pattern(pattern)?;
+        }
+        self.word(")")
+    }
+
+    #[cycle(print)]
+    fn inner(&mut self, word: &str, body: &Pattern) -> Result<(), Fail> {
+        self.word(word)?;
+        self.word("(")?;
+        self.pattern(body)?;
+        self.word(")")
+    }
+
+    #[cycle(print)]
+    fn pattern(&mut self, pattern: &Pattern) -> Result<(), Fail> {
+        match pattern {
+            Pattern::Element(class, body) => {
+                self.word("element ")?;
+                self.class(class)?;
+                self.inner("", body)
+            }
+            Pattern::Attribute(class, body) => {
+                self.word("attribute ")?;
+                self.class(class)?;
+                self.inner("", body)
+            }
+            Pattern::List(body) => self.inner("list", body),
+            Pattern::Mixed(body) => self.inner("mixed", body),
+            Pattern::Optional(body) => self.inner("?", body),
+            Pattern::ZeroOrMore(body) => self.inner("*", body),
+            Pattern::OneOrMore(body) => self.inner("+", body),
+            Pattern::Choice(patterns) => self.patterns("|", patterns.as_slice()),
+            Pattern::Group(patterns) => self.patterns(",", patterns.as_slice()),
+            Pattern::Interleave(patterns) => self.patterns("&", patterns.as_slice()),
+            Pattern::Grammar(items) => self.items(items.as_slice()),
+            Pattern::DataExcept(name, params, except) => {
+                self.type_name(name)?;
+                self.params(params)?;
+                self.inner("-", except)
+            }
+            _ => self.leaf(pattern),
+        }
+    }
+
+    #[cycle(print)]
+    fn items(&mut self, items: &[Item]) -> Result<(), Fail> {
+        self.word("[")?;
+        for item in items {
+            self.item(item)?;
+            self.word(";")?;
+        }
+        self.word("]")
+    }
+
+    #[cycle(print)]
+    fn item(&mut self, item: &Item) -> Result<(), Fail> {
+        match item {
+            Item::Define(name, combine, body) => {
+                self.defined(name, *combine)?;
+                self.pattern(body)
+            }
+            Item::Div(items) => self.items(items.as_slice()),
+            Item::Include(file, replacements) => {
+                self.word("include ")?;
+                self.file(file)?;
+                self.replacements(replacements.as_slice())
+            }
+        }
+    }
+
+    #[cycle(print)]
+    fn replacements(&mut self, replacements: &[Replacement]) -> Result<(), Fail> {
+        self.word("[")?;
+        for replacement in replacements {
+            self.replacement(replacement)?;
+            self.word(";")?;
+        }
+        self.word("]")
+    }
+
+    #[cycle(print)]
+    fn replacement(&mut self, replacement: &Replacement) -> Result<(), Fail> {
+        match replacement {
+            Replacement::Define(name, combine, body) => {
+                self.defined(name, *combine)?;
+                self.pattern(body)
+            }
+            Replacement::Div(replacements) => self.replacements(replacements.as_slice()),
+        }
+    }
+
+    fn leaf(&mut self, pattern: &Pattern) -> Result<(), Fail> {
+        match pattern {
+            Pattern::Ref(name) => self.bytes(name),
+            Pattern::ParentRef(name) => {
+                self.word("parent ")?;
+                self.bytes(name)
+            }
+            Pattern::Empty => self.word("empty"),
+            Pattern::Text => self.word("text"),
+            Pattern::NotAllowed => self.word("notAllowed"),
+            Pattern::Value(name, text) => {
+                self.type_name(name)?;
+                self.word("'")?;
+                self.bytes(text)?;
+                self.word("'")
+            }
+            Pattern::Data(name, params) => {
+                self.type_name(name)?;
+                self.params(params)
+            }
+            Pattern::External(file) => {
+                self.word("external ")?;
+                self.file(file)
+            }
+            _ => self.word("-"),
+        }
+    }
+}
+
+/// What is read of a schema, or why it isn't.
+fn told(alloc: Global, text: &str) -> Result<String, Fail> {
+    let mut printer = Printer {
+        line: String::new(alloc),
+    };
+    match read(alloc, text) {
+        Ok(Surface::Pattern(pattern)) => printer.pattern(&pattern)?,
+        Ok(Surface::Grammar(items)) => printer.items(items.as_slice())?,
+        Err(ReadFault::Lex(LexFault::BadEscape(at))) => return Ok(format!(in alloc;
+            "BadEscape {at}"
+        )?),
+        Err(ReadFault::Lex(LexFault::BadLiteral(at))) => return Ok(format!(in alloc;
+            "BadLiteral {at}"
+        )?),
+        Err(ReadFault::Lex(LexFault::BadCharacter(at))) => {
+            return Ok(format!(in alloc; "BadCharacter {at}")?);
+        }
+        Err(ReadFault::Lex(LexFault::NoMemory)) => printer.word("no memory in tokens")?,
+        Err(ReadFault::TooDeep(at)) => return Ok(format!(in alloc; "TooDeep {at}")?),
+        Err(ReadFault::Syntax(at)) => return Ok(format!(in alloc; "Syntax {at}")?),
+        Err(ReadFault::UndeclaredPrefix(prefix)) => {
+            printer.word("UndeclaredPrefix ")?;
+            printer.bytes(&prefix)?;
+        }
+        Err(ReadFault::Twice(prefix)) => {
+            printer.word("Twice ")?;
+            printer.bytes(&prefix)?;
+        }
+        Err(ReadFault::NoMemory) => printer.word("no memory")?,
+    }
+    Ok(printer.line)
+}
+
+/// Schemas, and what `told` makes of them.
+const SCHEMAS: [(&str, &str); 62] = [
+    ("", "[]"),
+    ("x", "x"),
+    ("\\x{65}mpty", "empty"),
+    ("\\start", "start"),
+    ("element a { \\x{74}ext }", "element {?}a(text)"),
+    ("element element { empty }", "element {?}element(empty)"),
+    (
+        "element a { element b { empty }, element c { empty } | element d { empty } }",
+        "Syntax 53",
+    ),
+    ("(a, b) | c", "(|(,a,b)|c)"),
+    ("a, b, c", "(,a,b,c)"),
+    ("a & b+ & c?", "(&a&+(b)&?(c))"),
+    ("a*", "*(a)"),
+    ("a**", "Syntax 2"),
+    ("a,", "Syntax 2"),
+    ("mixed { a }, list { b }", "(,mixed(a),list(b))"),
+    (
+        "'a' | \"b\" ~ 'c' | string ' d '",
+        "(|{}token'a'|{}token'bc'|{}string' d ')",
+    ),
+    ("token 'a'", "{}token'a'"),
+    ("xsd:int", "{http://www.w3.org/2001/XMLSchema-datatypes}int"),
+    (
+        "xsd:int { minInclusive = '5' [a = 'b'] text = '4' ~ '2' } - '7'",
+        "{http://www.w3.org/2001/XMLSchema-datatypes}int minInclusive=5 text=42-({}token'7')",
+    ),
+    (
+        "string - (string 'a' | 'b')",
+        "{}string-((|{}string'a'|{}token'b'))",
+    ),
+    ("string - 'a' | b", "Syntax 13"),
+    ("string { }", "{}string"),
+    ("string { a = 'b'", "Syntax 16"),
+    ("datatypes d = 'u' d:int", "{u}int"),
+    ("datatypes xsd = 'u' xsd:int", "{u}int"),
+    ("datatypes xml = 'u' xml:int", "{u}int"),
+    ("d:int", "UndeclaredPrefix d"),
+    ("d:int, )", "Syntax 7"),
+    (
+        "namespace p = 'u' element p:a { attribute b { text } }",
+        "element {u}a(attribute {}b(text))",
+    ),
+    (
+        "namespace p = inherit element p:a { p:int }",
+        "UndeclaredPrefix p",
+    ),
+    (
+        "namespace p = '' element p:* { empty }",
+        "element {}*(empty)",
+    ),
+    (
+        "default namespace = 'u' element a { attribute b { text } }",
+        "element {u}a(attribute {}b(text))",
+    ),
+    (
+        "default namespace p = 'u' element a | p:b { p }",
+        "element (|{u}a|{u}b)(p)",
+    ),
+    (
+        "default namespace = inherit element a { text }",
+        "element {?}a(text)",
+    ),
+    (
+        "element xml:a { text }",
+        "element {http://www.w3.org/XML/1998/namespace}a(text)",
+    ),
+    (
+        "namespace xml = 'http://www.w3.org/XML/1998/namespace' a",
+        "a",
+    ),
+    ("namespace xml = 'u' a", "Twice xml"),
+    ("namespace xml = inherit a", "Twice xml"),
+    ("namespace xmlns = 'u' a", "Twice xmlns"),
+    (
+        "default namespace = 'u' default namespace = 'v' a",
+        "Twice ",
+    ),
+    ("namespace p = 'u' default namespace p = 'u' a", "Twice p"),
+    ("datatypes p = 'u' datatypes p = 'u' a", "Twice p"),
+    ("datatypes p = 'u' namespace p = 'u' a", "a"),
+    ("namespace p = 'u' namespace p = 'u' a, b | c", "Syntax 41"),
+    ("element q:a { text }", "UndeclaredPrefix q"),
+    ("element * - (a | x:*) { empty }", "UndeclaredPrefix x"),
+    (
+        "element * - (a | xml:*) { empty }",
+        "element *-(|{?}a|{http://www.w3.org/XML/1998/namespace}*)(empty)",
+    ),
+    ("element * - a | b { empty }", "Syntax 14"),
+    ("attribute a | * { text }", "attribute (|{}a|*)(text)"),
+    (
+        "external 'f' inherit = xml, parent y, external 'g'",
+        "(,external {http://www.w3.org/XML/1998/namespace}f,parent y,external {?}g)",
+    ),
+    (
+        "grammar { start = a div { a |= b } } ",
+        "[start=a;[a|=b;];]",
+    ),
+    (
+        "include 'f' include 'g' inherit = xml { start &= a div { b = c } n [] }",
+        "[include {?}f[];include {http://www.w3.org/XML/1998/namespace}g[start&=a;[b=c;];];]",
+    ),
+    ("include 'f' { include 'g' }", "Syntax 14"),
+    (
+        "[ a ( b ) { [ = ] } ] [ ] start = [ ] a >> x [ ] ? >> element [ y:z ]",
+        "[start=?(a);]",
+    ),
+    ("[ ] [ ] [ ] start = a", "Syntax 8"),
+    ("[ ] a", "a"),
+    ("[ ] [ ] a", "a"),
+    ("[ ( ] ) ] a", "Syntax 4"),
+    ("[ [ ] a", "Syntax 7"),
+    ("x [ ] y:z [ ] [ ] w [ ]", "[]"),
+    (
+        "element [ ] a >> b [ ] | [ ] c { [ ] text }",
+        "element (|{?}a|{?}c)(text)",
+    ),
+    ("start", "Syntax 5"),
+    ("a } b", "Syntax 2"),
+];
+
+#[test]
+fn schemas_are_read(rt: HostRuntime) -> Result<(), Fail> {
+    for (schema, want) in &SCHEMAS {
+        let got = told(rt.alloc(), *schema)?;
+        assert_eq!(rt; got.as_str(), *want, "at {schema}");
+    }
+    Ok(())
+}
+
+/// `element a {`, so many `(`, `empty`, so many `)`, and `}`.
+fn nested(alloc: Global, depth: usize) -> Result<String, Fail> {
+    let mut text = String::from_str(alloc, "element a {")?;
+    for _ in 0..depth {
+        text.push('(')?;
+    }
+    text.push_str("empty")?;
+    for _ in 0..depth {
+        text.push(')')?;
+    }
+    text.push('}')?;
+    Ok(text)
+}
+
+#[test]
+fn brackets_are_counted(rt: HostRuntime) -> Result<(), Fail> {
+    let deepest = told(rt.alloc(), nested(rt.alloc(), 199)?.as_str())?;
+    assert_eq!(rt; deepest.as_str(), "element {?}a(empty)");
+    let deeper = told(rt.alloc(), nested(rt.alloc(), 200)?.as_str())?;
+    assert_eq!(rt; deeper.as_str(), "TooDeep 210");
+    Ok(())
+}
+
+const S1: &str =
+    "start = element doc { attribute id { xsd:NCName }, element title { text }, element para { (text | element em { text })* }* }";
+
+/// How reading a text ends.
+fn ending(alloc: Global, text: &str) -> &'static str {
+    match read(alloc, text) {
+        Ok(Surface::Pattern(Pattern::Ref(_))) => "name",
+        Ok(Surface::Grammar(_)) => "grammar",
+        Ok(_) => "pattern",
+        Err(ReadFault::Syntax(_)) => "Syntax",
+        Err(ReadFault::Lex(LexFault::BadCharacter(_))) => "BadCharacter",
+        Err(_) => "other",
+    }
+}
+
+#[test]
+fn fronts_of_a_schema_are_refused(rt: HostRuntime) -> Result<(), Fail> {
+    assert_eq!(rt; ending(rt.alloc(), S1), "grammar");
+    for n in 0..S1.len() {
+        let want = match n {
+            0 => "grammar",
+            1..=4 => "name",
+            9..=14 => "grammar",
+            41 => "BadCharacter",
+            _ => "Syntax",
+        };
+        let front = std::str::from_utf8(&S1.as_bytes()[..n])?;
+        assert_eq!(rt; ending(rt.alloc(), front), want, "at {n}");
+    }
+    Ok(())
+}
+
+/// The schema of schemas in the XML syntax (ISO/IEC 19757-2, Annex A), with its own content models.
+const RELAX_NG: &str = r#"
+default namespace rng = "http://relaxng.org/ns/structure/1.0"
+namespace local = ""
+datatypes xsd = "http://www.w3.org/2001/XMLSchema-datatypes"
+
+start = pattern
+
+pattern =
+  element element { (nameQName | nameClass), (common & pattern+) }
+  | element attribute { (nameQName | nameClass), (common & pattern?) }
+  | element group { common & pattern+ }
+  | element interleave { common & pattern+ }
+  | element choice { common & pattern+ }
+  | element optional { common & pattern+ }
+  | element zeroOrMore { common & pattern+ }
+  | element oneOrMore { common & pattern+ }
+  | element list { common & pattern+ }
+  | element mixed { common & pattern+ }
+  | element ref { nameNCName, common }
+  | element parentRef { nameNCName, common }
+  | element empty { common }
+  | element value { commonAttributes, type?, xsd:string }
+  | element data { type, (common & param*), exceptPattern? }
+  | element notAllowed { common }
+  | element externalRef { href, common }
+  | element grammar { common & grammarContent* }
+  | element text { common }
+
+param = element param { commonAttributes, nameNCName, xsd:string }
+exceptPattern = element except { common & pattern+ }
+
+grammarContent = start-element | define | element div { common & grammarContent* }
+  | element include { href, (common & includeContent*) }
+includeContent = define | start-element | element div { common & includeContent* }
+start-element = element start { combine?, (common & pattern) }
+define = element define { nameNCName, combine?, (common & pattern+) }
+combine = attribute combine { "choice" | "interleave" }
+
+nameClass =
+  element name { commonAttributes, xsd:QName }
+  | element anyName { common & exceptNameClass? }
+  | element nsName { common & exceptNameClass? }
+  | element choice { common & nameClass+ }
+exceptNameClass = element except { common & nameClass+ }
+
+nameQName = attribute name { xsd:QName }
+nameNCName = attribute name { xsd:NCName }
+href = attribute href { xsd:anyURI { pattern = "[^#]*" } }
+type = attribute type { xsd:NCName }
+common = commonAttributes & foreignElement*
+commonAttributes =
+  attribute ns { xsd:string }?,
+  attribute datatypeLibrary { xsd:anyURI }?,
+  foreignAttribute*
+foreignElement = element * - rng:* { (anyAttribute | text | anyElement)* }
+foreignAttribute = attribute * - (rng:* | local:*) { text }
+anyElement = element * { (anyAttribute | text | anyElement)* }
+anyAttribute = attribute * { text }
+"#;
+
+#[test]
+fn the_schema_of_schemas_is_read(rt: HostRuntime) -> Result<(), Fail> {
+    assert_eq!(rt; ending(rt.alloc(), RELAX_NG), "grammar");
+    Ok(())
+}
+
+/// How many items a grammar has that was read, and 0 where none was.
+fn items_in(answer: &Result<Surface, ReadFault>) -> usize {
+    match answer {
+        Ok(Surface::Grammar(items)) => items.len(),
+        _ => 0,
+    }
+}
+
+/// How many alternatives a choice has that was read, and 0 where none was.
+fn alternatives_in(answer: &Result<Surface, ReadFault>) -> usize {
+    match answer {
+        Ok(Surface::Pattern(Pattern::Choice(patterns))) => patterns.len(),
+        _ => 0,
+    }
+}
+
+#[test]
+fn twenty_thousand_definitions_are_read(rt: HostRuntime) -> Result<(), Fail> {
+    let mut text = String::new(rt.alloc());
+    for n in 0..20000 {
+        text.push_str(format!(in rt.alloc(); "d{n} = element a{n} {{ empty }} ")?.as_str())?;
+    }
+    assert_eq!(rt; items_in(&read(rt.alloc(), text.as_str())), 20000);
+    Ok(())
+}
+
+#[test]
+fn a_hundred_thousand_alternatives_are_read(rt: HostRuntime) -> Result<(), Fail> {
+    let mut text = String::from_str(rt.alloc(), "a")?;
+    for _ in 1..100000 {
+        text.push_str(" | a")?;
+    }
+    assert_eq!(rt; alternatives_in(&read(rt.alloc(), text.as_str())), 100000);
+    Ok(())
+}
