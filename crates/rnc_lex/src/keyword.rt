@@ -32,7 +32,7 @@ const KEYWORDS: [Keyword; 19] = [
 ];
 
 /// How a keyword is spelled.
-fn spelling(keyword: Keyword) -> &'static str
+pub fn spelling(keyword: Keyword) -> &'static str
     ensures { result.now ≡ keyword_text keyword }
 {
     match keyword {

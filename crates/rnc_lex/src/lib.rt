@@ -8,7 +8,7 @@
 mod escape;
 pub mod fault;
 mod front;
-mod keyword;
+pub mod keyword;
 mod letter;
 pub mod lex;
 mod literal;

@@ -3,11 +3,12 @@ use Rattle.std.proofs.Common.{◌≡◌, ℕ, zero, suc, ◌+◌, true, false, L
 use Rattle.rnc_lex.specs.declared.token.Lexeme.{Lexeme}
 use Rattle.rnc_lex.specs.declared.token.Lexeme.TheVariants.{PrefixedName, Symbol as mark}
 use Rattle.rnc_lex.specs.declared.token.Symbol.TheVariants.{LeftBrace, LeftParenthesis, RightParenthesis, LeftBracket, Bar, Minus, Follows}
+use Rattle.rnc_lex.specs.Words.{keyword_text}
 use Rattle.rnc_parse.specs.declared.surface.Namespace.{Namespace}
 use Rattle.rnc_parse.specs.Scopes.{Scope}
 use Rattle.rnc_parse.specs.Written.{WrittenClass, names_in, the_name, either, without, joined}
 use Rattle.rnc_parse.specs.Annotations.{parentheses, MayBegin, Follow, no_more, one_more}
-use Rattle.rnc_parse.specs.Classes.{spelling, IsAnyId, an_identifier, a_keyword, IsWildcard, all_of_namespace, all_names, IsClass, one_class, several_classes, except_class, AreMoreClasses, last_class, next_class, IsAnnotatedClass, annotated_class, IsOneClass, unprefixed_name, prefixed_name, wildcard, parenthesized_class}
+use Rattle.rnc_parse.specs.Classes.{IsAnyId, an_identifier, a_keyword, IsWildcard, all_of_namespace, all_names, IsClass, one_class, several_classes, except_class, AreMoreClasses, last_class, next_class, IsAnnotatedClass, annotated_class, IsOneClass, unprefixed_name, prefixed_name, wildcard, parenthesized_class}
 use Rattle.rnc_parse.specs.Reading.{Reading, first, behind, stands, behind_symbol}
 use Rattle.rnc_parse.specs.ReadingAnnotations.{opening_at, follow_at}
 use Rattle.rnc_parse.specs.ReadingParts.{namespace_at}
@@ -140,7 +141,7 @@ module _ {d s : Scope} (u v : Namespace) (same_namespace : s ≡ d → v ≡ u) 
   unprefixed_agrees : {token : Lexeme} {name : List ℕ} (left : ℕ) (rest : List Lexeme) → IsAnyId token name → Agrees d s (the_name u name) rest (one_of left (token ∷ rest))
   unfolding one_class_at first behind
   unprefixed_agrees left rest (an_identifier {name = n}) = found (λ eq. ap (λ ns. the_name ns n) (same_namespace eq))
-  unprefixed_agrees left rest (a_keyword {keyword = k}) = found (λ eq. ap (λ ns. the_name ns (spelling k)) (same_namespace eq))
+  unprefixed_agrees left rest (a_keyword {keyword = k}) = found (λ eq. ap (λ ns. the_name ns (keyword_text k)) (same_namespace eq))
 
   prefixed_agrees : {prefix local : List ℕ} {ns : Namespace} (left : ℕ) (rest : List Lexeme) → s.namespace prefix ≡ Some ns → Agrees d s (the_name ns local) rest (one_of left (PrefixedName prefix local ∷ rest))
   unfolding one_class_at first behind

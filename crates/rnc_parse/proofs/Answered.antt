@@ -20,14 +20,14 @@ use Rattle.std.specs.Prelude.{codes}
 use Rattle.rnc_parse.specs.Scopes.{Scope, IsUndeclared, IsDeclaredTwice, Use, of_names, of_types, prefix_of, xml_uri, xsd_uri, or_else}
 use Rattle.rnc_parse.specs.Written.{WrittenSurface}
 use Rattle.rnc_parse.specs.Views.{surface_of}
-use Rattle.rnc_parse.specs.Files.{IsNoFile, IsShallow}
+use Rattle.rnc_parse.specs.Files.{lexemes, IsNoFile, IsShallow}
 use Rattle.rnc_parse.specs.Reading.{read, no_prefix, Finds}
 use Rattle.rnc_parse.specs.ReadingFiles.{declarations_at, body_at}
 use Rattle.rnc_parse.specs.Looking.{scope_in, held, namespace_of}
 use Rattle.rnc_parse.specs.LookingUp.{LooksUp}
-use Rattle.rnc_parse.specs.Answering.{lexemes, Answers, AnswersTokens, AnswersText, every_prefix, IsBehindDeclarations, IsBodyOrNot, Leaves, WantsMemory, RefusesAt, Refuses, RefusesBody, RefusesClash, RefusesDeclarations, RefusesTwice}
-use Rattle.rnc_parse.proofs.SoundFiles.{sound_declarations}
-use Rattle.rnc_parse.proofs.Saying.{no_declarations, no_body, needs, is_twice, none_missed, undeclared_in}
+use Rattle.rnc_parse.specs.AnsweringParts.{Answers, AnswersTokens, every_prefix, IsBehindDeclarations, IsBodyOrNot, Leaves, WantsMemory, RefusesAt, RefusesPrefix, RefusesBody, RefusesClash, RefusesDeclarations, RefusesTwice}
+use Rattle.rnc_parse.specs.Answering.{AnswersText}
+use Rattle.rnc_parse.proofs.Saying.{no_declarations, no_body, needs, is_twice, none_missed, declarations_miss_none}
 
 -- ---- look-ups under which every prefix stands for something
 
@@ -66,7 +66,7 @@ wants_memory tokens end answer e = rw e tt
 refused_at : (tokens : List RncToken) (end : ℕ) (answer : Result Surface ReadFault) → RefusesAt tokens end answer → IsNoFile (lexemes tokens) → Answers tokens end answer
 refused_at tokens end answer r none = rw r.1 (none, r.2)
 
-refused : (tokens : List RncToken) (end : ℕ) (d : Scope) (body : List Lexeme) (used : Use) (answer : Result Surface ReadFault) → IsShallow (lexemes tokens) → IsBehindDeclarations (lexemes tokens) d body → body_at d 200 body ≡ no_prefix used → Refuses tokens end (prefix_of used) body answer → Answers tokens end answer
+refused : (tokens : List RncToken) (end : ℕ) (d : Scope) (body : List Lexeme) (used : Use) (answer : Result Surface ReadFault) → IsShallow (lexemes tokens) → IsBehindDeclarations (lexemes tokens) d body → body_at d 200 body ≡ no_prefix used → RefusesPrefix tokens end (prefix_of used) body answer → Answers tokens end answer
 refused tokens end d body used (Ok surface) shallow b e r = elim r [ ]
 refused tokens end d body used (Err (fault.Lex lex)) shallow b e r = elim r [ ]
 refused tokens end d body used (Err (fault.TooDeep at)) shallow b e r = elim r [ ]
@@ -94,19 +94,11 @@ pub declarations_clash : (tokens : List RncToken) (end : ℕ) (declarations : Li
 declarations_clash tokens end ds body clash.NoMemory answer shallow e l r = wants_memory tokens end answer r
 declarations_clash tokens end ds body (clash.Twice prefix) answer shallow e l r = refused_twice tokens end ds body prefix answer shallow e l r
 
--- declarations miss no prefix
-no_prefix_there : (tokens : List Lexeme) (used : Use) → declarations_at tokens ≡ no_prefix used → ⊥
-no_prefix_there tokens used e = declared used (undeclared_in {scope = every_prefix} (declarations_at tokens) used (sound_declarations tokens) e)
-  where
-    declared : (u : Use) → IsUndeclared every_prefix u → ⊥
-    declared (of_names prefix) h = absurd cc
-    declared (of_types prefix) h = absurd cc
-
 pub declarations_stopped : (tokens : List RncToken) (end : ℕ) (rest : List Lexeme) (stopped : Stop) (answer : Result Surface ReadFault) → Finds (λ (ds : List Declaration). ds) rest (Err stopped) (declarations_at (lexemes tokens)) → RefusesDeclarations tokens end stopped answer → Answers tokens end answer
 declarations_stopped tokens end rest stop.NoMemory answer h r = wants_memory tokens end answer r
 declarations_stopped tokens end rest stop.Syntax answer h r = refused_at tokens end answer r (no_declarations (lexemes tokens) h)
-declarations_stopped tokens end rest (stop.NamePrefix prefix) answer h r = elim (no_prefix_there (lexemes tokens) (of_names prefix) h) [ ]
-declarations_stopped tokens end rest (stop.TypePrefix prefix) answer h r = elim (no_prefix_there (lexemes tokens) (of_types prefix) h) [ ]
+declarations_stopped tokens end rest (stop.NamePrefix prefix) answer h r = elim (declarations_miss_none (lexemes tokens) (of_names prefix) h) [ ]
+declarations_stopped tokens end rest (stop.TypePrefix prefix) answer h r = elim (declarations_miss_none (lexemes tokens) (of_types prefix) h) [ ]
 
 pub behind_them : (tokens body : List Lexeme) (declarations : List Declaration) (look_ups : LookUps) → declarations_at tokens ≡ read declarations body → LooksUp declarations (Ok look_ups) → IsBehindDeclarations tokens (scope_in look_ups) body
 behind_them tokens body ds l e h = record { declarations = ds; are = e; in_order = h.1; scope_is = h.0 }
@@ -114,12 +106,12 @@ behind_them tokens body ds l e h = record { declarations = ds; are = e; in_order
 -- ---- texts
 
 pub text_answered : (text : List ℕ) (tokens : List RncToken) (answer : Result Surface ReadFault) → Lexes text (Ok tokens) → AnswersTokens tokens (length text) answer → AnswersText text answer
-text_answered text tokens (Ok surface) l a = (tokens, l, a)
+text_answered text tokens (Ok surface) l a = record { tokens = tokens; lexed = l; shallow = a.0; says = a.1 }
 text_answered text tokens (Err (fault.Lex lex)) l a = elim a.1 [ ]
-text_answered text tokens (Err (fault.TooDeep at)) l a = (tokens, l, a)
-text_answered text tokens (Err (fault.Syntax at)) l a = (tokens, l, a)
-text_answered text tokens (Err (fault.UndeclaredPrefix prefix)) l a = (tokens, l, a)
-text_answered text tokens (Err (fault.Twice prefix)) l a = (tokens, l, a)
+text_answered text tokens (Err (fault.TooDeep at)) l a = record { tokens = tokens; lexed = l; deep = a }
+text_answered text tokens (Err (fault.Syntax at)) l a = (record { tokens = tokens; lexed = l; shallow = a.0; no_file = a.1 }, a.2)
+text_answered text tokens (Err (fault.UndeclaredPrefix prefix)) l a = record { tokens = tokens; lexed = l; shallow = a.0; used = a.1; prefix_is = a.2; needed = a.3 }
+text_answered text tokens (Err (fault.Twice prefix)) l a = record { tokens = tokens; lexed = l; shallow = a.0; twice = a.1 }
 text_answered text tokens (Err fault.NoMemory) l a = tt
 
 -- what is said of shallow tokens is said of tokens

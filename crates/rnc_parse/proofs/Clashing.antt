@@ -103,11 +103,11 @@ twice_more done more prefix (xml_declared_otherwise ns b other) = xml_declared_o
 
 -- ---- prefixes that may not be bound
 
-of_xml : (ns : Namespace) → is_of_xml ns ≡ false → ns ≡ Uri xml_uri → ⊥
+pub of_xml : (ns : Namespace) → is_of_xml ns ≡ false → ns ≡ Uri xml_uri → ⊥
 of_xml Inherited e is = absurd cc
 of_xml (Uri uri) e is = let same : uri ≡ xml_uri = cc in let there = (bytes_decides uri xml_uri).1 same in absurd cc
 
-not_of_xml : (ns : Namespace) → is_of_xml ns ≡ true → ns ≡ Uri xml_uri
+pub not_of_xml : (ns : Namespace) → is_of_xml ns ≡ true → ns ≡ Uri xml_uri
 not_of_xml Inherited e = absurd cc
 not_of_xml (Uri uri) e = ap (λ (u : List ℕ). Uri u) ((bytes_decides uri xml_uri).0 e)
 

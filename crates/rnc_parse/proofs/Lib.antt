@@ -24,3 +24,6 @@ pub mod Declaring
 pub mod Entries
 pub mod Clashing
 pub mod Bound
+pub mod InOrder
+pub mod WholeTexts
+pub mod SaidTexts

@@ -7,7 +7,7 @@ use Rattle.rnc_parse.specs.Written.{WrittenSurface}
 use Rattle.rnc_parse.specs.Files.{AreDeclarations, no_declaration, next_declaration, IsBody, IsFile, Says, IsNoFile, NeedsPrefix, DeclaresTwice, IsShallow}
 use Rattle.rnc_parse.specs.Reading.{Reading, read, no_reading, no_prefix}
 use Rattle.rnc_parse.specs.ReadingFiles.{declarations_at, body_at}
-use Rattle.rnc_parse.specs.Answering.{every_prefix, IsBehindDeclarations}
+use Rattle.rnc_parse.specs.AnsweringParts.{every_prefix, IsBehindDeclarations}
 use Rattle.rnc_parse.proofs.Passing.{Passes, nothing, ◌then◌, passes_declaration}
 use Rattle.rnc_parse.proofs.Sounding.{Sounds, stops}
 use Rattle.rnc_parse.proofs.SoundFiles.{sound_declarations, IsWhole, whole, sound_body}
@@ -78,6 +78,7 @@ pub needs : (d : Scope) (tokens body rest : List Lexeme) (surface : WrittenSurfa
 needs d tokens body rest surface used shallow b stops_at e = record {
   declarations = b.declarations;
   some_file = record { scope = every_prefix; surface = surface; file = record { body = body; declared = declarations_are tokens body b.declarations b.are; said = body_is every_prefix body rest surface e } };
+  in_order = b.in_order;
   undeclared = subst (λ (s : Scope). IsUndeclared s used) b.scope_is (undeclared_in (body_at d 200 body) used (sound_body 200 body) stops_at);
   needed = λ scope others said u file. missed (body_at d 200 body) used (body_agrees d scope 200 (body_counts tokens body b.declarations shallow b.are) (same_body b.are file)) stops_at u;
 }
@@ -92,6 +93,14 @@ is_twice tokens body rest declarations surface prefix e twice is = record {
 -- under look-ups that declare every prefix no prefix is missed
 pub none_missed : (body : List Lexeme) (used : Use) → body_at every_prefix 200 body ≡ no_prefix used → ⊥
 none_missed body used e = declared used (undeclared_in (body_at every_prefix 200 body) used (sound_body 200 body) e)
+  where
+    declared : (u : Use) → IsUndeclared every_prefix u → ⊥
+    declared (of_names prefix) h = absurd cc
+    declared (of_types prefix) h = absurd cc
+
+-- declarations miss no prefix
+pub declarations_miss_none : (tokens : List Lexeme) (used : Use) → declarations_at tokens ≡ no_prefix used → ⊥
+declarations_miss_none tokens used e = declared used (undeclared_in {scope = every_prefix} (declarations_at tokens) used (sound_declarations tokens) e)
   where
     declared : (u : Use) → IsUndeclared every_prefix u → ⊥
     declared (of_names prefix) h = absurd cc

@@ -4,8 +4,7 @@ use Rattle.rnc_lex.specs.declared.token.Lexeme.{Lexeme}
 use Rattle.rnc_lex.specs.declared.token.Lexeme.TheVariants.{Symbol as mark}
 use Rattle.rnc_lex.specs.declared.token.Symbol.TheVariants.{LeftBrace, RightBrace, LeftParenthesis, RightParenthesis, LeftBracket, RightBracket}
 use Rattle.rnc_lex.specs.declared.token.RncToken.{RncToken}
-use Rattle.rnc_parse.specs.Files.{open_behind, IsShallow, IsTooDeepAt}
-use Rattle.rnc_parse.specs.Answering.{lexemes}
+use Rattle.rnc_parse.specs.Files.{lexemes, open_behind, IsShallow, IsTooDeepAt}
 
 -- a token at a time
 open_step : (before : ℕ) (token : Lexeme) (later : List Lexeme) → open_behind before (token ∷ later) ≡ open_behind (open_behind before (token ∷ [])) later

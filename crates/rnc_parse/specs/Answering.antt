@@ -1,130 +1,24 @@
--- What reading answers.
-use Rattle.std.specs.Prelude.{◌≡◌, ℕ, ◌⊎◌, List, [], map, slice_get, length, Option, Some, None, Result, Ok, Err}
-use Rattle.rnc_lex.specs.declared.token.Lexeme.{Lexeme}
-use Rattle.rnc_lex.specs.declared.token.RncToken.{RncToken}
+-- What reading a text answers.
+use Rattle.std.specs.Prelude.{ℕ, List, length, Result, Ok, Err}
+use Rattle.rnc_lex.specs.declared.fault.LexFault.TheVariants as lex
 use Rattle.rnc_lex.specs.Tokens.{Lexes}
-use Rattle.rnc_parse.specs.declared.declaration.Declaration.{Declaration}
 use Rattle.rnc_parse.specs.declared.read.ReadFault.{ReadFault}
 use Rattle.rnc_parse.specs.declared.read.ReadFault.TheVariants as fault
-use Rattle.rnc_parse.specs.declared.scope.Clash.{Clash}
-use Rattle.rnc_parse.specs.declared.scope.Clash.TheVariants as clash
-use Rattle.rnc_parse.specs.declared.stop.Stop.{Stop}
-use Rattle.rnc_parse.specs.declared.stop.Stop.TheVariants as stop
 use Rattle.rnc_parse.specs.declared.surface.Surface.{Surface}
-use Rattle.nx_base.specs.declared.memory.NoMemory.{NoMemory}
-use Rattle.rnc_parse.specs.declared.surface.Namespace.TheVariants.{Inherited}
-use Rattle.rnc_parse.specs.Scopes.{Scope, scope_of, AreInOrder, Use, prefix_of}
 use Rattle.rnc_parse.specs.Views.{surface_of}
-use Rattle.rnc_parse.specs.Written.{WrittenSurface}
-use Rattle.rnc_parse.specs.Files.{Says, IsNoFile, NeedsPrefix, DeclaresTwice, IsShallow, IsTooDeepAt}
-use Rattle.rnc_parse.specs.Reading.{read, no_reading}
-use Rattle.rnc_parse.specs.ReadingFiles.{declarations_at, body_at}
+use Rattle.rnc_parse.specs.Files.{StandsAt}
+use Rattle.rnc_parse.specs.Reads.{Reads, IsTooDeep, IsNoSchema, DeclaresAgain, LeavesOut}
 
--- tokens without their places
-abbrev pub lexemes : List RncToken → List Lexeme
-lexemes tokens = map (λ (t : RncToken). t.lexeme) tokens
-
--- the place is that of some token, or the end
-abbrev pub StandsAt : List RncToken → ℕ → ℕ → Type 0
-StandsAt tokens end at = (at ≡ end) ⊎ ((i : ℕ) × (token : RncToken) × (slice_get tokens i ≡ Some token) × (at ≡ token.at))
-
--- what reading answers about tokens in which no brackets are too deep
-abbrev pub Answers : List RncToken → ℕ → Result Surface ReadFault → Type 0
-Answers tokens end (Ok surface) = Says (lexemes tokens) (surface_of surface)
-Answers tokens end (Err (fault.Lex lex)) = ⊥
-Answers tokens end (Err (fault.TooDeep at)) = ⊥
-Answers tokens end (Err (fault.Syntax at)) = IsNoFile (lexemes tokens) × StandsAt tokens end at
-Answers tokens end (Err (fault.UndeclaredPrefix prefix)) = (used : Use) × (prefix_of used ≡ prefix) × NeedsPrefix (lexemes tokens) used
-Answers tokens end (Err (fault.Twice prefix)) = DeclaresTwice (lexemes tokens) prefix
-Answers tokens end (Err fault.NoMemory) = Unit {0}
-
--- and about any tokens: too many brackets come first
-abbrev pub AnswersTokens : List RncToken → ℕ → Result Surface ReadFault → Type 0
-AnswersTokens tokens end (Err (fault.TooDeep at)) = IsTooDeepAt tokens at
-AnswersTokens tokens end (Err fault.NoMemory) = Unit {0}
-AnswersTokens tokens end answer = IsShallow (lexemes tokens) × Answers tokens end answer
-
--- ---- the parts of reading
-
--- look-ups under which every prefix stands for something
-abbrev pub every_prefix : Scope
-every_prefix = record { namespace = λ prefix. Some Inherited; unprefixed = Inherited; library = λ prefix. Some [] }
-
--- the body of tokens behind their declarations, which are in order, and what they say
-pub record IsBehindDeclarations (tokens : List Lexeme) (scope : Scope) (body : List Lexeme) : Type 0 where
-  pub declarations : List Declaration
-  pub are : declarations_at tokens ≡ read declarations body
-  pub in_order : AreInOrder declarations
-  pub scope_is : scope ≡ scope_of declarations
-
--- the body is in some reading, or, with a number of tokens left, in none
-abbrev pub IsBodyOrNot : List Lexeme → Option ℕ → Type 0
-IsBodyOrNot body None = (surface : WrittenSurface) × (rest : List Lexeme) × (body_at every_prefix 200 body ≡ read surface rest)
-IsBodyOrNot body (Some left) = body_at every_prefix 200 body ≡ no_reading
-
--- what is answered for a prefix that stands for nothing
-abbrev pub Refuses : List RncToken → ℕ → List ℕ → List Lexeme → Result Surface ReadFault → Type 0
-Refuses tokens end prefix body (Ok surface) = ⊥
-Refuses tokens end prefix body (Err (fault.Lex lex)) = ⊥
-Refuses tokens end prefix body (Err (fault.TooDeep at)) = ⊥
-Refuses tokens end prefix body (Err (fault.Syntax at)) = (body_at every_prefix 200 body ≡ no_reading) × StandsAt tokens end at
-Refuses tokens end prefix body (Err (fault.UndeclaredPrefix named)) = (named ≡ prefix) × (surface : WrittenSurface) × (rest : List Lexeme) × (body_at every_prefix 200 body ≡ read surface rest)
-Refuses tokens end prefix body (Err (fault.Twice named)) = ⊥
-Refuses tokens end prefix body (Err fault.NoMemory) = Unit {0}
-
--- the number of tokens left, unless memory ran out
-abbrev pub Leaves : Stop → ℕ → Result (Option ℕ) NoMemory → Type 0
-Leaves stop.NoMemory left (Ok answer) = ⊥
-Leaves stop.NoMemory left (Err e) = Unit {0}
-Leaves stop.Syntax left (Ok answer) = answer ≡ Some left
-Leaves stop.Syntax left (Err e) = ⊥
-Leaves (stop.NamePrefix prefix) left (Ok answer) = answer ≡ Some left
-Leaves (stop.NamePrefix prefix) left (Err e) = ⊥
-Leaves (stop.TypePrefix prefix) left (Ok answer) = answer ≡ Some left
-Leaves (stop.TypePrefix prefix) left (Err e) = ⊥
-
--- a refusal for want of memory
-abbrev pub WantsMemory : Result Surface ReadFault → Type 0
-WantsMemory answer = answer ≡ Err fault.NoMemory
-
--- a refusal at a place of the tokens
-abbrev pub RefusesAt : List RncToken → ℕ → Result Surface ReadFault → Type 0
-RefusesAt tokens end answer = (at : ℕ) × (answer ≡ Err (fault.Syntax at)) × StandsAt tokens end at
-
--- what is answered where the body stops
-abbrev pub RefusesBody : List RncToken → ℕ → Stop → List Lexeme → Result Surface ReadFault → Type 0
-RefusesBody tokens end stop.NoMemory body answer = WantsMemory answer
-RefusesBody tokens end stop.Syntax body answer = RefusesAt tokens end answer
-RefusesBody tokens end (stop.NamePrefix prefix) body answer = Refuses tokens end prefix body answer
-RefusesBody tokens end (stop.TypePrefix prefix) body answer = Refuses tokens end prefix body answer
-
--- where declarations do
-abbrev pub RefusesDeclarations : List RncToken → ℕ → Stop → Result Surface ReadFault → Type 0
-RefusesDeclarations tokens end stop.NoMemory answer = WantsMemory answer
-RefusesDeclarations tokens end stop.Syntax answer = RefusesAt tokens end answer
-RefusesDeclarations tokens end (stop.NamePrefix prefix) answer = RefusesAt tokens end answer
-RefusesDeclarations tokens end (stop.TypePrefix prefix) answer = RefusesAt tokens end answer
-
--- where declarations clash
-abbrev pub RefusesTwice : List RncToken → ℕ → List ℕ → List Lexeme → Result Surface ReadFault → Type 0
-RefusesTwice tokens end prefix body (Ok surface) = ⊥
-RefusesTwice tokens end prefix body (Err (fault.Lex lex)) = ⊥
-RefusesTwice tokens end prefix body (Err (fault.TooDeep at)) = ⊥
-RefusesTwice tokens end prefix body (Err (fault.Syntax at)) = (body_at every_prefix 200 body ≡ no_reading) × StandsAt tokens end at
-RefusesTwice tokens end prefix body (Err (fault.UndeclaredPrefix named)) = ⊥
-RefusesTwice tokens end prefix body (Err (fault.Twice named)) = (named ≡ prefix) × (surface : WrittenSurface) × (rest : List Lexeme) × (body_at every_prefix 200 body ≡ read surface rest)
-RefusesTwice tokens end prefix body (Err fault.NoMemory) = Unit {0}
-
-abbrev pub RefusesClash : List RncToken → ℕ → Clash → List Lexeme → Result Surface ReadFault → Type 0
-RefusesClash tokens end clash.NoMemory body answer = WantsMemory answer
-RefusesClash tokens end (clash.Twice prefix) body answer = RefusesTwice tokens end prefix body answer
-
--- what reading answers about a text: of its tokens, where it has such
+-- the surface that the text is read as, or why it is refused
 abbrev pub AnswersText : List ℕ → Result Surface ReadFault → Type 0
-AnswersText text (Err (fault.Lex lex)) = Lexes text (Err lex)
+AnswersText text (Ok surface) = Reads text (surface_of surface)
+AnswersText text (Err (fault.Lex (lex.BadEscape at))) = Lexes text (Err (lex.BadEscape at))
+AnswersText text (Err (fault.Lex (lex.BadLiteral at))) = Lexes text (Err (lex.BadLiteral at))
+AnswersText text (Err (fault.Lex (lex.BadCharacter at))) = Lexes text (Err (lex.BadCharacter at))
+AnswersText text (Err (fault.Lex lex.NoMemory)) = ⊥
+AnswersText text (Err (fault.TooDeep at)) = IsTooDeep text at
+-- the place is that of a token, or the end of the text
+AnswersText text (Err (fault.Syntax at)) = (none : IsNoSchema text) × StandsAt none.tokens (length text) at
+AnswersText text (Err (fault.Twice prefix)) = DeclaresAgain text prefix
+AnswersText text (Err (fault.UndeclaredPrefix prefix)) = LeavesOut text prefix
 AnswersText text (Err fault.NoMemory) = Unit {0}
-AnswersText text (Ok surface) = (tokens : List RncToken) × Lexes text (Ok tokens) × AnswersTokens tokens (length text) (Ok surface)
-AnswersText text (Err (fault.TooDeep at)) = (tokens : List RncToken) × Lexes text (Ok tokens) × AnswersTokens tokens (length text) (Err (fault.TooDeep at))
-AnswersText text (Err (fault.Syntax at)) = (tokens : List RncToken) × Lexes text (Ok tokens) × AnswersTokens tokens (length text) (Err (fault.Syntax at))
-AnswersText text (Err (fault.UndeclaredPrefix prefix)) = (tokens : List RncToken) × Lexes text (Ok tokens) × AnswersTokens tokens (length text) (Err (fault.UndeclaredPrefix prefix))
-AnswersText text (Err (fault.Twice prefix)) = (tokens : List RncToken) × Lexes text (Ok tokens) × AnswersTokens tokens (length text) (Err (fault.Twice prefix))

@@ -1,41 +1,19 @@
 -- Name classes: ISO/IEC 19757-2, Annex C.
-use Rattle.std.specs.Prelude.{◌≡◌, ℕ, List, [], ◌∷◌, codes, Some}
+use Rattle.std.specs.Prelude.{◌≡◌, ℕ, List, [], ◌∷◌, Some}
 use Rattle.rnc_lex.specs.declared.token.Lexeme.{Lexeme}
 use Rattle.rnc_lex.specs.declared.token.Lexeme.TheVariants.{Identifier, PrefixedName, NamespaceWildcard, Keyword as word, Symbol as mark}
 use Rattle.rnc_lex.specs.declared.token.Symbol.TheVariants.{LeftParenthesis, RightParenthesis, Bar, Star, Minus}
 use Rattle.rnc_lex.specs.declared.token.Keyword.{Keyword}
-use Rattle.rnc_lex.specs.declared.token.Keyword.TheVariants as keyword
+use Rattle.rnc_lex.specs.Words.{keyword_text}
 use Rattle.rnc_parse.specs.declared.surface.Namespace.{Namespace}
 use Rattle.rnc_parse.specs.Written.{WrittenClass, every_name, names_in, the_name, either, without, joined}
 use Rattle.rnc_parse.specs.Scopes.{Scope}
 use Rattle.rnc_parse.specs.Annotations.{MayBegin, Follow}
 
--- how a keyword is written
-abbrev pub spelling : Keyword → List ℕ
-spelling keyword.Attribute = codes "attribute"
-spelling keyword.Default = codes "default"
-spelling keyword.Datatypes = codes "datatypes"
-spelling keyword.Div = codes "div"
-spelling keyword.Element = codes "element"
-spelling keyword.Empty = codes "empty"
-spelling keyword.External = codes "external"
-spelling keyword.Grammar = codes "grammar"
-spelling keyword.Include = codes "include"
-spelling keyword.Inherit = codes "inherit"
-spelling keyword.List = codes "list"
-spelling keyword.Mixed = codes "mixed"
-spelling keyword.Namespace = codes "namespace"
-spelling keyword.NotAllowed = codes "notAllowed"
-spelling keyword.Parent = codes "parent"
-spelling keyword.Start = codes "start"
-spelling keyword.String = codes "string"
-spelling keyword.Text = codes "text"
-spelling keyword.Token = codes "token"
-
 -- anyId: an identifier, or a keyword as a name
 pub data IsAnyId : Lexeme → List ℕ → Type 0 where
   an_identifier : {name : List ℕ} → IsAnyId (Identifier name) name
-  a_keyword : {keyword : Keyword} → IsAnyId (word keyword) (spelling keyword)
+  a_keyword : {keyword : Keyword} → IsAnyId (word keyword) (keyword_text keyword)
 
 -- names of a namespace, or all names
 pub data IsWildcard (scope : Scope) : Lexeme → WrittenClass → Type 0 where

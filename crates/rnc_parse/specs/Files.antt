@@ -1,5 +1,5 @@
 -- Schema files: ISO/IEC 19757-2, Annex C.
-use Rattle.std.specs.Prelude.{◌≡◌, ℕ, ◌+◌, ◌-◌, ◌≤◌, List, [], ◌∷◌, ◌++◌, map, Some, None}
+use Rattle.std.specs.Prelude.{◌≡◌, ℕ, ◌+◌, ◌-◌, ◌≤◌, ◌⊎◌, List, [], ◌∷◌, ◌++◌, map, slice_get, Some, None}
 use Rattle.rnc_lex.specs.declared.token.Lexeme.{Lexeme}
 use Rattle.rnc_lex.specs.declared.token.Lexeme.TheVariants.{Keyword as word, Symbol as mark}
 use Rattle.rnc_lex.specs.declared.token.RncToken.{RncToken}
@@ -61,10 +61,12 @@ pub record IsSomeFile (tokens : List Lexeme) (declarations : List Declaration) :
   pub surface : WrittenSurface
   pub file : IsFile scope tokens declarations surface
 
--- the tokens are a file, whose declarations leave the prefix out, and where it stands for nothing they are in no reading
+-- the tokens are a file, whose declarations are in order and leave the prefix out, and where it stands for nothing they are in
+-- no reading
 pub record NeedsPrefix (tokens : List Lexeme) (used : Use) : Type 0 where
   pub declarations : List Declaration
   pub some_file : IsSomeFile tokens declarations
+  pub in_order : AreInOrder declarations
   pub undeclared : IsUndeclared (scope_of declarations) used
   pub needed : (scope : Scope) (others : List Declaration) (surface : WrittenSurface) → IsUndeclared scope used → IsFile scope tokens others surface → ⊥
 
@@ -73,6 +75,16 @@ pub record DeclaresTwice (tokens : List Lexeme) (prefix : List ℕ) : Type 0 whe
   pub declarations : List Declaration
   pub some_file : IsSomeFile tokens declarations
   pub twice : IsDeclaredTwice declarations prefix
+
+-- ---- places
+
+-- tokens without their places
+abbrev pub lexemes : List RncToken → List Lexeme
+lexemes tokens = map (λ (t : RncToken). t.lexeme) tokens
+
+-- the place is that of some token, or the end
+abbrev pub StandsAt : List RncToken → ℕ → ℕ → Type 0
+StandsAt tokens end at = (at ≡ end) ⊎ ((i : ℕ) × (token : RncToken) × (slice_get tokens i ≡ Some token) × (at ≡ token.at))
 
 -- ---- brackets
 
@@ -98,5 +110,5 @@ pub record IsTooDeepAt (tokens : List RncToken) (at : ℕ) : Type 0 where
   pub rest : List RncToken
   pub tokens_are : tokens ≡ front ++ token ∷ rest
   pub at_is : at ≡ token.at
-  pub shallow : IsShallow (map (λ (t : RncToken). t.lexeme) front)
-  pub deep : open_behind 0 (map (λ (t : RncToken). t.lexeme) (front ++ token ∷ [])) ≡ 201
+  pub shallow : IsShallow (lexemes front)
+  pub deep : open_behind 0 (lexemes (front ++ token ∷ [])) ≡ 201

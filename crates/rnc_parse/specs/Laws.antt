@@ -1,9 +1,27 @@
--- Laws of the grammar.
-use Rattle.std.specs.Prelude.{◌≡◌, ℕ, List}
+-- Laws of reading, over tokens and over whole texts.
+use Rattle.std.specs.Prelude.{◌≡◌, ◌⊎◌, ℕ, List}
+use Rattle.nx_base.specs.declared.cause.Cause.{Cause}
 use Rattle.rnc_lex.specs.declared.token.Lexeme.{Lexeme}
 use Rattle.rnc_parse.specs.Scopes.{Use}
 use Rattle.rnc_parse.specs.Written.{WrittenSurface}
 use Rattle.rnc_parse.specs.Files.{Says, IsNoFile, NeedsPrefix, DeclaresTwice}
+use Rattle.rnc_parse.specs.Reads.{Reads, Refuses}
+
+-- ---- texts
+
+-- a text is read as one surface at most
+abbrev pub TextsAreReadAsOne : Type 0
+TextsAreReadAsOne = (text : List ℕ) (one other : WrittenSurface) → Reads text one → Reads text other → one ≡ other
+
+-- a text that is read is refused for no cause
+abbrev pub WhatIsReadIsNotRefused : Type 0
+WhatIsReadIsNotRefused = (text : List ℕ) (surface : WrittenSurface) (why : Cause) → Reads text surface → Refuses text why → ⊥
+
+-- each text is read, or refused for some cause
+abbrev pub TextsAreReadOrRefused : Type 0
+TextsAreReadOrRefused = (text : List ℕ) → ((surface : WrittenSurface) × Reads text surface) ⊎ ((why : Cause) × Refuses text why)
+
+-- ---- tokens
 
 -- tokens say one thing at most
 abbrev pub TokensSayOneThing : Type 0

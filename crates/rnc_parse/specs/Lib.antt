@@ -6,6 +6,8 @@ pub mod Classes
 pub mod Parts
 pub mod Grammar
 pub mod Files
+pub mod Reads
+pub mod Texts
 pub mod Reading
 pub mod ReadingAnnotations
 pub mod ReadingParts
@@ -15,4 +17,5 @@ pub mod ReadingFiles
 pub mod Looking
 pub mod LookingUp
 pub mod Answering
+pub mod AnsweringParts
 pub mod Laws

@@ -3,9 +3,9 @@ use Rattle.std.specs.Prelude.{ℕ, zero, suc, Bool, true, false, ◌&&◌, if◌
 use Rattle.rnc_lex.specs.declared.token.Lexeme.{Lexeme}
 use Rattle.rnc_lex.specs.declared.token.Lexeme.TheVariants.{Identifier, PrefixedName, NamespaceWildcard, Keyword as word, Symbol as mark}
 use Rattle.rnc_lex.specs.declared.token.Symbol.TheVariants.{LeftParenthesis, RightParenthesis, Bar, Star, Minus}
+use Rattle.rnc_lex.specs.Words.{keyword_text}
 use Rattle.rnc_parse.specs.declared.surface.Namespace.{Namespace}
 use Rattle.rnc_parse.specs.Scopes.{Scope}
-use Rattle.rnc_parse.specs.Classes.{spelling}
 use Rattle.rnc_parse.specs.Written.{WrittenClass, every_name, names_in, the_name, either, without}
 use Rattle.rnc_parse.specs.Reading.{Reading, read, no_reading, ◌>>=◌, first, behind, stands, behind_symbol, loop_at}
 use Rattle.rnc_parse.specs.ReadingAnnotations.{opening_at, follow_at}
@@ -36,7 +36,7 @@ module _ (scope : Scope) (unprefixed : Namespace) (inside : List Lexeme → Read
 
   abbrev pub one_class_by : List Lexeme → Option Lexeme → Reading WrittenClass
   one_class_by tokens (Some (Identifier name)) = read (the_name unprefixed name) (behind tokens)
-  one_class_by tokens (Some (word keyword)) = read (the_name unprefixed (spelling keyword)) (behind tokens)
+  one_class_by tokens (Some (word keyword)) = read (the_name unprefixed (keyword_text keyword)) (behind tokens)
   one_class_by tokens (Some (PrefixedName prefix local)) = namespace_at scope prefix (behind tokens) >>= λ ns rest. read (the_name ns local) rest
   one_class_by tokens (Some (mark LeftParenthesis)) = parenthesized_at (behind tokens)
   one_class_by tokens _ = wildcard_at scope tokens

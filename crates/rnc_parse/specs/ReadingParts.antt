@@ -4,12 +4,12 @@ use Rattle.rnc_lex.specs.declared.token.Lexeme.{Lexeme}
 use Rattle.rnc_lex.specs.declared.token.Lexeme.TheVariants.{Identifier, PrefixedName, Literal, Keyword as word}
 use Rattle.rnc_lex.specs.declared.token.Symbol.TheVariants.{LeftBrace, RightBrace, Equals, Tilde}
 use Rattle.rnc_lex.specs.declared.token.Keyword.TheVariants as keyword
+use Rattle.rnc_lex.specs.Words.{keyword_text}
 use Rattle.rnc_parse.specs.declared.surface.Namespace.{Namespace}
 use Rattle.rnc_parse.specs.declared.surface.TypeName.{TypeName}
 use Rattle.rnc_parse.specs.declared.surface.Param.{Param}
 use Rattle.rnc_parse.specs.declared.surface.FileReference.{FileReference}
 use Rattle.rnc_parse.specs.Scopes.{Scope, of_names, of_types}
-use Rattle.rnc_parse.specs.Classes.{spelling}
 use Rattle.rnc_parse.specs.Parts.{built_in}
 use Rattle.rnc_parse.specs.Reading.{Reading, read, no_reading, ◌>>=◌, first, behind, stands, behind_symbol, loop_at, looked_up}
 use Rattle.rnc_parse.specs.ReadingAnnotations.{opening_at}
@@ -36,7 +36,7 @@ is_literal _ = false
 
 abbrev pub any_id_by : Option Lexeme → List Lexeme → Reading (List ℕ)
 any_id_by (Some (Identifier name)) rest = read name rest
-any_id_by (Some (word keyword)) rest = read (spelling keyword) rest
+any_id_by (Some (word keyword)) rest = read (keyword_text keyword) rest
 any_id_by _ rest = no_reading
 
 unfoldable pub any_id_at : List Lexeme → Reading (List ℕ)

@@ -1,6 +1,21 @@
-//! Laws of the grammar. Nothing here runs.
+//! Laws of reading. Nothing here runs.
 
-ghost use Rattle.rnc_parse.specs.Laws.{TokensSayOneThing, WhatIsSaidIsNotRefused};
+ghost use Rattle.rnc_parse.specs.Laws.{TextsAreReadAsOne, WhatIsReadIsNotRefused, TextsAreReadOrRefused, TokensSayOneThing, WhatIsSaidIsNotRefused};
+
+/// A text is read as one surface at most.
+pub fn texts_are_read_as_one()
+    ensures { TextsAreReadAsOne }
+{}
+
+/// A text that is read is refused for no cause.
+pub fn what_is_read_is_not_refused()
+    ensures { WhatIsReadIsNotRefused }
+{}
+
+/// Each text is read, or refused for some cause.
+pub fn texts_are_read_or_refused()
+    ensures { TextsAreReadOrRefused }
+{}
 
 /// Tokens say one thing at most: the grammar is unambiguous as far as the surface goes.
 pub fn tokens_say_one_thing()

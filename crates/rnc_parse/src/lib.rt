@@ -4,7 +4,6 @@
 mod annotation;
 mod cursor;
 pub mod declaration;
-mod keyword;
 pub mod law;
 mod leaf;
 mod name_class;

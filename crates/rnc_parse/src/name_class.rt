@@ -8,12 +8,12 @@ ghost use Rattle.rnc_parse.specs.ReadingClasses.{is_wildcard, begins_except, wil
 
 use crate::annotation::{follow, opening};
 use crate::cursor::Cursor;
-use crate::keyword::spelling;
 use crate::reader::Reader;
 use crate::scope::bytes_of;
 use crate::stop::Stop;
 use crate::surface::{NameClass, Namespace};
 use nx_base::sequence::TryCopy;
+use rnc_lex::keyword::spelling;
 use rnc_lex::token::{Lexeme, Symbol};
 
 /// Whether the token stands for all names, or for those of a namespace.

@@ -8,13 +8,13 @@ ghost use Rattle.rnc_parse.specs.ReadingParts.{one_literal_at, literal_at, is_li
 
 use crate::annotation::opening;
 use crate::cursor::Cursor;
-use crate::keyword::spelling;
 use crate::reader::Reader;
 use crate::scope::bytes_of;
 use crate::stop::Stop;
 use crate::surface::{FileReference, Namespace, Param, Params, TypeName};
 use nx_base::memory::NoMemory;
 use nx_base::sequence::{Bytes, TryCopy};
+use rnc_lex::keyword::spelling;
 use rnc_lex::token::{Keyword, Lexeme, Symbol};
 use std::alloc::Global;
 

@@ -2,8 +2,10 @@
 
 ghost use Rattle.std.specs.Prelude.{◌≡◌, ◌≤◌, ◌∷◌, [], option_copied, IfOk, MatchOption};
 ghost use Rattle.rnc_lex.specs.declared.token.Symbol.TheVariants.{LeftBracket};
-ghost use Rattle.rnc_parse.specs.Files.{IsShallow, IsTooDeepAt, open_behind};
-ghost use Rattle.rnc_parse.specs.Answering.{lexemes, StandsAt, IsBehindDeclarations, IsBodyOrNot, Leaves, Refuses, RefusesBody, RefusesClash, RefusesDeclarations, Answers, AnswersTokens, AnswersText};
+ghost use Rattle.rnc_parse.specs.Files.{lexemes, StandsAt, IsShallow, IsTooDeepAt, open_behind};
+ghost use Rattle.rnc_parse.specs.Answering.{AnswersText};
+ghost use Rattle.rnc_parse.specs.Texts.{HasUtf8Texts};
+ghost use Rattle.rnc_parse.specs.AnsweringParts.{IsBehindDeclarations, IsBodyOrNot, Leaves, RefusesPrefix, RefusesBody, RefusesClash, RefusesDeclarations, Answers, AnswersTokens};
 ghost use Rattle.rnc_parse.specs.Looking.{scope_in};
 ghost use Rattle.rnc_parse.specs.Views.{surface_of};
 ghost use Rattle.rnc_parse.specs.Reading.{Finds, read, is_symbol};
@@ -50,7 +52,8 @@ impl From<NoMemory> for ReadFault {
 
 /// Reads a schema file. It takes time and memory in proportion to the text.
 pub fn read(alloc: Global, text: &str) -> Result<Surface, ReadFault>
-    ensures { AnswersText text.now result }
+    ensures answers { AnswersText text.now result }
+    ensures texts { IfOk result (λ surface. HasUtf8Texts (surface_of surface)) }
 {
     match tokens(alloc, text) {
         Ok(tokens) => read_tokens(alloc, tokens.as_slice(), text.len()),
@@ -224,7 +227,7 @@ fn undeclared(
     tokens: &[RncToken],
     end: usize,
 ) -> Result<Surface, ReadFault>
-    ensures { Refuses tokens.now end prefix cursor.entry result }
+    ensures { RefusesPrefix tokens.now end prefix cursor.entry result }
 {
     match syntax(alloc, cursor) {
         Err(_) => Err(ReadFault::NoMemory),

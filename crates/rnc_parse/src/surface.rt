@@ -23,7 +23,7 @@ pub enum NameClass {
     NsName(Namespace),
     /// One name, by its namespace and its local part.
     Name(Namespace, Bytes),
-    /// The names of each, two or more.
+    /// The names of each. One class stands for itself, and none for no name at all.
     Choice(Vec<NameClass>),
     /// The names of the first, `AnyName` or an `NsName`, that aren't of the second.
     Except(Box<NameClass>, Box<NameClass>),
@@ -111,11 +111,11 @@ pub enum Pattern {
     ZeroOrMore(Box<Pattern>),
     /// One or more.
     OneOrMore(Box<Pattern>),
-    /// One of these, two or more.
+    /// One of these. One pattern stands for itself, and none for `NotAllowed`.
     Choice(Vec<Pattern>),
-    /// These in order, two or more.
+    /// These in order. One pattern stands for itself, and none for `Empty`.
     Group(Vec<Pattern>),
-    /// These in any order, also mixed, two or more.
+    /// These in any order, also mixed. One pattern stands for itself, and none for `Empty`.
     Interleave(Vec<Pattern>),
 }
 

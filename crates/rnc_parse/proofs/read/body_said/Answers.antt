@@ -1,6 +1,6 @@
 use Rattle.std.proofs.Common.{List, Err, sym, ap, subst, ◌∙◌}
 use Rattle.rnc_lex.specs.declared.token.Lexeme.{Lexeme}
-use Rattle.rnc_parse.specs.Answering.{lexemes}
+use Rattle.rnc_parse.specs.Files.{lexemes}
 use Rattle.rnc_parse.specs.Looking.{scope_in}
 use Rattle.rnc_parse.specs.Reading.{Finds}
 use Rattle.rnc_parse.specs.ReadingFiles.{body_at}
