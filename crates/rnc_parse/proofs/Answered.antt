@@ -109,8 +109,8 @@ pub text_answered : (text : List ℕ) (tokens : List RncToken) (answer : Result 
 text_answered text tokens (Ok surface) l a = record { tokens = tokens; lexed = l; shallow = a.0; says = a.1 }
 text_answered text tokens (Err (fault.Lex lex)) l a = elim a.1 [ ]
 text_answered text tokens (Err (fault.TooDeep at)) l a = record { tokens = tokens; lexed = l; deep = a }
-text_answered text tokens (Err (fault.Syntax at)) l a = (record { tokens = tokens; lexed = l; shallow = a.0; no_file = a.1 }, a.2)
-text_answered text tokens (Err (fault.UndeclaredPrefix prefix)) l a = record { tokens = tokens; lexed = l; shallow = a.0; used = a.1; prefix_is = a.2; needed = a.3 }
+text_answered text tokens (Err (fault.Syntax at)) l a = (record { tokens = tokens; lexed = l; shallow = a.0; no_file = a.1.0 }, a.1.1)
+text_answered text tokens (Err (fault.UndeclaredPrefix prefix)) l a = record { tokens = tokens; lexed = l; shallow = a.0; used = a.1.0; prefix_is = a.1.1; needed = a.1.2 }
 text_answered text tokens (Err (fault.Twice prefix)) l a = record { tokens = tokens; lexed = l; shallow = a.0; twice = a.1 }
 text_answered text tokens (Err fault.NoMemory) l a = tt
 

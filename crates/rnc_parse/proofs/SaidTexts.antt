@@ -1,8 +1,10 @@
 -- Tokens whose texts are UTF-8 say a surface whose texts are.
-use Rattle.std.proofs.Common.{◌≡◌, ℕ, Bool, true, false, if◌then◌else◌, bytes_eq, List, [], ◌∷◌, Option, Some, None, codes, Result, Ok, Err, IfOk, refl, sym, subst}
-use Rattle.std.specs.List.{AllByRecursion}
-use Rattle.std.specs.Str.{IsUtf8}
-use Rattle.std.proofs.lemmas.Str.{IsUtf8-append, IsUtf8-nil, IsUtf8-from_is_utf8}
+use Rattle.std.proofs.Common.{◌≡◌, ℕ, Bool, true, false, if◌then◌else◌, bytes_eq, ltb, List, [], ◌∷◌, Option, Some, None, codes, Result, Ok, Err, IfOk, refl, sym, subst}
+use Rattle.std.specs.List.{AllByRecursion, list_all}
+use Rattle.std.specs.Str.{IsUtf8, IsAscii}
+use Rattle.std.proofs.lemmas.Bool.{ltb-true, and_parts}
+use Rattle.std.proofs.lemmas.Str.{IsUtf8-append, IsUtf8-nil, IsUtf8-from_ascii}
+use Rattle.std.proofs.lemmas.Str.Ascii.{IsAscii-nil, IsAscii-cons}
 use Rattle.rnc_lex.specs.declared.token.Lexeme.{Lexeme}
 use Rattle.rnc_lex.specs.declared.token.Keyword.{Keyword}
 use Rattle.rnc_lex.specs.declared.token.Keyword.TheVariants as word
@@ -55,26 +57,34 @@ follow_text (one_more name g more) t = follow_text more (group_text g t.1.1)
 
 -- ---- names and literals
 
+all_ascii : (bytes : List ℕ) → list_all (λ b. ltb b 128) bytes ≡ true → IsAscii bytes
+all_ascii [] e = IsAscii-nil
+all_ascii (b ∷ bytes) e = let parts = and_parts (ltb b 128) (list_all (λ c. ltb c 128) bytes) e in IsAscii-cons b bytes (ltb-true b 128 parts.0) (all_ascii bytes parts.1)
+
+-- words of the program's own
+program_text : (bytes : List ℕ) → list_all (λ b. ltb b 128) bytes ≡ true → IsUtf8 bytes
+program_text bytes e = IsUtf8-from_ascii bytes (all_ascii bytes e)
+
 keyword_is_text : (k : Keyword) → IsUtf8 (keyword_text k)
-keyword_is_text word.Attribute = IsUtf8-from_is_utf8 (codes "attribute") refl
-keyword_is_text word.Default = IsUtf8-from_is_utf8 (codes "default") refl
-keyword_is_text word.Datatypes = IsUtf8-from_is_utf8 (codes "datatypes") refl
-keyword_is_text word.Div = IsUtf8-from_is_utf8 (codes "div") refl
-keyword_is_text word.Element = IsUtf8-from_is_utf8 (codes "element") refl
-keyword_is_text word.Empty = IsUtf8-from_is_utf8 (codes "empty") refl
-keyword_is_text word.External = IsUtf8-from_is_utf8 (codes "external") refl
-keyword_is_text word.Grammar = IsUtf8-from_is_utf8 (codes "grammar") refl
-keyword_is_text word.Include = IsUtf8-from_is_utf8 (codes "include") refl
-keyword_is_text word.Inherit = IsUtf8-from_is_utf8 (codes "inherit") refl
-keyword_is_text word.List = IsUtf8-from_is_utf8 (codes "list") refl
-keyword_is_text word.Mixed = IsUtf8-from_is_utf8 (codes "mixed") refl
-keyword_is_text word.Namespace = IsUtf8-from_is_utf8 (codes "namespace") refl
-keyword_is_text word.NotAllowed = IsUtf8-from_is_utf8 (codes "notAllowed") refl
-keyword_is_text word.Parent = IsUtf8-from_is_utf8 (codes "parent") refl
-keyword_is_text word.Start = IsUtf8-from_is_utf8 (codes "start") refl
-keyword_is_text word.String = IsUtf8-from_is_utf8 (codes "string") refl
-keyword_is_text word.Text = IsUtf8-from_is_utf8 (codes "text") refl
-keyword_is_text word.Token = IsUtf8-from_is_utf8 (codes "token") refl
+keyword_is_text word.Attribute = program_text (codes "attribute") refl
+keyword_is_text word.Default = program_text (codes "default") refl
+keyword_is_text word.Datatypes = program_text (codes "datatypes") refl
+keyword_is_text word.Div = program_text (codes "div") refl
+keyword_is_text word.Element = program_text (codes "element") refl
+keyword_is_text word.Empty = program_text (codes "empty") refl
+keyword_is_text word.External = program_text (codes "external") refl
+keyword_is_text word.Grammar = program_text (codes "grammar") refl
+keyword_is_text word.Include = program_text (codes "include") refl
+keyword_is_text word.Inherit = program_text (codes "inherit") refl
+keyword_is_text word.List = program_text (codes "list") refl
+keyword_is_text word.Mixed = program_text (codes "mixed") refl
+keyword_is_text word.Namespace = program_text (codes "namespace") refl
+keyword_is_text word.NotAllowed = program_text (codes "notAllowed") refl
+keyword_is_text word.Parent = program_text (codes "parent") refl
+keyword_is_text word.Start = program_text (codes "start") refl
+keyword_is_text word.String = program_text (codes "string") refl
+keyword_is_text word.Text = program_text (codes "text") refl
+keyword_is_text word.Token = program_text (codes "token") refl
 
 id_text : {token : Lexeme} {name : List ℕ} → IsAnyId token name → LexemeIsText token → IsUtf8 name
 id_text an_identifier t = t
@@ -104,14 +114,14 @@ abbrev DeclarationsAreText : List Declaration → Type 0
 DeclarationsAreText declarations = AllByRecursion DeclarationIsText declarations
 
 -- one of two
-either_text : {A : Type 0} {P : A → Type 0} (b : Bool) (x y : A) (rest : Option A) → (if b then Some x else rest) ≡ Some y → P x → (rest ≡ Some y → P y) → P y
-either_text {P = P} true x y rest e p h = let same : x ≡ y = cc in subst P same p
-either_text false x y rest e p h = h e
+either_text : {A : Type 0} (P : A → Type 0) (b : Bool) (x y : A) (rest : Option A) → (if b then Some x else rest) ≡ Some y → P x → (rest ≡ Some y → P y) → P y
+either_text P true x y rest e p h = let same : x ≡ y = cc in subst P same p
+either_text P false x y rest e p h = h e
 
 namespace_declared_text : (declarations : List Declaration) → DeclarationsAreText declarations → (prefix : List ℕ) (ns : Namespace) → declared_namespace declarations prefix ≡ Some ns → NamespaceIsText ns
 namespace_declared_text [] t prefix ns e = absurd cc
-namespace_declared_text (declaration.Namespace bound to ∷ more) t prefix ns e = either_text {P = NamespaceIsText} (bytes_eq bound prefix) to ns (declared_namespace more prefix) e t.0 (namespace_declared_text more t.1 prefix ns)
-namespace_declared_text (declaration.Default (Some bound) to ∷ more) t prefix ns e = either_text {P = NamespaceIsText} (bytes_eq bound prefix) to ns (declared_namespace more prefix) e t.0 (namespace_declared_text more t.1 prefix ns)
+namespace_declared_text (declaration.Namespace bound to ∷ more) t prefix ns e = either_text NamespaceIsText (bytes_eq bound prefix) to ns (declared_namespace more prefix) e t.0 (namespace_declared_text more t.1 prefix ns)
+namespace_declared_text (declaration.Default (Some bound) to ∷ more) t prefix ns e = either_text NamespaceIsText (bytes_eq bound prefix) to ns (declared_namespace more prefix) e t.0 (namespace_declared_text more t.1 prefix ns)
 namespace_declared_text (declaration.Default None to ∷ more) t prefix ns e = namespace_declared_text more t.1 prefix ns e
 namespace_declared_text (declaration.Datatypes bound uri ∷ more) t prefix ns e = namespace_declared_text more t.1 prefix ns e
 
@@ -125,13 +135,13 @@ library_declared_text : (declarations : List Declaration) → DeclarationsAreTex
 library_declared_text [] t prefix uri e = absurd cc
 library_declared_text (declaration.Namespace bound to ∷ more) t prefix uri e = library_declared_text more t.1 prefix uri e
 library_declared_text (declaration.Default bound to ∷ more) t prefix uri e = library_declared_text more t.1 prefix uri e
-library_declared_text (declaration.Datatypes bound to ∷ more) t prefix uri e = either_text {P = IsUtf8} (bytes_eq bound prefix) to uri (declared_library more prefix) e t.0 (library_declared_text more t.1 prefix uri)
+library_declared_text (declaration.Datatypes bound to ∷ more) t prefix uri e = either_text IsUtf8 (bytes_eq bound prefix) to uri (declared_library more prefix) e t.0 (library_declared_text more t.1 prefix uri)
 
 xml_text : IsUtf8 xml_uri
-xml_text = IsUtf8-from_is_utf8 xml_uri refl
+xml_text = program_text xml_uri refl
 
 xsd_text : IsUtf8 xsd_uri
-xsd_text = IsUtf8-from_is_utf8 xsd_uri refl
+xsd_text = program_text xsd_uri refl
 
 or_text : (one other : Option (List ℕ)) (uri : List ℕ) → or_else one other ≡ Some uri → (one ≡ Some uri → IsUtf8 uri) → (other ≡ Some uri → IsUtf8 uri) → IsUtf8 uri
 or_text (Some x) other uri e p q = p e
@@ -139,11 +149,11 @@ or_text None other uri e p q = q e
 
 scope_text : (declarations : List Declaration) → DeclarationsAreText declarations → GivesText (scope_of declarations)
 scope_text declarations t = record {
-  namespaces = λ prefix ns e. either_text {P = NamespaceIsText} (bytes_eq prefix (codes "xml")) (Uri xml_uri) ns (declared_namespace declarations prefix) e xml_text (namespace_declared_text declarations t prefix ns);
+  namespaces = λ prefix ns e. either_text NamespaceIsText (bytes_eq prefix (codes "xml")) (Uri xml_uri) ns (declared_namespace declarations prefix) e xml_text (namespace_declared_text declarations t prefix ns);
   unprefixed = default_text declarations t;
   libraries = λ prefix uri e. or_text (declared_library declarations prefix) (if bytes_eq prefix (codes "xsd") then Some xsd_uri else None) uri e
       (library_declared_text declarations t prefix uri)
-      (λ d. either_text {P = IsUtf8} (bytes_eq prefix (codes "xsd")) xsd_uri uri None d xsd_text (λ n. absurd cc));
+      (λ d. either_text IsUtf8 (bytes_eq prefix (codes "xsd")) xsd_uri uri None d xsd_text (λ n. absurd cc));
 }
 
 namespace_text : {tokens rest : List Lexeme} {ns : Namespace} → IsNamespace tokens ns rest → AreText tokens → NamespaceIsText ns × AreText rest

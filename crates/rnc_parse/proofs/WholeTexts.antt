@@ -14,15 +14,16 @@ use Rattle.rnc_lex.proofs.Lexed.{texts_have_one_answer, texts_have_an_answer}
 use Rattle.rnc_parse.specs.declared.declaration.Declaration.{Declaration}
 use Rattle.rnc_parse.specs.Scopes.{scope_of, AreInOrder, IsDeclaredTwice, Use, prefix_of}
 use Rattle.rnc_parse.specs.Written.{WrittenSurface}
-use Rattle.rnc_parse.specs.Files.{lexemes, open_behind, Says, IsNoFile, NeedsPrefix, DeclaresTwice, IsShallow, IsTooDeepAt}
+use Rattle.rnc_parse.specs.Files.{lexemes, open_behind, Says, IsNoFile, IsSomeFile, NeedsPrefix, DeclaresTwice, IsShallow, IsTooDeepAt}
 use Rattle.rnc_parse.specs.Reads.{Reads, Refuses}
 use Rattle.rnc_parse.specs.Reading.{Reading, read, no_reading, no_prefix}
 use Rattle.rnc_parse.specs.ReadingFiles.{declarations_at, body_at}
 use Rattle.rnc_parse.specs.AnsweringParts.{every_prefix, IsBehindDeclarations}
-use Rattle.rnc_parse.specs.Laws.{TextsAreReadAsOne, WhatIsReadIsNotRefused, TextsAreReadOrRefused}
+use Rattle.rnc_parse.specs.Laws.{TextsAreReadAsOne, WhatIsReadIsNotRefused, TextsAreRefusedForOneCause, TextsAreReadOrRefused}
 use Rattle.rnc_parse.proofs.Saying.{says, no_declarations, no_body, needs, is_twice, none_missed, declarations_miss_none}
 use Rattle.rnc_parse.proofs.Unambiguous.{says_one_thing, says_no_refusal}
 use Rattle.rnc_parse.proofs.TooDeep.{Deep, deep_end, deep_more, deep_here}
+use Rattle.rnc_parse.proofs.AgreeingFiles.{file_declarations}
 use Rattle.rnc_parse.proofs.InOrder.{in_order_or_not}
 
 -- ---- one reading
@@ -125,3 +126,93 @@ text_answered text (Err lex.NoMemory) told l = absurd (told refl)
 
 pub read_or_refused : TextsAreReadOrRefused
 read_or_refused text = let a = texts_have_an_answer text in text_answered text a.0 a.1 a.2
+
+-- ---- one cause
+
+cause_of : LexFault → Cause
+cause_of (lex.BadEscape at) = cause.BadEscape
+cause_of (lex.BadLiteral at) = cause.BadLiteral
+cause_of (lex.BadCharacter at) = cause.BadCharacter
+cause_of lex.NoMemory = cause.TooLarge
+
+same_fault : (text : List ℕ) (one other : LexFault) → one ≢ lex.NoMemory → other ≢ lex.NoMemory → Lexes text (Err one) → Lexes text (Err other) → cause_of one ≡ cause_of other
+same_fault text one other m n a b =
+    let same : Err one ≡ Err other = texts_have_one_answer text (Err one) (Err other) (λ e. m (let is : one ≡ lex.NoMemory = cc in is)) (λ e. n (let is : other ≡ lex.NoMemory = cc in is)) a b in
+    let faults : one ≡ other = cc in
+    ap cause_of faults
+
+-- a text whose letters are no tokens
+faulty_once : (text : List ℕ) (one : LexFault) → one ≢ lex.NoMemory → Lexes text (Err one) → (other : Cause) → Refuses text other → cause_of one ≡ other
+unfolding cause_of
+faulty_once text one told l cause.BadEscape r = same_fault text one (lex.BadEscape r.0) told (λ e. absurd cc) l r.1
+faulty_once text one told l cause.BadLiteral r = same_fault text one (lex.BadLiteral r.0) told (λ e. absurd cc) l r.1
+faulty_once text one told l cause.BadCharacter r = same_fault text one (lex.BadCharacter r.0) told (λ e. absurd cc) l r.1
+faulty_once text one told l cause.TooDeep r = elim (no_fault text r.1.tokens one told r.1.lexed l) [ ]
+faulty_once text one told l cause.Syntax r = elim (no_fault text r.tokens one told r.lexed l) [ ]
+faulty_once text one told l cause.Twice r = elim (no_fault text r.1.tokens one told r.1.lexed l) [ ]
+faulty_once text one told l cause.UndeclaredPrefix r = elim (no_fault text r.1.tokens one told r.1.lexed l) [ ]
+faulty_once text one told l _ r = elim r [ ]
+
+-- tokens that say nothing, where no bracket is too deep
+data SaysNothing (tokens : List Lexeme) : Cause → Type 0 where
+  in_no_reading : IsNoFile tokens → SaysNothing tokens cause.Syntax
+  declares_again : {prefix : List ℕ} → DeclaresTwice tokens prefix → SaysNothing tokens cause.Twice
+  leaves_out : {used : Use} → NeedsPrefix tokens used → SaysNothing tokens cause.UndeclaredPrefix
+
+some_reading : {tokens : List Lexeme} {declarations : List Declaration} → IsSomeFile tokens declarations → IsNoFile tokens → ⊥
+some_reading {declarations = ds} f none = none f.scope ds f.surface f.file
+
+order_needed : {tokens : List Lexeme} {prefix : List ℕ} {used : Use} → DeclaresTwice tokens prefix → NeedsPrefix tokens used → ⊥
+order_needed {prefix = p} t n =
+    let is = file_declarations t.some_file.file in
+    let are = file_declarations n.some_file.file in
+    let same : t.declarations ≡ n.declarations = cc in
+    n.in_order p (subst (λ (ds : List Declaration). IsDeclaredTwice ds p) same t.twice)
+
+nothing_once : {tokens : List Lexeme} {one other : Cause} → SaysNothing tokens one → SaysNothing tokens other → one ≡ other
+nothing_once (in_no_reading a) (in_no_reading b) = refl
+nothing_once (declares_again a) (declares_again b) = refl
+nothing_once (leaves_out a) (leaves_out b) = refl
+nothing_once (in_no_reading a) (declares_again b) = elim (some_reading b.some_file a) [ ]
+nothing_once (in_no_reading a) (leaves_out b) = elim (some_reading b.some_file a) [ ]
+nothing_once (declares_again a) (in_no_reading b) = elim (some_reading a.some_file b) [ ]
+nothing_once (declares_again a) (leaves_out b) = elim (order_needed a b) [ ]
+nothing_once (leaves_out a) (in_no_reading b) = elim (some_reading a.some_file b) [ ]
+nothing_once (leaves_out a) (declares_again b) = elim (order_needed b a) [ ]
+
+moved_shallow : (text : List ℕ) (one other : List RncToken) → Lexes text (Ok one) → Lexes text (Ok other) → IsShallow (lexemes one) → IsShallow (lexemes other)
+moved_shallow text one other a b s = subst (λ (ts : List RncToken). IsShallow (lexemes ts)) (same_tokens text one other a b) s
+
+moved_nothing : (text : List ℕ) (one other : List RncToken) (why : Cause) → Lexes text (Ok one) → Lexes text (Ok other) → SaysNothing (lexemes one) why → SaysNothing (lexemes other) why
+moved_nothing text one other why a b s = subst (λ (ts : List RncToken). SaysNothing (lexemes ts) why) (same_tokens text one other a b) s
+
+shallow_once : (text : List ℕ) (tokens : List RncToken) (one : Cause) → Lexes text (Ok tokens) → IsShallow (lexemes tokens) → SaysNothing (lexemes tokens) one → (other : Cause) → Refuses text other → one ≡ other
+shallow_once text tokens one l s n cause.BadEscape r = elim (no_fault text tokens (lex.BadEscape r.0) (λ e. absurd cc) l r.1) [ ]
+shallow_once text tokens one l s n cause.BadLiteral r = elim (no_fault text tokens (lex.BadLiteral r.0) (λ e. absurd cc) l r.1) [ ]
+shallow_once text tokens one l s n cause.BadCharacter r = elim (no_fault text tokens (lex.BadCharacter r.0) (λ e. absurd cc) l r.1) [ ]
+shallow_once text tokens one l s n cause.TooDeep r = elim (too_deep r.1.tokens r.0 (moved_shallow text tokens r.1.tokens l r.1.lexed s) r.1.deep) [ ]
+shallow_once text tokens one l s n cause.Syntax r = nothing_once (moved_nothing text tokens r.tokens one l r.lexed n) (in_no_reading r.no_file)
+shallow_once text tokens one l s n cause.Twice r = nothing_once (moved_nothing text tokens r.1.tokens one l r.1.lexed n) (declares_again r.1.twice)
+shallow_once text tokens one l s n cause.UndeclaredPrefix r = nothing_once (moved_nothing text tokens r.1.tokens one l r.1.lexed n) (leaves_out r.1.needed)
+shallow_once text tokens one l s n _ r = elim r [ ]
+
+deep_once : (text : List ℕ) (tokens : List RncToken) (at : ℕ) → Lexes text (Ok tokens) → IsTooDeepAt tokens at → (other : Cause) → Refuses text other → cause.TooDeep ≡ other
+deep_once text tokens at l d cause.BadEscape r = elim (no_fault text tokens (lex.BadEscape r.0) (λ e. absurd cc) l r.1) [ ]
+deep_once text tokens at l d cause.BadLiteral r = elim (no_fault text tokens (lex.BadLiteral r.0) (λ e. absurd cc) l r.1) [ ]
+deep_once text tokens at l d cause.BadCharacter r = elim (no_fault text tokens (lex.BadCharacter r.0) (λ e. absurd cc) l r.1) [ ]
+deep_once text tokens at l d cause.TooDeep r = refl
+deep_once text tokens at l d cause.Syntax r = elim (too_deep tokens at (moved_shallow text r.tokens tokens r.lexed l r.shallow) d) [ ]
+deep_once text tokens at l d cause.Twice r = elim (too_deep tokens at (moved_shallow text r.1.tokens tokens r.1.lexed l r.1.shallow) d) [ ]
+deep_once text tokens at l d cause.UndeclaredPrefix r = elim (too_deep tokens at (moved_shallow text r.1.tokens tokens r.1.lexed l r.1.shallow) d) [ ]
+deep_once text tokens at l d _ r = elim r [ ]
+
+pub refused_once : TextsAreRefusedForOneCause
+unfolding cause_of
+refused_once text cause.BadEscape other r s = faulty_once text (lex.BadEscape r.0) (λ e. absurd cc) r.1 other s
+refused_once text cause.BadLiteral other r s = faulty_once text (lex.BadLiteral r.0) (λ e. absurd cc) r.1 other s
+refused_once text cause.BadCharacter other r s = faulty_once text (lex.BadCharacter r.0) (λ e. absurd cc) r.1 other s
+refused_once text cause.TooDeep other r s = deep_once text r.1.tokens r.0 r.1.lexed r.1.deep other s
+refused_once text cause.Syntax other r s = shallow_once text r.tokens cause.Syntax r.lexed r.shallow (in_no_reading r.no_file) other s
+refused_once text cause.Twice other r s = shallow_once text r.1.tokens cause.Twice r.1.lexed r.1.shallow (declares_again r.1.twice) other s
+refused_once text cause.UndeclaredPrefix other r s = shallow_once text r.1.tokens cause.UndeclaredPrefix r.1.lexed r.1.shallow (leaves_out r.1.needed) other s
+refused_once text _ other r s = elim r [ ]

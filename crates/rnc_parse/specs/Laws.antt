@@ -17,6 +17,10 @@ TextsAreReadAsOne = (text : List ℕ) (one other : WrittenSurface) → Reads tex
 abbrev pub WhatIsReadIsNotRefused : Type 0
 WhatIsReadIsNotRefused = (text : List ℕ) (surface : WrittenSurface) (why : Cause) → Reads text surface → Refuses text why → ⊥
 
+-- a text is refused for one cause at most
+abbrev pub TextsAreRefusedForOneCause : Type 0
+TextsAreRefusedForOneCause = (text : List ℕ) (one other : Cause) → Refuses text one → Refuses text other → one ≡ other
+
 -- each text is read, or refused for some cause
 abbrev pub TextsAreReadOrRefused : Type 0
 TextsAreReadOrRefused = (text : List ℕ) → ((surface : WrittenSurface) × Reads text surface) ⊎ ((why : Cause) × Refuses text why)

@@ -1,6 +1,6 @@
 //! Laws of reading. Nothing here runs.
 
-ghost use Rattle.rnc_parse.specs.Laws.{TextsAreReadAsOne, WhatIsReadIsNotRefused, TextsAreReadOrRefused, TokensSayOneThing, WhatIsSaidIsNotRefused};
+ghost use Rattle.rnc_parse.specs.Laws.{TextsAreReadAsOne, WhatIsReadIsNotRefused, TextsAreRefusedForOneCause, TextsAreReadOrRefused, TokensSayOneThing, WhatIsSaidIsNotRefused};
 
 /// A text is read as one surface at most.
 pub fn texts_are_read_as_one()
@@ -10,6 +10,11 @@ pub fn texts_are_read_as_one()
 /// A text that is read is refused for no cause.
 pub fn what_is_read_is_not_refused()
     ensures { WhatIsReadIsNotRefused }
+{}
+
+/// A text is refused for one cause at most.
+pub fn texts_are_refused_for_one_cause()
+    ensures { TextsAreRefusedForOneCause }
 {}
 
 /// Each text is read, or refused for some cause.

@@ -50,7 +50,8 @@ impl From<NoMemory> for ReadFault {
     }
 }
 
-/// Reads a schema file. It takes time and memory in proportion to the text.
+/// Reads a schema file: what it says, or the one cause for which it says nothing. It takes time and memory in proportion to
+/// the text.
 pub fn read(alloc: Global, text: &str) -> Result<Surface, ReadFault>
     ensures answers { AnswersText text.now result }
     ensures texts { IfOk result (λ surface. HasUtf8Texts (surface_of surface)) }
