@@ -35,7 +35,7 @@ pub enum ReadFault {
     Lex(LexFault),
     /// The 201st bracket is opened at the place.
     TooDeep(usize),
-    /// The tokens are in no reading. The place is that of a token behind which no reading goes on, or the text's length.
+    /// The tokens are in no reading. The place is that of the token at which reading stopped, or the text's length.
     Syntax(usize),
     /// The prefix stands for nothing.
     UndeclaredPrefix(Bytes),
