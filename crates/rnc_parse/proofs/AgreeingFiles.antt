@@ -34,7 +34,8 @@ unfolding first
 literal_no_inherit one_literal = refl
 literal_no_inherit (joined_literals later e) = refl
 
-namespace_uri_found : {tokens rest : List Lexeme} {ns : Namespace} → IsNamespace tokens ns rest → stands Tilde rest ≡ false → namespace_uri_at tokens ≡ read ns rest
+namespace_uri_found : {tokens rest : List Lexeme} {ns : Namespace} →
+    IsNamespace tokens ns rest → stands Tilde rest ≡ false → namespace_uri_at tokens ≡ read ns rest
 unfolding namespace_uri_at first behind
 namespace_uri_found (of_uri l) e = rw (literal_no_inherit l, literal_found l e) refl
 namespace_uri_found inherited e = refl
@@ -44,12 +45,16 @@ unfolding first
 id_no_equals rest an_identifier = refl
 id_no_equals rest a_keyword = refl
 
-declaration_found : {tokens rest : List Lexeme} {one : Declaration} → IsDeclaration tokens one rest → stands Tilde rest ≡ false → declaration_at tokens ≡ read one rest
+declaration_found : {tokens rest : List Lexeme} {one : Declaration} →
+    IsDeclaration tokens one rest → stands Tilde rest ≡ false → declaration_at tokens ≡ read one rest
 unfolding declaration_at namespace_declaration_at default_declaration_at library_declaration_at default_prefix_at first behind
-declaration_found (a_namespace_prefix {tokens = t} name ns) e = rw (any_id_found (mark Equals ∷ t) name, behind_itself Equals t, namespace_uri_found ns e) refl
+declaration_found (a_namespace_prefix {tokens = t} name ns) e =
+    rw (any_id_found (mark Equals ∷ t) name, behind_itself Equals t, namespace_uri_found ns e) refl
 declaration_found (a_default {tokens = t} ns) e = rw (behind_itself Equals t, namespace_uri_found ns e) refl
-declaration_found (a_default_prefix {tokens = t} name ns) e = rw (id_no_equals (mark Equals ∷ t) name, any_id_found (mark Equals ∷ t) name, behind_itself Equals t, namespace_uri_found ns e) refl
-declaration_found (a_library_prefix {tokens = t} name l) e = rw (any_id_found (mark Equals ∷ t) name, behind_itself Equals t, literal_found l e) refl
+declaration_found (a_default_prefix {tokens = t} name ns) e =
+    rw (id_no_equals (mark Equals ∷ t) name, any_id_found (mark Equals ∷ t) name, behind_itself Equals t, namespace_uri_found ns e) refl
+declaration_found (a_library_prefix {tokens = t} name l) e =
+    rw (any_id_found (mark Equals ∷ t) name, behind_itself Equals t, literal_found l e) refl
 
 declaration_goes : {tokens rest : List Lexeme} {one : Declaration} → IsDeclaration tokens one rest → is_declaration (first tokens) ≡ true
 unfolding first
@@ -65,11 +70,14 @@ declaration_no_tilde (a_default ns) = refl
 declaration_no_tilde (a_default_prefix name ns) = refl
 declaration_no_tilde (a_library_prefix name l) = refl
 
-declarations_no_tilde : {tokens rest : List Lexeme} {declarations : List Declaration} → AreDeclarations tokens declarations rest → stands Tilde rest ≡ false → stands Tilde tokens ≡ false
+declarations_no_tilde : {tokens rest : List Lexeme} {declarations : List Declaration} →
+    AreDeclarations tokens declarations rest → stands Tilde rest ≡ false → stands Tilde tokens ≡ false
 declarations_no_tilde no_declaration e = e
 declarations_no_tilde (next_declaration one later) e = declaration_no_tilde one
 
-declarations_from : {tokens rest : List Lexeme} {declarations : List Declaration} (before : List Declaration) → AreDeclarations tokens declarations rest → is_declaration (first rest) ≡ false → stands Tilde rest ≡ false → loop_at (λ t. is_declaration (first t)) declaration_at (λ ds one. ds ++ one ∷ []) before tokens ≡ read (before ++ declarations) rest
+declarations_from : {tokens rest : List Lexeme} {declarations : List Declaration} (before : List Declaration) →
+    AreDeclarations tokens declarations rest → is_declaration (first rest) ≡ false → stands Tilde rest ≡ false →
+    loop_at (λ t. is_declaration (first t)) declaration_at (λ ds one. ds ++ one ∷ []) before tokens ≡ read (before ++ declarations) rest
 declarations_from {rest = r} before no_declaration e f = loop_ends (λ t. is_declaration (first t)) declaration_at (λ ds one. ds ++ one ∷ []) before r e ∙ ap (λ l. read l r) (sym (append-nil before))
 declarations_from {tokens = t} {rest = r} before (next_declaration {first = one} {more = ds} one_is later) e f =
     loop_on (λ t. is_declaration (first t)) declaration_at (λ ds one. ds ++ one ∷ []) declaration_shortens before t (declaration_goes one_is)
@@ -77,7 +85,9 @@ declarations_from {tokens = t} {rest = r} before (next_declaration {first = one}
     ∙ declarations_from (before ++ one ∷ []) later e f
     ∙ ap (λ (l : List Declaration). read l r) (append_assoc before (one ∷ []) ds)
 
-pub declarations_found : {tokens rest : List Lexeme} {declarations : List Declaration} → AreDeclarations tokens declarations rest → is_declaration (first rest) ≡ false → stands Tilde rest ≡ false → declarations_at tokens ≡ read declarations rest
+pub declarations_found : {tokens rest : List Lexeme} {declarations : List Declaration} →
+    AreDeclarations tokens declarations rest → is_declaration (first rest) ≡ false → stands Tilde rest ≡ false →
+    declarations_at tokens ≡ read declarations rest
 unfolding declarations_at
 declarations_found are e f = declarations_from [] are e f
 
@@ -109,13 +119,16 @@ unfolding first
 follow_makes_none no_more e = e
 follow_makes_none (one_more name g later) e = refl
 
-repeat_makes_none : {m : Symbol} {make : WrittenPattern → WrittenPattern} (rest : List Lexeme) → Repeats m make → makes_items (first (mark m ∷ rest)) ≡ false
+repeat_makes_none : {m : Symbol} {make : WrittenPattern → WrittenPattern} (rest : List Lexeme) →
+    Repeats m make → makes_items (first (mark m ∷ rest)) ≡ false
 unfolding first
 repeat_makes_none rest by_question_mark = refl
 repeat_makes_none rest by_star = refl
 repeat_makes_none rest by_plus = refl
 
-more_makes_none : {scope : Scope} {m : Symbol} {join : WrittenPattern → WrittenPattern → WrittenPattern} {tokens rest : List Lexeme} {ps : List WrittenPattern} → Joins m join → AreMoreParticles scope m tokens ps rest → makes_items (first tokens) ≡ false
+more_makes_none : {scope : Scope} {m : Symbol} {join : WrittenPattern → WrittenPattern → WrittenPattern} {tokens rest : List Lexeme}
+    {ps : List WrittenPattern} →
+    Joins m join → AreMoreParticles scope m tokens ps rest → makes_items (first tokens) ≡ false
 unfolding first
 more_makes_none by_comma (last_particle p) = refl
 more_makes_none by_bar (last_particle p) = refl
@@ -124,7 +137,8 @@ more_makes_none by_comma (next_particle p later) = refl
 more_makes_none by_bar (next_particle p later) = refl
 more_makes_none by_ampersand (next_particle p later) = refl
 
-params_make_none : {tokens rest : List Lexeme} {params : List Param} → MayHaveParams tokens params rest → makes_items (first rest) ≡ false → makes_items (first tokens) ≡ false
+params_make_none : {tokens rest : List Lexeme} {params : List Param} →
+    MayHaveParams tokens params rest → makes_items (first rest) ≡ false → makes_items (first tokens) ≡ false
 unfolding first
 params_make_none without_params e = e
 params_make_none (with_params inside) e = refl
@@ -134,14 +148,16 @@ unfolding first
 literal_makes_none one_literal = refl
 literal_makes_none (joined_literals later e) = refl
 
-type_no_items : {scope : Scope} {k : Lexeme} {type : _} (rest : List Lexeme) → IsType scope k type → makes_items (first rest) ≡ false → begins_items (k ∷ rest) ≡ false
+type_no_items : {scope : Scope} {k : Lexeme} {type : _} (rest : List Lexeme) →
+    IsType scope k type → makes_items (first rest) ≡ false → begins_items (k ∷ rest) ≡ false
 unfolding begins_items first behind
 type_no_items rest (library_type e) none = no_bracket rest none
 type_no_items rest string_type none = refl
 type_no_items rest token_type none = refl
 
 -- a primary begins no items
-primary_no_items : {scope : Scope} {tokens rest : List Lexeme} {p : WrittenPattern} → IsPrimary scope tokens p rest → makes_items (first rest) ≡ false → begins_items tokens ≡ false
+primary_no_items : {scope : Scope} {tokens rest : List Lexeme} {p : WrittenPattern} →
+    IsPrimary scope tokens p rest → makes_items (first rest) ≡ false → begins_items tokens ≡ false
 unfolding begins_items first behind
 primary_no_items (an_element c p) e = refl
 primary_no_items (an_attribute c p) e = refl
@@ -160,7 +176,8 @@ primary_no_items (an_external f) e = refl
 primary_no_items (a_grammar_of items) e = refl
 primary_no_items (parenthesized p) e = refl
 
-primary_no_declaration : {scope : Scope} {tokens rest : List Lexeme} {p : WrittenPattern} → IsPrimary scope tokens p rest → (is_declaration (first tokens) ≡ false) × (stands Tilde tokens ≡ false)
+primary_no_declaration : {scope : Scope} {tokens rest : List Lexeme} {p : WrittenPattern} →
+    IsPrimary scope tokens p rest → (is_declaration (first tokens) ≡ false) × (stands Tilde tokens ≡ false)
 unfolding first
 primary_no_declaration (an_element c p) = (refl, refl)
 primary_no_declaration (an_attribute c p) = (refl, refl)
@@ -192,7 +209,8 @@ record Stripped (scope : Scope) (tokens : List Lexeme) (p : WrittenPattern) (res
   pub no_items : begins_items inside ≡ false
   pub no_declaration : (is_declaration (first inside) ≡ false) × (stands Tilde inside ≡ false)
 
-type_no_declaration : {scope : Scope} {k : Lexeme} {type : _} (rest : List Lexeme) → IsType scope k type → (is_declaration (first (k ∷ rest)) ≡ false) × (stands Tilde (k ∷ rest) ≡ false)
+type_no_declaration : {scope : Scope} {k : Lexeme} {type : _} (rest : List Lexeme) →
+    IsType scope k type → (is_declaration (first (k ∷ rest)) ≡ false) × (stands Tilde (k ∷ rest) ≡ false)
 unfolding first
 type_no_declaration rest (library_type e) = (refl, refl)
 type_no_declaration rest string_type = (refl, refl)
@@ -202,7 +220,8 @@ minus_makes_none : (rest : List Lexeme) → makes_items (first (mark Minus ∷ r
 unfolding first
 minus_makes_none rest = refl
 
-strip : {scope : Scope} {tokens rest : List Lexeme} {p : WrittenPattern} → IsPattern scope tokens p rest → makes_items (first rest) ≡ false → Stripped scope tokens p rest
+strip : {scope : Scope} {tokens rest : List Lexeme} {p : WrittenPattern} →
+    IsPattern scope tokens p rest → makes_items (first rest) ≡ false → Stripped scope tokens p rest
 strip (one_particle (once (annotated g primary f))) e = record { inside = _; opened = g; pattern = one_particle (once (annotated without_group primary f)); no_group = primary_no_group primary; no_items = primary_no_items primary (follow_makes_none f e); no_declaration = primary_no_declaration primary }
 strip (one_particle (repeated {behind = b} makes (annotated g primary f) later)) e = record { inside = _; opened = g; pattern = one_particle (repeated makes (annotated without_group primary f) later); no_group = primary_no_group primary; no_items = primary_no_items primary (follow_makes_none f (repeat_makes_none b makes)); no_declaration = primary_no_declaration primary }
 strip (several_particles sign (once (annotated g primary f)) later is) e = record { inside = _; opened = g; pattern = several_particles sign (once (annotated without_group primary f)) later is; no_group = primary_no_group primary; no_items = primary_no_items primary (follow_makes_none f (more_makes_none sign later)); no_declaration = primary_no_declaration primary }
@@ -228,12 +247,14 @@ item_begins (a_div items) = refl
 item_begins (an_include f) = refl
 item_begins (an_include_but f rs) = refl
 
-note_begins_items : {name : Lexeme} {inside rest : List Lexeme} → NamesElement name → IsGroup inside rest → begins_items (name ∷ inside) ≡ true
+note_begins_items : {name : Lexeme} {inside rest : List Lexeme} →
+    NamesElement name → IsGroup inside rest → begins_items (name ∷ inside) ≡ true
 unfolding begins_items first behind
 note_begins_items by_identifier (bracketed g) = refl
 note_begins_items by_prefixed_name (bracketed g) = refl
 
-item_no_declaration : {scope : Scope} {tokens rest : List Lexeme} {one : _} → IsItem scope tokens one rest → (is_declaration (first tokens) ≡ false) × (stands Tilde tokens ≡ false)
+item_no_declaration : {scope : Scope} {tokens rest : List Lexeme} {one : _} →
+    IsItem scope tokens one rest → (is_declaration (first tokens) ≡ false) × (stands Tilde tokens ≡ false)
 unfolding first
 item_no_declaration (a_definition start_defined c p) = (refl, refl)
 item_no_declaration (a_definition name_defined c p) = (refl, refl)
@@ -241,20 +262,25 @@ item_no_declaration (a_div items) = (refl, refl)
 item_no_declaration (an_include f) = (refl, refl)
 item_no_declaration (an_include_but f rs) = (refl, refl)
 
-note_no_declaration : {name : Lexeme} (inside : List Lexeme) → NamesElement name → (is_declaration (first (name ∷ inside)) ≡ false) × (stands Tilde (name ∷ inside) ≡ false)
+note_no_declaration : {name : Lexeme} (inside : List Lexeme) →
+    NamesElement name → (is_declaration (first (name ∷ inside)) ≡ false) × (stands Tilde (name ∷ inside) ≡ false)
 unfolding first
 note_no_declaration inside by_identifier = (refl, refl)
 note_no_declaration inside by_prefixed_name = (refl, refl)
 
-strip_items : {scope : Scope} {tokens : List Lexeme} {items : WrittenItems} → AreItems scope tokens items [] → StrippedItems scope tokens items []
+strip_items : {scope : Scope} {tokens : List Lexeme} {items : WrittenItems} →
+    AreItems scope tokens items [] → StrippedItems scope tokens items []
 unfolding begins_items first
-strip_items no_more_items = record { inside = []; opened = without_group; are = no_more_items; no_group = refl; some_items = refl; no_declaration = (refl, refl) }
+strip_items no_more_items =
+    record { inside = []; opened = without_group; are = no_more_items; no_group = refl; some_items = refl; no_declaration = (refl, refl) }
 strip_items (next_item g item later) = record { inside = _; opened = g; are = next_item without_group item later; no_group = item_no_group item; some_items = item_begins item; no_declaration = item_no_declaration item }
 strip_items (item_annotation {inside = i} g name noted later) = record { inside = _; opened = g; are = item_annotation without_group name noted later; no_group = note_no_group i name; some_items = note_begins_items name noted; no_declaration = note_no_declaration i name }
 
 -- ---- bodies
 
-open_no_declaration : {tokens inside : List Lexeme} → MayBegin tokens inside → (is_declaration (first inside) ≡ false) × (stands Tilde inside ≡ false) → (is_declaration (first tokens) ≡ false) × (stands Tilde tokens ≡ false)
+open_no_declaration : {tokens inside : List Lexeme} →
+    MayBegin tokens inside → (is_declaration (first inside) ≡ false) × (stands Tilde inside ≡ false) →
+    (is_declaration (first tokens) ≡ false) × (stands Tilde tokens ≡ false)
 unfolding first
 open_no_declaration without_group h = h
 open_no_declaration (with_group (bracketed g)) h = (refl, refl)
@@ -271,23 +297,29 @@ nothing_ends : EndsItems []
 unfolding first
 nothing_ends = record { stops = refl; front = refl }
 
-pub body_no_declaration : {scope : Scope} {tokens : List Lexeme} {surface : WrittenSurface} → IsBody scope tokens surface → (is_declaration (first tokens) ≡ false) × (stands Tilde tokens ≡ false)
+pub body_no_declaration : {scope : Scope} {tokens : List Lexeme} {surface : WrittenSurface} →
+    IsBody scope tokens surface → (is_declaration (first tokens) ≡ false) × (stands Tilde tokens ≡ false)
 body_no_declaration (pattern_body g p) = let t = strip p nothing_makes_items in open_no_declaration g (open_no_declaration t.opened t.no_declaration)
 body_no_declaration (grammar_body g items) = let t = strip_items items in open_no_declaration g (open_no_declaration t.opened t.no_declaration)
 
 module _ (d s : Scope) where
-  ended_agrees : {A B : Type 0} {value : A} (make : A → B) (x : Reading A) → Agrees d s value [] x → Agrees d s (make value) [] (ended make x)
+  ended_agrees : {A B : Type 0} {value : A} (make : A → B) (x : Reading A) →
+      Agrees d s value [] x → Agrees d s (make value) [] (ended make x)
   ended_agrees make x agrees = agree_bind x _ agrees (λ other same. found (λ eq. ap make (same eq)))
 
-  pattern_ended : {tokens : List Lexeme} {p : WrittenPattern} (left : ℕ) → Counts 0 left tokens → IsPattern s tokens p [] → Agrees d s (a_pattern p) [] (ended a_pattern (pattern_at d left tokens))
+  pattern_ended : {tokens : List Lexeme} {p : WrittenPattern} (left : ℕ) →
+      Counts 0 left tokens → IsPattern s tokens p [] → Agrees d s (a_pattern p) [] (ended a_pattern (pattern_at d left tokens))
   unfolding pattern_at
-  pattern_ended {tokens = t} left c p = ended_agrees a_pattern (pattern_within d left (inside_at d left) t) (pattern_agrees d s 0 left c p nothing_goes_with)
+  pattern_ended {tokens = t} left c p =
+      ended_agrees a_pattern (pattern_within d left (inside_at d left) t) (pattern_agrees d s 0 left c p nothing_goes_with)
 
-  items_ended : {tokens : List Lexeme} {items : WrittenItems} (left : ℕ) → Counts 0 left tokens → AreItems s tokens items [] → Agrees d s (a_grammar items) [] (ended a_grammar (items_at d left tokens))
+  items_ended : {tokens : List Lexeme} {items : WrittenItems} (left : ℕ) →
+      Counts 0 left tokens → AreItems s tokens items [] → Agrees d s (a_grammar items) [] (ended a_grammar (items_at d left tokens))
   unfolding items_at items_within
   items_ended {tokens = t} left c items = ended_agrees a_grammar (items_within d left (inside_at d left) t) (items_agree d s 0 left c no_items no_items (λ eq. refl) items nothing_ends)
 
-  pub body_agrees : {tokens : List Lexeme} {surface : WrittenSurface} (left : ℕ) → Counts 0 left tokens → IsBody s tokens surface → Agrees d s surface [] (body_at d left tokens)
+  pub body_agrees : {tokens : List Lexeme} {surface : WrittenSurface} (left : ℕ) →
+      Counts 0 left tokens → IsBody s tokens surface → Agrees d s surface [] (body_at d left tokens)
   unfolding body_at
   body_agrees left c (pattern_body without_group p) =
       let t = strip p nothing_makes_items in
@@ -311,5 +343,7 @@ module _ (d s : Scope) where
       (rw t.some_items (items_ended left (counts_behind c (passes_opening (with_group g))) items)))
 
 -- the declarations of a file are those that are found, and its body is behind them
-pub file_declarations : {scope : Scope} {tokens : List Lexeme} {declarations : List Declaration} {surface : WrittenSurface} (file : IsFile scope tokens declarations surface) → declarations_at tokens ≡ read declarations file.body
+pub file_declarations : {scope : Scope} {tokens : List Lexeme} {declarations : List Declaration}
+    {surface : WrittenSurface} (file : IsFile scope tokens declarations surface) →
+    declarations_at tokens ≡ read declarations file.body
 file_declarations file = let begins = body_no_declaration file.said in declarations_found file.declared begins.0 begins.1

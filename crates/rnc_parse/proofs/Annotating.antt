@@ -19,24 +19,32 @@ closed_over closers [] e = refl
 closed_over closers (token ∷ tokens) e = absurd cc
 
 -- behind one token
-pub closed_step : (closers : List Symbol) (tokens : List Lexeme) (token : Lexeme) → Some token ≡ first tokens → closed_at closers tokens ≡ elim (behind_bracket (bracket_of token) closers) [ None ↦ no_reading | Some [] ↦ read (tt {0}) (behind tokens) | Some (n ∷ l) ↦ closed_at (n ∷ l) (behind tokens) ]
+pub closed_step : (closers : List Symbol) (tokens : List Lexeme) (token : Lexeme) → Some token ≡ first tokens →
+    closed_at closers tokens ≡ elim (behind_bracket (bracket_of token) closers) [ None ↦ no_reading | Some [] ↦ read (tt {0}) (behind tokens) | Some (n ∷ l) ↦ closed_at (n ∷ l) (behind tokens) ]
 unfolding closed_at first behind
 closed_step closers [] token e = absurd cc
 closed_step closers (x ∷ tokens) token e =
     let same : x ≡ token = cc in
     ap (λ (t : Lexeme). elim (behind_bracket (bracket_of t) closers) [ None ↦ no_reading | Some [] ↦ read (tt {0}) tokens | Some (n ∷ l) ↦ closed_at (n ∷ l) tokens ]) same
 
-pub closed_more : (closers later : List Symbol) (tokens : List Lexeme) (token : Lexeme) (n : ℕ) → Some token ≡ first tokens → behind_bracket (bracket_of token) (reverse closers) ≡ Some (reverse later) → n ≡ length later → false ≡ eqb n 0 → closed_at (reverse closers) tokens ≡ closed_at (reverse later) (behind tokens)
+pub closed_more : (closers later : List Symbol) (tokens : List Lexeme) (token : Lexeme) (n : ℕ) → Some token ≡ first tokens →
+    behind_bracket (bracket_of token) (reverse closers) ≡ Some (reverse later) → n ≡ length later → false ≡ eqb n 0 →
+    closed_at (reverse closers) tokens ≡ closed_at (reverse later) (behind tokens)
 closed_more closers later tokens token n e b long some = more (reverse later) b (λ (none : length (reverse later) ≡ 0). let short = length-reverse later in let zero_long : n ≡ 0 = omega arith in absurd (false≢true (some ∙ eq-eqb n 0 zero_long)))
   where
-    more : (all : List Symbol) → behind_bracket (bracket_of token) (reverse closers) ≡ Some all → (length all ≡ 0 → ⊥) → closed_at (reverse closers) tokens ≡ closed_at all (behind tokens)
+    more : (all : List Symbol) → behind_bracket (bracket_of token) (reverse closers) ≡ Some all → (length all ≡ 0 → ⊥) →
+        closed_at (reverse closers) tokens ≡ closed_at all (behind tokens)
     more [] h none = absurd (none refl)
     more (x ∷ l) h none = closed_step (reverse closers) tokens token e ∙ rw h refl
 
-pub closed_end : (closers later : List Symbol) (tokens : List Lexeme) (token : Lexeme) (n : ℕ) → Some token ≡ first tokens → behind_bracket (bracket_of token) (reverse closers) ≡ Some (reverse later) → n ≡ length later → true ≡ eqb n 0 → closed_at (reverse closers) tokens ≡ read tt (behind tokens)
-closed_end closers later tokens token n e b long none = end (reverse later) b (let short = length-reverse later in let zero_long : n ≡ 0 = eqb-true n 0 (sym none) in omega arith)
+pub closed_end : (closers later : List Symbol) (tokens : List Lexeme) (token : Lexeme) (n : ℕ) → Some token ≡ first tokens →
+    behind_bracket (bracket_of token) (reverse closers) ≡ Some (reverse later) → n ≡ length later → true ≡ eqb n 0 →
+    closed_at (reverse closers) tokens ≡ read tt (behind tokens)
+closed_end closers later tokens token n e b long none =
+    end (reverse later) b (let short = length-reverse later in let zero_long : n ≡ 0 = eqb-true n 0 (sym none) in omega arith)
   where
-    end : (all : List Symbol) → behind_bracket (bracket_of token) (reverse closers) ≡ Some all → length all ≡ 0 → closed_at (reverse closers) tokens ≡ read tt (behind tokens)
+    end : (all : List Symbol) → behind_bracket (bracket_of token) (reverse closers) ≡ Some all → length all ≡ 0 →
+        closed_at (reverse closers) tokens ≡ read tt (behind tokens)
     end [] h none = closed_step (reverse closers) tokens token e ∙ rw h refl
     end (x ∷ l) h none = absurd (omega arith)
 
@@ -49,7 +57,8 @@ closed_stops closers later tokens left token total stop.NoMemory e all h = tt
 
 -- ---- what follows
 
-pub follow_more : (tokens rest : List Lexeme) → stands Follows tokens ≡ true → follower_at tokens ≡ read tt rest → follow_at tokens ≡ follow_at rest
+pub follow_more : (tokens rest : List Lexeme) → stands Follows tokens ≡ true → follower_at tokens ≡ read tt rest →
+    follow_at tokens ≡ follow_at rest
 unfolding follow_at
 follow_more tokens rest goes e = loop_more (stands Follows) follower_at (λ _ _. tt) follower_shortens tt tokens rest tt goes e
 
@@ -57,7 +66,8 @@ pub follow_ends : (tokens : List Lexeme) → stands Follows tokens ≡ false →
 unfolding follow_at
 follow_ends tokens stops = loop_ends (stands Follows) follower_at (λ _ _. tt) tt tokens stops
 
-pub follow_stops : (tokens : List Lexeme) (total : Reading (Unit {0})) (e : Stop) → stands Follows tokens ≡ true → follow_at tokens ≡ total → Halts e (follower_at tokens) → Halts e total
+pub follow_stops : (tokens : List Lexeme) (total : Reading (Unit {0})) (e : Stop) → stands Follows tokens ≡ true →
+    follow_at tokens ≡ total → Halts e (follower_at tokens) → Halts e total
 unfolding follow_at
 follow_stops tokens total e goes all h = loop_fails (stands Follows) follower_at (λ _ _. tt) tt tokens total e follower_shortens goes all h
 

@@ -27,35 +27,46 @@ some_by : {A : Type 0} (b : Bool) (x y : A) (rest : Option A) → (if b then Som
 some_by true x y rest e = inl refl
 some_by false x y rest e = inr e
 
-one_in : (made : List Binding) (one binding : Binding) → ((i : ℕ) × (slice_get made i ≡ Some binding)) → (i : ℕ) × (slice_get (one ∷ made) i ≡ Some binding)
+one_in : (made : List Binding) (one binding : Binding) → ((i : ℕ) × (slice_get made i ≡ Some binding)) →
+    (i : ℕ) × (slice_get (one ∷ made) i ≡ Some binding)
 one_in made one binding s = (suc s.0, s.1)
 
-pub bound_name : (done : List Declaration) (prefix : List ℕ) (ns : Namespace) → declared_namespace done prefix ≡ Some ns → Stands done (a_namespace prefix)
+pub bound_name : (done : List Declaration) (prefix : List ℕ) (ns : Namespace) → declared_namespace done prefix ≡ Some ns →
+    Stands done (a_namespace prefix)
 bound_name [] prefix ns e = absurd cc
-bound_name (declaration.Namespace bound to ∷ done) prefix ns e = elim (some_by (bytes_eq bound prefix) to ns (declared_namespace done prefix) e) [
-  | inl is ↦ (zero, ap (λ p. Some (a_namespace p)) ((bytes_decides bound prefix).0 is))
-  | inr further ↦ one_in (bindings done) (a_namespace bound) (a_namespace prefix) (bound_name done prefix ns further)
-]
-bound_name (declaration.Default (Some bound) to ∷ done) prefix ns e = elim (some_by (bytes_eq bound prefix) to ns (declared_namespace done prefix) e) [
-  | inl is ↦ (suc zero, ap (λ p. Some (a_namespace p)) ((bytes_decides bound prefix).0 is))
-  | inr further ↦ one_in (a_namespace bound ∷ bindings done) the_default (a_namespace prefix) (one_in (bindings done) (a_namespace bound) (a_namespace prefix) (bound_name done prefix ns further))
-]
-bound_name (declaration.Default None to ∷ done) prefix ns e = one_in (bindings done) the_default (a_namespace prefix) (bound_name done prefix ns e)
-bound_name (declaration.Datatypes bound uri ∷ done) prefix ns e = one_in (bindings done) (a_library bound) (a_namespace prefix) (bound_name done prefix ns e)
+bound_name (declaration.Namespace bound to ∷ done) prefix ns e =
+    elim (some_by (bytes_eq bound prefix) to ns (declared_namespace done prefix) e) [
+      | inl is ↦ (zero, ap (λ p. Some (a_namespace p)) ((bytes_decides bound prefix).0 is))
+      | inr further ↦ one_in (bindings done) (a_namespace bound) (a_namespace prefix) (bound_name done prefix ns further)
+    ]
+bound_name (declaration.Default (Some bound) to ∷ done) prefix ns e =
+    elim (some_by (bytes_eq bound prefix) to ns (declared_namespace done prefix) e) [
+      | inl is ↦ (suc zero, ap (λ p. Some (a_namespace p)) ((bytes_decides bound prefix).0 is))
+      | inr further ↦ one_in (a_namespace bound ∷ bindings done) the_default (a_namespace prefix) (one_in (bindings done) (a_namespace bound) (a_namespace prefix) (bound_name done prefix ns further))
+    ]
+bound_name (declaration.Default None to ∷ done) prefix ns e =
+    one_in (bindings done) the_default (a_namespace prefix) (bound_name done prefix ns e)
+bound_name (declaration.Datatypes bound uri ∷ done) prefix ns e =
+    one_in (bindings done) (a_library bound) (a_namespace prefix) (bound_name done prefix ns e)
 
-pub bound_library : (done : List Declaration) (prefix uri : List ℕ) → declared_library done prefix ≡ Some uri → Stands done (a_library prefix)
+pub bound_library : (done : List Declaration) (prefix uri : List ℕ) → declared_library done prefix ≡ Some uri →
+    Stands done (a_library prefix)
 bound_library [] prefix uri e = absurd cc
-bound_library (declaration.Datatypes bound to ∷ done) prefix uri e = elim (some_by (bytes_eq bound prefix) to uri (declared_library done prefix) e) [
-  | inl is ↦ (zero, ap (λ p. Some (a_library p)) ((bytes_decides bound prefix).0 is))
-  | inr further ↦ one_in (bindings done) (a_library bound) (a_library prefix) (bound_library done prefix uri further)
-]
-bound_library (declaration.Namespace bound ns ∷ done) prefix uri e = one_in (bindings done) (a_namespace bound) (a_library prefix) (bound_library done prefix uri e)
+bound_library (declaration.Datatypes bound to ∷ done) prefix uri e =
+    elim (some_by (bytes_eq bound prefix) to uri (declared_library done prefix) e) [
+      | inl is ↦ (zero, ap (λ p. Some (a_library p)) ((bytes_decides bound prefix).0 is))
+      | inr further ↦ one_in (bindings done) (a_library bound) (a_library prefix) (bound_library done prefix uri further)
+    ]
+bound_library (declaration.Namespace bound ns ∷ done) prefix uri e =
+    one_in (bindings done) (a_namespace bound) (a_library prefix) (bound_library done prefix uri e)
 bound_library (declaration.Default (Some bound) ns ∷ done) prefix uri e = one_in (a_namespace bound ∷ bindings done) the_default (a_library prefix) (one_in (bindings done) (a_namespace bound) (a_library prefix) (bound_library done prefix uri e))
-bound_library (declaration.Default None ns ∷ done) prefix uri e = one_in (bindings done) the_default (a_library prefix) (bound_library done prefix uri e)
+bound_library (declaration.Default None ns ∷ done) prefix uri e =
+    one_in (bindings done) the_default (a_library prefix) (bound_library done prefix uri e)
 
 pub bound_default : (done : List Declaration) (ns : Namespace) → given_default done ≡ Some ns → Stands done the_default
 bound_default [] ns e = absurd cc
-bound_default (declaration.Namespace bound to ∷ done) ns e = one_in (bindings done) (a_namespace bound) the_default (bound_default done ns e)
+bound_default (declaration.Namespace bound to ∷ done) ns e =
+    one_in (bindings done) (a_namespace bound) the_default (bound_default done ns e)
 bound_default (declaration.Default (Some bound) to ∷ done) ns e = (zero, refl)
 bound_default (declaration.Default None to ∷ done) ns e = (zero, refl)
 bound_default (declaration.Datatypes bound uri ∷ done) ns e = one_in (bindings done) (a_library bound) the_default (bound_default done ns e)
@@ -63,7 +74,8 @@ bound_default (declaration.Datatypes bound uri ∷ done) ns e = one_in (bindings
 -- ---- clashes
 
 -- one more that makes a binding that stands there
-pub made_again : (done : List Declaration) (one : Declaration) (last : Binding) (rest : List Binding) → bindings (one ∷ []) ≡ last ∷ rest → Stands done last → IsDeclaredTwice (done ++ one ∷ []) (bound_prefix last)
+pub made_again : (done : List Declaration) (one : Declaration) (last : Binding) (rest : List Binding) → bindings (one ∷ []) ≡ last ∷ rest →
+    Stands done last → IsDeclaredTwice (done ++ one ∷ []) (bound_prefix last)
 made_again done one last rest is s =
     let all : bindings (done ++ one ∷ []) ≡ bindings done ++ last ∷ rest = bindings_more done (one ∷ []) ∙ ap (λ (bs : List Binding). bindings done ++ bs) is in
     made_twice {binding = last} (record {
@@ -83,8 +95,10 @@ binds_right (declaration.Datatypes bound uri ∷ done) more prefix ns b = binds_
 
 pub binds_left : (done more : List Declaration) (prefix : List ℕ) (ns : Namespace) → Binds done prefix ns → Binds (done ++ more) prefix ns
 binds_left [] more prefix ns b = elim b [ ]
-binds_left (declaration.Namespace bound to ∷ done) more prefix ns b = elim b [ inl is ↦ inl is | inr h ↦ inr (binds_left done more prefix ns h) ]
-binds_left (declaration.Default (Some bound) to ∷ done) more prefix ns b = elim b [ inl is ↦ inl is | inr h ↦ inr (binds_left done more prefix ns h) ]
+binds_left (declaration.Namespace bound to ∷ done) more prefix ns b =
+    elim b [ inl is ↦ inl is | inr h ↦ inr (binds_left done more prefix ns h) ]
+binds_left (declaration.Default (Some bound) to ∷ done) more prefix ns b =
+    elim b [ inl is ↦ inl is | inr h ↦ inr (binds_left done more prefix ns h) ]
 binds_left (declaration.Default None to ∷ done) more prefix ns b = binds_left done more prefix ns b
 binds_left (declaration.Datatypes bound uri ∷ done) more prefix ns b = binds_left done more prefix ns b
 
@@ -111,12 +125,15 @@ pub not_of_xml : (ns : Namespace) → is_of_xml ns ≡ true → ns ≡ Uri xml_u
 not_of_xml Inherited e = absurd cc
 not_of_xml (Uri uri) e = ap (λ (u : List ℕ). Uri u) ((bytes_decides uri xml_uri).0 e)
 
-may_not : (prefix : List ℕ) (ns : Namespace) (x y : Bool) → bytes_eq prefix (codes "xmlns") ≡ x → bytes_eq prefix (codes "xml") ≡ y → (if x then false else (if y then is_of_xml ns else true)) ≡ false → (prefix ≡ codes "xmlns") ⊎ ((prefix ≡ codes "xml") × (ns ≢ Uri xml_uri))
+may_not : (prefix : List ℕ) (ns : Namespace) (x y : Bool) → bytes_eq prefix (codes "xmlns") ≡ x → bytes_eq prefix (codes "xml") ≡ y →
+    (if x then false else (if y then is_of_xml ns else true)) ≡ false →
+    (prefix ≡ codes "xmlns") ⊎ ((prefix ≡ codes "xml") × (ns ≢ Uri xml_uri))
 may_not prefix ns true y ex ey e = inl ((bytes_decides prefix (codes "xmlns")).0 ex)
 may_not prefix ns false true ex ey e = inr ((bytes_decides prefix (codes "xml")).0 ey, of_xml ns e)
 may_not prefix ns false false ex ey e = absurd cc
 
-pub may_not_be_bound : (done : List Declaration) (prefix : List ℕ) (ns : Namespace) → may_be_bound prefix ns ≡ false → IsDeclaredTwice (done ++ declaration.Namespace prefix ns ∷ []) prefix
+pub may_not_be_bound : (done : List Declaration) (prefix : List ℕ) (ns : Namespace) → may_be_bound prefix ns ≡ false →
+    IsDeclaredTwice (done ++ declaration.Namespace prefix ns ∷ []) prefix
 may_not_be_bound done prefix ns e = elim (may_not prefix ns (bytes_eq prefix (codes "xmlns")) (bytes_eq prefix (codes "xml")) refl refl e) [
   | inl is ↦ subst (λ (p : List ℕ). IsDeclaredTwice (done ++ declaration.Namespace prefix ns ∷ []) p) (sym is) (xmlns_declared ns (binds_right done (declaration.Namespace prefix ns ∷ []) (codes "xmlns") ns (inl (is, refl))))
   | inr h ↦ subst (λ (p : List ℕ). IsDeclaredTwice (done ++ declaration.Namespace prefix ns ∷ []) p) (sym h.0) (xml_declared_otherwise ns (binds_right done (declaration.Namespace prefix ns ∷ []) (codes "xml") ns (inl (h.0, refl))) h.1)

@@ -5,11 +5,13 @@ use Rattle.rnc_parse.specs.declared.surface.NameClass.{NameClass, Choice, Choice
 use Rattle.rnc_parse.specs.Views.{class_of, classes_of, classes_behind}
 use Rattle.rnc_parse.specs.Written.{WrittenClass, no_name, either, joined, joined_or}
 
-pub joined_push : {A : Type 0} (join : A → A → A) (one : A) (others : List A) (last : A) → joined join one (others ++ last ∷ []) ≡ join (joined join one others) last
+pub joined_push : {A : Type 0} (join : A → A → A) (one : A) (others : List A) (last : A) →
+    joined join one (others ++ last ∷ []) ≡ join (joined join one others) last
 joined_push join one [] last = refl
 joined_push join one (next ∷ others) last = joined_push join (join one next) others last
 
-pub joined_or_push : {A : Type 0} (join : A → A → A) (none : A) (all : List A) (last : A) → 0 < length all → joined_or join none (all ++ last ∷ []) ≡ join (joined_or join none all) last
+pub joined_or_push : {A : Type 0} (join : A → A → A) (none : A) (all : List A) (last : A) →
+    0 < length all → joined_or join none (all ++ last ∷ []) ≡ join (joined_or join none all) last
 joined_or_push join none [] last some = absurd (omega arith)
 joined_or_push join none (one ∷ others) last some = joined_push join one others last
 
@@ -17,7 +19,8 @@ row_of : NameClass → (n : Count) × Row_of-NameClass n
 row_of (Choice' shape row) = (_, row)
 row_of _ = (_, end_of-NameClass)
 
-behind_row : (n : _) (before : WrittenClass) (row : Row_of-NameClass n) → classes_behind before row ≡ joined either before (map class_of (items-the_row-NameClass n row))
+behind_row : (n : _) (before : WrittenClass) (row : Row_of-NameClass n) →
+    classes_behind before row ≡ joined either before (map class_of (items-the_row-NameClass n row))
 behind_row n before end_of-NameClass = refl
 behind_row n before (more_of-NameClass next row) = behind_row _ (either before (class_of next)) row
 

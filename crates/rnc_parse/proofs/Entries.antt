@@ -40,7 +40,10 @@ module _ {T : Type 0} where
   abbrev found : List ℕ → List (Vec ℕ Global × T) → Option T
   found name entries = lookup (at_bytes name) entries
 
-  step : (e : Vec ℕ Global × T) (entries : List (Vec ℕ Global × T)) (key : Vec ℕ Global) (value : T) (name : List ℕ) → found name (insert_entry by_items entries key value) ≡ cond (at_bytes name key) (Some value) (found name entries) → (o : Ordering) → by_items key e.0 ≡ o → found name (match_ordering o ((key, value) ∷ e ∷ entries) ((e.0, value) ∷ entries) (e ∷ insert_entry by_items entries key value)) ≡ cond (at_bytes name key) (Some value) (cond (at_bytes name e.0) (Some e.1) (found name entries))
+  step : (e : Vec ℕ Global × T) (entries : List (Vec ℕ Global × T)) (key : Vec ℕ Global) (value : T) (name : List ℕ) →
+      found name (insert_entry by_items entries key value) ≡ cond (at_bytes name key) (Some value) (found name entries) → (o : Ordering) →
+      by_items key e.0 ≡ o →
+      found name (match_ordering o ((key, value) ∷ e ∷ entries) ((e.0, value) ∷ entries) (e ∷ insert_entry by_items entries key value)) ≡ cond (at_bytes name key) (Some value) (cond (at_bytes name e.0) (Some e.1) (found name entries))
   step e entries key value name further Less compared = refl
   step e entries key value name further Equal compared =
       let same : at_bytes name e.0 ≡ at_bytes name key = ap (λ bytes. is_eq (slice_cmp nat_cmp name bytes)) (sym (exact_bytes key.items e.0.items compared)) in
@@ -52,12 +55,16 @@ module _ {T : Type 0} where
       (λ at_e at_key. greater_differs key.items e.0.items compared (sym (found_is name key.items at_key) ∙ found_is name e.0.items at_e))
 
   -- whoever looks for a name finds what was put in under it, and else what was there
-  pub lookup_inserted : (entries : List (Vec ℕ Global × T)) (key : Vec ℕ Global) (value : T) (name : List ℕ) → found name (insert_entry by_items entries key value) ≡ cond (at_bytes name key) (Some value) (found name entries)
+  pub lookup_inserted : (entries : List (Vec ℕ Global × T)) (key : Vec ℕ Global) (value : T) (name : List ℕ) →
+      found name (insert_entry by_items entries key value) ≡ cond (at_bytes name key) (Some value) (found name entries)
   lookup_inserted [] key value name = refl
-  lookup_inserted (e ∷ entries) key value name = step e entries key value name (lookup_inserted entries key value name) (by_items key e.0) refl
+  lookup_inserted (e ∷ entries) key value name =
+      step e entries key value name (lookup_inserted entries key value name) (by_items key e.0) refl
 
   -- the same of a map with an entry put in under the bytes of a name
-  pub kept_added : (old new : BTreeMap (Vec ℕ Global) T) (key : Vec ℕ Global) (value : T) (name : List ℕ) → key.items ≡ name → new.entries ≡ insert_entry by_items old.entries key value → (other : List ℕ) → get_by (λ k. slice_cmp nat_cmp other k.items) new ≡ cond (bytes_eq other name) (Some value) (get_by (λ k. slice_cmp nat_cmp other k.items) old)
+  pub kept_added : (old new : BTreeMap (Vec ℕ Global) T) (key : Vec ℕ Global) (value : T) (name : List ℕ) → key.items ≡ name →
+      new.entries ≡ insert_entry by_items old.entries key value → (other : List ℕ) →
+      get_by (λ k. slice_cmp nat_cmp other k.items) new ≡ cond (bytes_eq other name) (Some value) (get_by (λ k. slice_cmp nat_cmp other k.items) old)
   kept_added old new key value name items entries other =
       ap (lookup (at_bytes other)) entries
       ∙ lookup_inserted old.entries key value other

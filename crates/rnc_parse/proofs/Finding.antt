@@ -29,16 +29,20 @@ halts_as stop.NoMemory x y same h = tt
 
 module _ {B D : Type 0} (goes_on : List Lexeme → Bool) (step : List Lexeme → Reading B) (add : D → B → D) where
   -- so is a step of a loop
-  pub loop_fails : (before : D) (tokens : List Lexeme) (total : Reading D) (e : Stop) → Shortens goes_on step → goes_on tokens ≡ true → loop_at goes_on step add before tokens ≡ total → Halts e (step tokens) → Halts e total
+  pub loop_fails : (before : D) (tokens : List Lexeme) (total : Reading D) (e : Stop) → Shortens goes_on step → goes_on tokens ≡ true →
+      loop_at goes_on step add before tokens ≡ total → Halts e (step tokens) → Halts e total
   loop_fails before tokens total e shortens goes all h =
       halts_as e _ total (sym (loop_on goes_on step add shortens before tokens goes) ∙ all)
       (failed e (step tokens) (λ value rest. loop_at goes_on step add (add before value) rest) h)
 
   -- a loop behind one more step
-  pub loop_next : (before after : D) (value : B) (tokens rest : List Lexeme) (total : Reading D) → Shortens goes_on step → goes_on tokens ≡ true → step tokens ≡ read value rest → add before value ≡ after → loop_at goes_on step add before tokens ≡ total → loop_at goes_on step add after rest ≡ total
+  pub loop_next : (before after : D) (value : B) (tokens rest : List Lexeme) (total : Reading D) → Shortens goes_on step →
+      goes_on tokens ≡ true → step tokens ≡ read value rest → add before value ≡ after → loop_at goes_on step add before tokens ≡ total →
+      loop_at goes_on step add after rest ≡ total
   loop_next before after value tokens rest total shortens goes e same all =
       ap (λ x. loop_at goes_on step add x rest) (sym same) ∙ sym (loop_more goes_on step add shortens before tokens rest value goes e) ∙ all
 
   -- a loop that is over
-  pub loop_over : (before : D) (tokens : List Lexeme) (total : Reading D) → goes_on tokens ≡ false → loop_at goes_on step add before tokens ≡ total → total ≡ read before tokens
+  pub loop_over : (before : D) (tokens : List Lexeme) (total : Reading D) → goes_on tokens ≡ false →
+      loop_at goes_on step add before tokens ≡ total → total ≡ read before tokens
   loop_over before tokens total stops all = sym all ∙ loop_ends goes_on step add before tokens stops

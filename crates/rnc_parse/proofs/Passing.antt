@@ -25,8 +25,10 @@ use Rattle.rnc_parse.specs.Files.{open_behind, IsNamespace, of_uri, inherited, I
 pub record Fits (most before : ℕ) (tokens : List Lexeme) : Type 0 where
   pub few : (front rest : List Lexeme) → tokens ≡ front ++ rest → open_behind before front ≤ most
 
-fits_plain : {token : Lexeme} {rest : List Lexeme} {most : ℕ} (before : ℕ) → IsPlain token → Fits most before (token ∷ rest) → Fits most before rest
-fits_plain {token = token} {most = m} before plain fits = record { few = λ front rest e. subst (λ n. n ≤ m) (step token front plain) (fits.few (token ∷ front) rest (ap (λ l. token ∷ l) e)) }
+fits_plain : {token : Lexeme} {rest : List Lexeme} {most : ℕ} (before : ℕ) →
+    IsPlain token → Fits most before (token ∷ rest) → Fits most before rest
+fits_plain {token = token} {most = m} before plain fits =
+    record { few = λ front rest e. subst (λ n. n ≤ m) (step token front plain) (fits.few (token ∷ front) rest (ap (λ l. token ∷ l) e)) }
   where
     step : (x : Lexeme) (front : List Lexeme) → IsPlain x → open_behind before (x ∷ front) ≡ open_behind before front
     step (mark LeftBrace) front h = absurd h
@@ -37,21 +39,28 @@ fits_plain {token = token} {most = m} before plain fits = record { few = λ fron
     step (mark RightBracket) front h = absurd h
     step _ front h = refl
 
-pub fits_opening : {opening closing : Symbol} {rest : List Lexeme} {most : ℕ} (before : ℕ) → Closes opening closing → Fits most before (mark opening ∷ rest) → Fits most (before + 1) rest
+pub fits_opening : {opening closing : Symbol} {rest : List Lexeme} {most : ℕ} (before : ℕ) →
+    Closes opening closing → Fits most before (mark opening ∷ rest) → Fits most (before + 1) rest
 fits_opening before braces fits = record { few = λ front rest e. fits.few (mark LeftBrace ∷ front) rest (ap (λ l. mark LeftBrace ∷ l) e) }
-fits_opening before parentheses fits = record { few = λ front rest e. fits.few (mark LeftParenthesis ∷ front) rest (ap (λ l. mark LeftParenthesis ∷ l) e) }
-fits_opening before brackets fits = record { few = λ front rest e. fits.few (mark LeftBracket ∷ front) rest (ap (λ l. mark LeftBracket ∷ l) e) }
+fits_opening before parentheses fits =
+    record { few = λ front rest e. fits.few (mark LeftParenthesis ∷ front) rest (ap (λ l. mark LeftParenthesis ∷ l) e) }
+fits_opening before brackets fits =
+    record { few = λ front rest e. fits.few (mark LeftBracket ∷ front) rest (ap (λ l. mark LeftBracket ∷ l) e) }
 
 one_less : {most : ℕ} (before : ℕ) (front : List Lexeme) → open_behind (before + 1 - 1) front ≤ most → open_behind before front ≤ most
 one_less {most = m} before front h = let e : before + 1 - 1 ≡ before = omega arith in subst (λ n. open_behind n front ≤ m) e h
 
-fits_closing : {opening closing : Symbol} {rest : List Lexeme} {most : ℕ} (before : ℕ) → Closes opening closing → Fits most (before + 1) (mark closing ∷ rest) → Fits most before rest
-fits_closing before braces fits = record { few = λ front rest e. one_less before front (fits.few (mark RightBrace ∷ front) rest (ap (λ l. mark RightBrace ∷ l) e)) }
+fits_closing : {opening closing : Symbol} {rest : List Lexeme} {most : ℕ} (before : ℕ) →
+    Closes opening closing → Fits most (before + 1) (mark closing ∷ rest) → Fits most before rest
+fits_closing before braces fits =
+    record { few = λ front rest e. one_less before front (fits.few (mark RightBrace ∷ front) rest (ap (λ l. mark RightBrace ∷ l) e)) }
 fits_closing before parentheses fits = record { few = λ front rest e. one_less before front (fits.few (mark RightParenthesis ∷ front) rest (ap (λ l. mark RightParenthesis ∷ l) e)) }
-fits_closing before brackets fits = record { few = λ front rest e. one_less before front (fits.few (mark RightBracket ∷ front) rest (ap (λ l. mark RightBracket ∷ l) e)) }
+fits_closing before brackets fits =
+    record { few = λ front rest e. one_less before front (fits.few (mark RightBracket ∷ front) rest (ap (λ l. mark RightBracket ∷ l) e)) }
 
 -- a bracket that may be opened is one of these
-pub fits_one : {opening closing : Symbol} {rest : List Lexeme} {most : ℕ} (before : ℕ) → Closes opening closing → Fits most before (mark opening ∷ rest) → before + 1 ≤ most
+pub fits_one : {opening closing : Symbol} {rest : List Lexeme} {most : ℕ} (before : ℕ) →
+    Closes opening closing → Fits most before (mark opening ∷ rest) → before + 1 ≤ most
 fits_one before closes fits = (fits_opening before closes fits).few [] _ refl
 
 -- ---- what is passed
@@ -71,7 +80,8 @@ p then q = record { within = omega (arith, p.within, q.within); fits = λ most b
 pub token : {x : Lexeme} {rest : List Lexeme} → IsPlain x → Passes (x ∷ rest) rest
 token plain = record { within = omega arith; fits = λ most before h. fits_plain before plain h }
 
-pub in_between : {opening closing : Symbol} {inside rest : List Lexeme} → Closes opening closing → Passes inside (mark closing ∷ rest) → Passes (mark opening ∷ inside) rest
+pub in_between : {opening closing : Symbol} {inside rest : List Lexeme} →
+    Closes opening closing → Passes inside (mark closing ∷ rest) → Passes (mark opening ∷ inside) rest
 in_between closes p = record {
   within = omega (arith, p.within);
   fits = λ most before h. fits_closing before closes (p.fits most (before + 1) (fits_opening before closes h));
@@ -120,13 +130,15 @@ plain_type token_type = tt
 
 pub passes_params : {tokens rest : List Lexeme} {params : List Param} → AreParams tokens params rest → Passes tokens rest
 passes_params no_param = nothing
-passes_params (param g name text more) = passes_opening g then token (plain_any_id name) then token tt then passes_literal text then passes_params more
+passes_params (param g name text more) =
+    passes_opening g then token (plain_any_id name) then token tt then passes_literal text then passes_params more
 
 pub passes_param_braces : {tokens rest : List Lexeme} {params : List Param} → MayHaveParams tokens params rest → Passes tokens rest
 passes_param_braces without_params = nothing
 passes_param_braces (with_params inside) = in_between braces (passes_params inside)
 
-pub passes_reference : {scope : Scope} {tokens rest : List Lexeme} {file : FileReference} → IsReference scope tokens file rest → Passes tokens rest
+pub passes_reference : {scope : Scope} {tokens rest : List Lexeme} {file : FileReference} →
+    IsReference scope tokens file rest → Passes tokens rest
 passes_reference (default_handed_on uri) = passes_literal uri
 passes_reference (prefix_handed_on uri name e) = passes_literal uri then token tt then token tt then token (plain_any_id name)
 
@@ -143,14 +155,17 @@ module _ {scope : Scope} {unprefixed : Namespace} where
     passes_class (several_classes c more e) = passes_annotated_class c then passes_more_classes more
     passes_class (except_class g w c) = passes_opening g then token (plain_wildcard w) then token tt then passes_annotated_class c
 
-    pub passes_more_classes : {tokens rest : List Lexeme} {classes : List WrittenClass} → AreMoreClasses scope unprefixed tokens classes rest → Passes tokens rest
+    pub passes_more_classes : {tokens rest : List Lexeme} {classes : List WrittenClass} →
+        AreMoreClasses scope unprefixed tokens classes rest → Passes tokens rest
     passes_more_classes (last_class c) = token tt then passes_annotated_class c
     passes_more_classes (next_class c more) = token tt then passes_annotated_class c then passes_more_classes more
 
-    pub passes_annotated_class : {tokens rest : List Lexeme} {class : WrittenClass} → IsAnnotatedClass scope unprefixed tokens class rest → Passes tokens rest
+    pub passes_annotated_class : {tokens rest : List Lexeme} {class : WrittenClass} →
+        IsAnnotatedClass scope unprefixed tokens class rest → Passes tokens rest
     passes_annotated_class (annotated_class g c f) = passes_opening g then passes_one_class c then passes_follow f
 
-    pub passes_one_class : {tokens rest : List Lexeme} {class : WrittenClass} → IsOneClass scope unprefixed tokens class rest → Passes tokens rest
+    pub passes_one_class : {tokens rest : List Lexeme} {class : WrittenClass} →
+        IsOneClass scope unprefixed tokens class rest → Passes tokens rest
     passes_one_class (unprefixed_name name) = token (plain_any_id name)
     passes_one_class (prefixed_name e) = token tt
     passes_one_class (wildcard w) = token (plain_wildcard w)
@@ -182,9 +197,11 @@ module _ {scope : Scope} where
     pub passes_pattern : {tokens rest : List Lexeme} {p : WrittenPattern} → IsPattern scope tokens p rest → Passes tokens rest
     passes_pattern (one_particle p) = passes_particle p
     passes_pattern (several_particles sign p more e) = passes_particle p then passes_more_particles (plain_sign sign) more
-    passes_pattern (type_but g type params p) = passes_opening g then token (plain_type type) then passes_param_braces params then token tt then passes_annotated p
+    passes_pattern (type_but g type params p) =
+        passes_opening g then token (plain_type type) then passes_param_braces params then token tt then passes_annotated p
 
-    pub passes_more_particles : {sign : Symbol} {tokens rest : List Lexeme} {more : List WrittenPattern} → IsPlain (mark sign) → AreMoreParticles scope sign tokens more rest → Passes tokens rest
+    pub passes_more_particles : {sign : Symbol} {tokens rest : List Lexeme} {more : List WrittenPattern} →
+        IsPlain (mark sign) → AreMoreParticles scope sign tokens more rest → Passes tokens rest
     passes_more_particles plain (last_particle p) = token plain then passes_particle p
     passes_more_particles plain (next_particle p more) = token plain then passes_particle p then passes_more_particles plain more
 
@@ -215,20 +232,25 @@ module _ {scope : Scope} where
     pub passes_items : {tokens rest : List Lexeme} {items : WrittenItems} → AreItems scope tokens items rest → Passes tokens rest
     passes_items no_more_items = nothing
     passes_items (next_item g item more) = passes_opening g then passes_item item then passes_items more
-    passes_items (item_annotation g name group more) = passes_opening g then token (plain_element_name name) then passes_group group then passes_items more
+    passes_items (item_annotation g name group more) =
+        passes_opening g then token (plain_element_name name) then passes_group group then passes_items more
 
     pub passes_item : {tokens rest : List Lexeme} {item : WrittenItem} → IsItem scope tokens item rest → Passes tokens rest
     passes_item (a_definition name sign p) = token (plain_defined name) then token (plain_combine sign) then passes_pattern p
     passes_item (a_div items) = token tt then in_between braces (passes_items items)
     passes_item (an_include file) = token tt then passes_reference file
-    passes_item (an_include_but file replacements) = token tt then passes_reference file then in_between braces (passes_replacements replacements)
+    passes_item (an_include_but file replacements) =
+        token tt then passes_reference file then in_between braces (passes_replacements replacements)
 
-    pub passes_replacements : {tokens rest : List Lexeme} {replacements : WrittenReplacements} → AreReplacements scope tokens replacements rest → Passes tokens rest
+    pub passes_replacements : {tokens rest : List Lexeme} {replacements : WrittenReplacements} →
+        AreReplacements scope tokens replacements rest → Passes tokens rest
     passes_replacements no_more_replacements = nothing
     passes_replacements (next_replacement g one more) = passes_opening g then passes_replacement one then passes_replacements more
-    passes_replacements (replacement_annotation g name group more) = passes_opening g then token (plain_element_name name) then passes_group group then passes_replacements more
+    passes_replacements (replacement_annotation g name group more) =
+        passes_opening g then token (plain_element_name name) then passes_group group then passes_replacements more
 
-    pub passes_replacement : {tokens rest : List Lexeme} {replacement : WrittenReplacement} → IsReplacement scope tokens replacement rest → Passes tokens rest
+    pub passes_replacement : {tokens rest : List Lexeme} {replacement : WrittenReplacement} →
+        IsReplacement scope tokens replacement rest → Passes tokens rest
     passes_replacement (a_definition_anew name sign p) = token (plain_defined name) then token (plain_combine sign) then passes_pattern p
     passes_replacement (a_div_anew replacements) = token tt then in_between braces (passes_replacements replacements)
 
@@ -238,7 +260,8 @@ pub passes_namespace : {tokens rest : List Lexeme} {ns : Namespace} → IsNamesp
 passes_namespace (of_uri uri) = passes_literal uri
 passes_namespace inherited = token tt
 
-pub passes_declaration : {tokens rest : List Lexeme} {declaration : Declaration} → IsDeclaration tokens declaration rest → Passes tokens rest
+pub passes_declaration : {tokens rest : List Lexeme} {declaration : Declaration} →
+    IsDeclaration tokens declaration rest → Passes tokens rest
 passes_declaration (a_namespace_prefix name ns) = token tt then token (plain_any_id name) then token tt then passes_namespace ns
 passes_declaration (a_default ns) = token tt then token tt then token tt then passes_namespace ns
 passes_declaration (a_default_prefix name ns) = token tt then token tt then token (plain_any_id name) then token tt then passes_namespace ns

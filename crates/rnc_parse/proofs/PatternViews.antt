@@ -21,11 +21,13 @@ patterns_row (pattern.Group' shape row) = (_, row)
 patterns_row (pattern.Interleave' shape row) = (_, row)
 patterns_row _ = (_, pattern.end_of-Pattern)
 
-behind_row : (n : _) (join : WrittenPattern → WrittenPattern → WrittenPattern) (before : WrittenPattern) (row : pattern.Row_of-Pattern n) → patterns_behind join before row ≡ joined join before (map pattern_of (pattern.items-the_row-Pattern n row))
+behind_row : (n : _) (join : WrittenPattern → WrittenPattern → WrittenPattern) (before : WrittenPattern) (row : pattern.Row_of-Pattern n) →
+    patterns_behind join before row ≡ joined join before (map pattern_of (pattern.items-the_row-Pattern n row))
 behind_row n join before pattern.end_of-Pattern = refl
 behind_row n join before (pattern.more_of-Pattern next row) = behind_row _ join (join before (pattern_of next)) row
 
-of_row : (n : _) (join : WrittenPattern → WrittenPattern → WrittenPattern) (none : WrittenPattern) (row : pattern.Row_of-Pattern n) → patterns_of join none row ≡ joined_or join none (map pattern_of (pattern.items-the_row-Pattern n row))
+of_row : (n : _) (join : WrittenPattern → WrittenPattern → WrittenPattern) (none : WrittenPattern) (row : pattern.Row_of-Pattern n) →
+    patterns_of join none row ≡ joined_or join none (map pattern_of (pattern.items-the_row-Pattern n row))
 of_row n join none pattern.end_of-Pattern = refl
 of_row n join none (pattern.more_of-Pattern first row) = behind_row _ join (pattern_of first) row
 
@@ -81,7 +83,8 @@ row_of_include : Item → (n : Count) × item.Row_of-Replacement n
 row_of_include (item.Include' file shape row) = (_, row)
 row_of_include _ = (_, item.end_of-Replacement)
 
-pub item_of-Include : (file : FileReference) (rs : Vec Replacement Global) → item_of (item.Include file rs) ≡ include file (replacements_in rs.items)
+pub item_of-Include : (file : FileReference) (rs : Vec Replacement Global) →
+    item_of (item.Include file rs) ≡ include file (replacements_in rs.items)
 unfolding row_of_include
 item_of-Include file rs =
     let row = row_of_include (item.Include file rs) in
@@ -103,6 +106,7 @@ pub items_in_push : (items : List Item) (one : Item) → items_in (items ++ one 
 items_in_push [] one = refl
 items_in_push (x ∷ items) one = ap (item_then (item_of x)) (items_in_push items one)
 
-pub replacements_in_push : (rs : List Replacement) (one : Replacement) → replacements_in (rs ++ one ∷ []) ≡ add_replacement (replacements_in rs) (Some (replacement_of one))
+pub replacements_in_push : (rs : List Replacement) (one : Replacement) →
+    replacements_in (rs ++ one ∷ []) ≡ add_replacement (replacements_in rs) (Some (replacement_of one))
 replacements_in_push [] one = refl
 replacements_in_push (x ∷ rs) one = ap (replacement_then (replacement_of x)) (replacements_in_push rs one)

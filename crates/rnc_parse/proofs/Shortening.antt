@@ -24,7 +24,8 @@ use Rattle.rnc_parse.proofs.SoundPatterns.{sound_inside, sound_particle, IsEntry
 use Rattle.rnc_parse.proofs.SoundFiles.{sound_declaration}
 
 -- what was found is in the relation
-pub found_in : {scope : Scope} {A : Type 0} {P : A → List Lexeme → Type 0} (found : Reading A) (value : A) (rest : List Lexeme) → Sounds scope P found → found ≡ read value rest → P value rest
+pub found_in : {scope : Scope} {A : Type 0} {P : A → List Lexeme → Type 0} (found : Reading A) (value : A) (rest : List Lexeme) →
+    Sounds scope P found → found ≡ read value rest → P value rest
 found_in {P = P} (read v r) value rest (finds p) e =
     let same_value : v ≡ value = cc in
     let same_rest : r ≡ rest = cc in
@@ -36,7 +37,8 @@ found_in (no_prefix used) value rest (stops u) e = absurd cc
 abbrev no_scope : Scope
 no_scope = scope_of []
 
-behind_symbol_shorter : (s : Symbol) (tokens rest : List Lexeme) → stands s tokens ≡ true → length rest ≤ length (behind tokens) → length rest < length tokens
+behind_symbol_shorter : (s : Symbol) (tokens rest : List Lexeme) → stands s tokens ≡ true → length rest ≤ length (behind tokens) →
+    length rest < length tokens
 behind_symbol_shorter s tokens rest goes h = let e = stands_is s tokens goes in omega (arith, ap length e)
 
 pub follower_shortens : Shortens (stands Follows) follower_at
@@ -60,27 +62,31 @@ param_shortens = record {
       omega (arith, (passes_opening p.opened).within, (passes_literal p.text).within);
 }
 
-pub class_shortens : (scope : Scope) (unprefixed : Namespace) (left : ℕ) → Shortens (stands Bar) (λ tokens. annotated_class_at scope unprefixed (class_inside scope unprefixed left) (behind tokens))
+pub class_shortens : (scope : Scope) (unprefixed : Namespace) (left : ℕ) →
+    Shortens (stands Bar) (λ tokens. annotated_class_at scope unprefixed (class_inside scope unprefixed left) (behind tokens))
 class_shortens scope unprefixed left = record {
   shorter = λ tokens goes v rest e.
       let c = found_in (annotated_class_at scope unprefixed (class_inside scope unprefixed left) (behind tokens)) v rest (sound_annotated_class (class_inside scope unprefixed left) (sound_class_inside left) (behind tokens)) e in
       behind_symbol_shorter Bar tokens rest goes (passes_annotated_class c).within;
 }
 
-pub particle_shortens : (scope : Scope) (left : ℕ) (sign : Sign) → Shortens (stands (sign_symbol sign)) (λ tokens. particle_at scope left (inside_at scope left) (behind tokens))
+pub particle_shortens : (scope : Scope) (left : ℕ) (sign : Sign) →
+    Shortens (stands (sign_symbol sign)) (λ tokens. particle_at scope left (inside_at scope left) (behind tokens))
 particle_shortens scope left sign = record {
   shorter = λ tokens goes v rest e.
       let p = found_in (particle_at scope left (inside_at scope left) (behind tokens)) v rest (sound_particle left (inside_at scope left) (sound_inside left) (behind tokens)) e in
       behind_symbol_shorter (sign_symbol sign) tokens rest goes (passes_particle p).within;
 }
 
-pub item_shorter : {scope : Scope} {tokens rest : List Lexeme} {item : WrittenItem} → IsItem scope tokens item rest → length rest < length tokens
+pub item_shorter : {scope : Scope} {tokens rest : List Lexeme} {item : WrittenItem} →
+    IsItem scope tokens item rest → length rest < length tokens
 item_shorter (a_definition n s p) = omega (arith, (passes_pattern p).within)
 item_shorter (a_div items) = omega (arith, (passes_items items).within)
 item_shorter (an_include file) = omega (arith, (passes_reference file).within)
 item_shorter (an_include_but file replacements) = omega (arith, (passes_reference file).within, (passes_replacements replacements).within)
 
-entry_shorter : {scope : Scope} {tokens rest : List Lexeme} {found : Option WrittenItem} → IsEntry scope tokens found rest → length rest < length tokens
+entry_shorter : {scope : Scope} {tokens rest : List Lexeme} {found : Option WrittenItem} →
+    IsEntry scope tokens found rest → length rest < length tokens
 entry_shorter (an_item g item) = omega (arith, (passes_opening g).within, item_shorter item)
 entry_shorter (a_note g name noted) = omega (arith, (passes_opening g).within, (passes_group noted).within)
 
@@ -90,11 +96,13 @@ item_shortens scope left = record {
       entry_shorter (found_in (item_at scope left (inside_at scope left) tokens) v rest (sound_item left (inside_at scope left) (sound_inside left) tokens) e);
 }
 
-pub replacement_shorter : {scope : Scope} {tokens rest : List Lexeme} {one : WrittenReplacement} → IsReplacement scope tokens one rest → length rest < length tokens
+pub replacement_shorter : {scope : Scope} {tokens rest : List Lexeme} {one : WrittenReplacement} →
+    IsReplacement scope tokens one rest → length rest < length tokens
 replacement_shorter (a_definition_anew n s p) = omega (arith, (passes_pattern p).within)
 replacement_shorter (a_div_anew replacements) = omega (arith, (passes_replacements replacements).within)
 
-anew_shorter : {scope : Scope} {tokens rest : List Lexeme} {found : Option WrittenReplacement} → IsAnew scope tokens found rest → length rest < length tokens
+anew_shorter : {scope : Scope} {tokens rest : List Lexeme} {found : Option WrittenReplacement} →
+    IsAnew scope tokens found rest → length rest < length tokens
 anew_shorter (one_anew g one) = omega (arith, (passes_opening g).within, replacement_shorter one)
 anew_shorter (a_note_anew g name noted) = omega (arith, (passes_opening g).within, (passes_group noted).within)
 

@@ -33,8 +33,11 @@ data MayName : List Lexeme → Option (List ℕ) → List Lexeme → Type 0 wher
   no_name : {rest : List Lexeme} → MayName rest None rest
   a_name : {tokens rest : List Lexeme} {name : List ℕ} → IsName tokens name rest → MayName tokens (Some name) rest
 
-default_is : (tokens sign said rest : List Lexeme) (prefix : Option (List ℕ)) (ns : Namespace) → MayName tokens prefix sign → sign ≡ mark Equals ∷ said → IsNamespace said ns rest → IsDeclaration (word keyword.Default ∷ word keyword.Namespace ∷ tokens) (declaration.Default prefix ns) rest
-default_is tokens sign said rest None ns no_name e n = subst (λ t. IsDeclaration (word keyword.Default ∷ word keyword.Namespace ∷ t) (declaration.Default None ns) rest) (sym e) (a_default n)
+default_is : (tokens sign said rest : List Lexeme) (prefix : Option (List ℕ)) (ns : Namespace) → MayName tokens prefix sign →
+    sign ≡ mark Equals ∷ said → IsNamespace said ns rest →
+    IsDeclaration (word keyword.Default ∷ word keyword.Namespace ∷ tokens) (declaration.Default prefix ns) rest
+default_is tokens sign said rest None ns no_name e n =
+    subst (λ t. IsDeclaration (word keyword.Default ∷ word keyword.Namespace ∷ t) (declaration.Default None ns) rest) (sym e) (a_default n)
 default_is tokens sign said rest (Some prefix) ns (a_name p) e n = subst (λ t. IsDeclaration (word keyword.Default ∷ word keyword.Namespace ∷ t) (declaration.Default (Some prefix) ns) rest) (sym (p.tokens_are ∙ ap (λ t. p.token ∷ t) e)) (a_default_prefix p.named n)
 
 module _ {scope : Scope} where
@@ -58,7 +61,8 @@ module _ {scope : Scope} where
       sound_bind (behind_symbol Equals sign) _ (sound_symbol Equals sign) (λ _ said e.
       sound_bind (namespace_uri_at said) _ (sound_namespace_uri said) (λ ns rest u.
       finds (subst (λ t. IsDeclaration (word keyword.Namespace ∷ t) (declaration.Namespace prefix ns) rest) (sym (n.tokens_are ∙ ap (λ t. n.token ∷ t) e)) (a_namespace_prefix n.named u)))))
-  sound_declaration (word keyword.Default ∷ tokens) = sound_cond {P = λ one rest. IsDeclaration (word keyword.Default ∷ tokens) one rest} (is_namespace_word (first tokens)) _ _
+  sound_declaration (word keyword.Default ∷ tokens) =
+      sound_cond {P = λ one rest. IsDeclaration (word keyword.Default ∷ tokens) one rest} (is_namespace_word (first tokens)) _ _
       (λ w. sound_bind (default_prefix_at (behind tokens)) _ (sound_default_prefix (behind tokens)) (λ prefix sign n.
       sound_bind (behind_symbol Equals sign) _ (sound_symbol Equals sign) (λ _ said e.
       sound_bind (namespace_uri_at said) _ (sound_namespace_uri said) (λ ns rest u.
@@ -71,7 +75,10 @@ module _ {scope : Scope} where
       finds (subst (λ t. IsDeclaration (word keyword.Datatypes ∷ t) (declaration.Datatypes prefix uri) rest) (sym (n.tokens_are ∙ ap (λ t. n.token ∷ t) e)) (a_library_prefix n.named l)))))
   sound_declaration (_ ∷ tokens) = ends
 
-declarations_all : {tokens rest : List Lexeme} {values : List Declaration} (before : List Declaration) → Many (λ t one r. IsDeclaration t one r) tokens values rest → (all : List Declaration) → all ≡ added (λ ds one. ds ++ one ∷ []) before values → (later : List Declaration) × AreDeclarations tokens later rest × (all ≡ before ++ later)
+declarations_all : {tokens rest : List Lexeme} {values : List Declaration} (before : List Declaration) →
+    Many (λ t one r. IsDeclaration t one r) tokens values rest → (all : List Declaration) →
+    all ≡ added (λ ds one. ds ++ one ∷ []) before values →
+    (later : List Declaration) × AreDeclarations tokens later rest × (all ≡ before ++ later)
 declarations_all before no_step all e = ([], no_declaration, e ∙ sym (append-nil before))
 declarations_all before (one_step {value = value} p later) all e =
     let (others, are, is) = declarations_all (before ++ value ∷ []) later all e in
@@ -96,7 +103,8 @@ module _ {scope : Scope} where
       let (others, are, is) = declarations_all [] l.steps all l.all_is in
       record { are = subst (λ (ds : List Declaration). AreDeclarations tokens ds rest) (sym is) are; stopped = l.stopped })
 
-  sound_ended : {A B : Type 0} {P : A → List Lexeme → Type 0} {Q : B → List Lexeme → Type 0} (make : A → B) (found : Reading A) → Sounds scope P found → ((value : A) → P value [] → Q (make value) []) → Sounds scope Q (ended make found)
+  sound_ended : {A B : Type 0} {P : A → List Lexeme → Type 0} {Q : B → List Lexeme → Type 0} (make : A → B) (found : Reading A) →
+      Sounds scope P found → ((value : A) → P value [] → Q (make value) []) → Sounds scope Q (ended make found)
   sound_ended make (read value []) (finds p) h = finds (h value p)
   sound_ended make (read value (token ∷ tokens)) (finds p) h = ends
   sound_ended make no_reading ends h = ends

@@ -26,13 +26,17 @@ use Rattle.rnc_parse.proofs.Sounding.{Sounds, finds, ends, stops, sound_bind, so
 -- the closing brackets, the first one first, each behind balanced tokens
 data ClosesAll : List Symbol → List Lexeme → List Lexeme → Type 0 where
   last_one : {closer : Symbol} {tokens rest : List Lexeme} → AreBalanced tokens (mark closer ∷ rest) → ClosesAll (closer ∷ []) tokens rest
-  next_one : {closer next : Symbol} {closers : List Symbol} {tokens behind rest : List Lexeme} → AreBalanced tokens (mark closer ∷ behind) → ClosesAll (next ∷ closers) behind rest → ClosesAll (closer ∷ next ∷ closers) tokens rest
+  next_one : {closer next : Symbol} {closers : List Symbol} {tokens behind rest : List Lexeme} →
+      AreBalanced tokens (mark closer ∷ behind) → ClosesAll (next ∷ closers) behind rest → ClosesAll (closer ∷ next ∷ closers) tokens rest
 
-all_plain : {closers : List Symbol} {x : Lexeme} {tokens rest : List Lexeme} → IsPlain x → ClosesAll closers tokens rest → ClosesAll closers (x ∷ tokens) rest
+all_plain : {closers : List Symbol} {x : Lexeme} {tokens rest : List Lexeme} →
+    IsPlain x → ClosesAll closers tokens rest → ClosesAll closers (x ∷ tokens) rest
 all_plain plain (last_one b) = last_one (one_plain plain b)
 all_plain plain (next_one b more) = next_one (one_plain plain b) more
 
-all_opened : {opening closing : Symbol} {closers : List Symbol} {tokens behind rest : List Lexeme} → Closes opening closing → AreBalanced tokens (mark closing ∷ behind) → ClosesAll closers behind rest → ClosesAll closers (mark opening ∷ tokens) rest
+all_opened : {opening closing : Symbol} {closers : List Symbol} {tokens behind rest : List Lexeme} →
+    Closes opening closing → AreBalanced tokens (mark closing ∷ behind) → ClosesAll closers behind rest →
+    ClosesAll closers (mark opening ∷ tokens) rest
 all_opened closes inside (last_one b) = last_one (in_brackets closes inside b)
 all_opened closes inside (next_one b more) = next_one (in_brackets closes inside b) more
 
@@ -41,35 +45,46 @@ last_closed (last_one b) = b
 
 module _ {scope : Scope} where
   -- behind a bracket that opens
-  opened : {opening closing next : Symbol} {closers : List Symbol} {tokens : List Lexeme} (found : Reading (Unit {0})) → Closes opening closing → Sounds scope (λ _ rest. ClosesAll (closing ∷ next ∷ closers) tokens rest) found → Sounds scope (λ _ rest. ClosesAll (next ∷ closers) (mark opening ∷ tokens) rest) found
+  opened : {opening closing next : Symbol} {closers : List Symbol} {tokens : List Lexeme} (found : Reading (Unit {0})) →
+      Closes opening closing → Sounds scope (λ _ rest. ClosesAll (closing ∷ next ∷ closers) tokens rest) found →
+      Sounds scope (λ _ rest. ClosesAll (next ∷ closers) (mark opening ∷ tokens) rest) found
   opened (read v rest) closes (finds (next_one b more)) = finds (all_opened closes b more)
   opened no_reading closes ends = ends
   opened (no_prefix used) closes (stops u) = stops u
 
-  plainly : {next : Symbol} {closers : List Symbol} {x : Lexeme} {tokens : List Lexeme} (found : Reading (Unit {0})) → IsPlain x → Sounds scope (λ _ rest. ClosesAll (next ∷ closers) tokens rest) found → Sounds scope (λ _ rest. ClosesAll (next ∷ closers) (x ∷ tokens) rest) found
+  plainly : {next : Symbol} {closers : List Symbol} {x : Lexeme} {tokens : List Lexeme} (found : Reading (Unit {0})) →
+      IsPlain x → Sounds scope (λ _ rest. ClosesAll (next ∷ closers) tokens rest) found →
+      Sounds scope (λ _ rest. ClosesAll (next ∷ closers) (x ∷ tokens) rest) found
   plainly (read v rest) plain (finds all) = finds (all_plain plain all)
   plainly no_reading plain ends = ends
   plainly (no_prefix used) plain (stops u) = stops u
 
   -- behind one that closes
-  closed : (closer next : Symbol) (closers : List Symbol) (tokens : List Lexeme) → ((n : Symbol) (l : List Symbol) → Sounds scope (λ _ rest. ClosesAll (n ∷ l) tokens rest) (closed_at (n ∷ l) tokens)) → (b : Bool) → (b ≡ true → closer ≡ next) →
+  closed : (closer next : Symbol) (closers : List Symbol) (tokens : List Lexeme) →
+      ((n : Symbol) (l : List Symbol) → Sounds scope (λ _ rest. ClosesAll (n ∷ l) tokens rest) (closed_at (n ∷ l) tokens)) → (b : Bool) →
+      (b ≡ true → closer ≡ next) →
       Sounds scope (λ _ rest. ClosesAll (next ∷ closers) (mark closer ∷ tokens) rest) (elim (cond b (Some closers) None) [ None ↦ no_reading | Some [] ↦ read (tt {0}) tokens | Some (n ∷ l) ↦ closed_at (n ∷ l) tokens ])
   closed closer next closers tokens go false same = ends
-  closed closer next [] tokens go true same = finds (last_one (subst (λ (s : Symbol). AreBalanced (mark closer ∷ tokens) (mark s ∷ tokens)) (same refl) none_left))
+  closed closer next [] tokens go true same =
+      finds (last_one (subst (λ (s : Symbol). AreBalanced (mark closer ∷ tokens) (mark s ∷ tokens)) (same refl) none_left))
   closed closer next (n ∷ l) tokens go true same = further (closed_at (n ∷ l) tokens) (go n l)
     where
-      further : (found : Reading (Unit {0})) → Sounds scope (λ _ rest. ClosesAll (n ∷ l) tokens rest) found → Sounds scope (λ _ rest. ClosesAll (next ∷ n ∷ l) (mark closer ∷ tokens) rest) found
-      further (read v rest) (finds all) = finds (next_one (subst (λ (s : Symbol). AreBalanced (mark closer ∷ tokens) (mark s ∷ tokens)) (same refl) none_left) all)
+      further : (found : Reading (Unit {0})) → Sounds scope (λ _ rest. ClosesAll (n ∷ l) tokens rest) found →
+          Sounds scope (λ _ rest. ClosesAll (next ∷ n ∷ l) (mark closer ∷ tokens) rest) found
+      further (read v rest) (finds all) =
+          finds (next_one (subst (λ (s : Symbol). AreBalanced (mark closer ∷ tokens) (mark s ∷ tokens)) (same refl) none_left) all)
       further no_reading ends = ends
       further (no_prefix used) (stops u) = stops u
 
-  sound_closed : (next : Symbol) (closers : List Symbol) (tokens : List Lexeme) → Sounds scope (λ _ rest. ClosesAll (next ∷ closers) tokens rest) (closed_at (next ∷ closers) tokens)
+  sound_closed : (next : Symbol) (closers : List Symbol) (tokens : List Lexeme) →
+      Sounds scope (λ _ rest. ClosesAll (next ∷ closers) tokens rest) (closed_at (next ∷ closers) tokens)
   unfolding closed_at
   sound_closed next closers [] = ends
   sound_closed next closers (mark LeftBrace ∷ tokens) = opened _ braces (sound_closed RightBrace (next ∷ closers) tokens)
   sound_closed next closers (mark LeftParenthesis ∷ tokens) = opened _ parentheses (sound_closed RightParenthesis (next ∷ closers) tokens)
   sound_closed next closers (mark LeftBracket ∷ tokens) = opened _ brackets (sound_closed RightBracket (next ∷ closers) tokens)
-  sound_closed next closers (mark RightBrace ∷ tokens) = closed RightBrace next closers tokens (λ n l. sound_closed n l tokens) (same_symbol RightBrace next) (same_symbol_is RightBrace next)
+  sound_closed next closers (mark RightBrace ∷ tokens) =
+      closed RightBrace next closers tokens (λ n l. sound_closed n l tokens) (same_symbol RightBrace next) (same_symbol_is RightBrace next)
   sound_closed next closers (mark RightParenthesis ∷ tokens) = closed RightParenthesis next closers tokens (λ n l. sound_closed n l tokens) (same_symbol RightParenthesis next) (same_symbol_is RightParenthesis next)
   sound_closed next closers (mark RightBracket ∷ tokens) = closed RightBracket next closers tokens (λ n l. sound_closed n l tokens) (same_symbol RightBracket next) (same_symbol_is RightBracket next)
   sound_closed next closers (_ ∷ tokens) = plainly _ tt (sound_closed next closers tokens)
@@ -84,7 +99,8 @@ module _ {scope : Scope} where
   sound_opening tokens = sound_cond (stands LeftBracket tokens) _ _ (λ _. sound_weaker (group_at tokens) (sound_group tokens) (λ v rest g. with_group g)) (λ _. finds without_group)
   -- ---- what follows
 
-follower_is : (tokens rest : List Lexeme) → is_follower (first tokens) ≡ true → IsGroup (behind tokens) rest → (name : Lexeme) × (inside : List Lexeme) × (tokens ≡ name ∷ inside) × NamesFollower name × IsGroup inside rest
+follower_is : (tokens rest : List Lexeme) → is_follower (first tokens) ≡ true → IsGroup (behind tokens) rest →
+    (name : Lexeme) × (inside : List Lexeme) × (tokens ≡ name ∷ inside) × NamesFollower name × IsGroup inside rest
 unfolding first behind
 follower_is [] rest e g = absurd (false≢true e)
 follower_is (Identifier name ∷ inside) rest e g = (_, inside, refl, by_element_name by_identifier, g)
@@ -133,7 +149,8 @@ module _ {scope : Scope} where
 abbrev pub IsTildeLiteral : List Lexeme → List ℕ → List Lexeme → Type 0
 IsTildeLiteral tokens text rest = tokens ≡ mark Tilde ∷ Literal text ∷ rest
 
-literals_all : {text : List ℕ} {tokens rest : List Lexeme} {values : List (List ℕ)} → Many IsTildeLiteral tokens values rest → IsLiteral (Literal text ∷ tokens) (added ◌++◌ text values) rest
+literals_all : {text : List ℕ} {tokens rest : List Lexeme} {values : List (List ℕ)} →
+    Many IsTildeLiteral tokens values rest → IsLiteral (Literal text ∷ tokens) (added ◌++◌ text values) rest
 literals_all no_step = one_literal
 literals_all {text = text} {rest = r} (one_step {value = value} {values = values} e later) =
     subst (λ t. IsLiteral (Literal text ∷ t) (added ◌++◌ (text ++ value) values) r) (sym e) (joined_literals (literals_all {text = value} later) (added_front text value values))
@@ -171,16 +188,20 @@ module _ {scope : Scope} where
   sound_identifier (Identifier name ∷ rest) = finds refl
   sound_identifier (_ ∷ rest) = ends
 
-  found_or : {A : Type 0} (found : Option A) (used : Use) (rest : List Lexeme) → (found ≡ None → IsUndeclared scope used) → Sounds scope (λ value left. (found ≡ Some value) × (left ≡ rest)) (looked_up found used rest)
+  found_or : {A : Type 0} (found : Option A) (used : Use) (rest : List Lexeme) →
+      (found ≡ None → IsUndeclared scope used) →
+      Sounds scope (λ value left. (found ≡ Some value) × (left ≡ rest)) (looked_up found used rest)
   unfolding looked_up
   found_or (Some x) used rest h = finds (refl, refl)
   found_or None used rest h = stops (h refl)
 
-  pub sound_namespace : (prefix : List ℕ) (rest : List Lexeme) → Sounds scope (λ ns left. (scope.namespace prefix ≡ Some ns) × (left ≡ rest)) (namespace_at scope prefix rest)
+  pub sound_namespace : (prefix : List ℕ) (rest : List Lexeme) →
+      Sounds scope (λ ns left. (scope.namespace prefix ≡ Some ns) × (left ≡ rest)) (namespace_at scope prefix rest)
   unfolding namespace_at
   sound_namespace prefix rest = found_or (scope.namespace prefix) (of_names prefix) rest (λ e. e)
 
-  pub sound_library : (prefix : List ℕ) (rest : List Lexeme) → Sounds scope (λ uri left. (scope.library prefix ≡ Some uri) × (left ≡ rest)) (library_at scope prefix rest)
+  pub sound_library : (prefix : List ℕ) (rest : List Lexeme) →
+      Sounds scope (λ uri left. (scope.library prefix ≡ Some uri) × (left ≡ rest)) (library_at scope prefix rest)
   unfolding library_at
   sound_library prefix rest = found_or (scope.library prefix) (of_types prefix) rest (λ e. e)
 
@@ -218,7 +239,9 @@ module _ {scope : Scope} where
       sound_bind (literal_at said) _ (sound_literal said) (λ text rest l.
       finds (record { token = n.token; inside = said; opened = subst (MayBegin tokens) (n.tokens_are ∙ ap (λ t. n.token ∷ t) e) g; named = n.named; text = l })))))
 
-params_all : {tokens rest : List Lexeme} {values : List Param} (before : List Param) → Many IsParam tokens values rest → (all : List Param) → all ≡ added (λ params one. params ++ one ∷ []) before values → (later : List Param) × AreParams tokens later rest × (all ≡ before ++ later)
+params_all : {tokens rest : List Lexeme} {values : List Param} (before : List Param) →
+    Many IsParam tokens values rest → (all : List Param) → all ≡ added (λ params one. params ++ one ∷ []) before values →
+    (later : List Param) × AreParams tokens later rest × (all ≡ before ++ later)
 params_all before no_step all e = ([], no_param, e ∙ sym (append-nil before))
 params_all before (one_step {value = value} p later) all e =
     let (others, are, is) = params_all (before ++ value ∷ []) later all e in
@@ -279,19 +302,29 @@ module _ {scope : Scope} where
   sound_wildcard (_ ∷ rest) = ends
 
   module _ {unprefixed : Namespace} where
-    classes_all : {tokens behind rest : List Lexeme} {value : WrittenClass} {values : List WrittenClass} → IsBarClass scope unprefixed tokens value behind → Many (IsBarClass scope unprefixed) behind values rest → AreMoreClasses scope unprefixed tokens (value ∷ values) rest
-    classes_all {rest = r} {value = c} one no_step = subst (λ t. AreMoreClasses scope unprefixed t (c ∷ []) r) (sym one.tokens_are) (last_class one.said)
-    classes_all {rest = r} {value = c} {values = cs} one (one_step next later) = subst (λ t. AreMoreClasses scope unprefixed t (c ∷ cs) r) (sym one.tokens_are) (next_class one.said (classes_all next later))
+    classes_all : {tokens behind rest : List Lexeme} {value : WrittenClass} {values : List WrittenClass} →
+        IsBarClass scope unprefixed tokens value behind → Many (IsBarClass scope unprefixed) behind values rest →
+        AreMoreClasses scope unprefixed tokens (value ∷ values) rest
+    classes_all {rest = r} {value = c} one no_step =
+        subst (λ t. AreMoreClasses scope unprefixed t (c ∷ []) r) (sym one.tokens_are) (last_class one.said)
+    classes_all {rest = r} {value = c} {values = cs} one (one_step next later) =
+        subst (λ t. AreMoreClasses scope unprefixed t (c ∷ cs) r) (sym one.tokens_are) (next_class one.said (classes_all next later))
 
-    class_of_all : {tokens behind rest : List Lexeme} {first all : WrittenClass} {values : List WrittenClass} → IsAnnotatedClass scope unprefixed tokens first behind → Many (IsBarClass scope unprefixed) behind values rest → all ≡ added either first values → IsClass scope unprefixed tokens all rest
-    class_of_all {tokens = t} {rest = r} one no_step e = subst (λ (c : WrittenClass). IsClass scope unprefixed t c r) (sym e) (one_class one)
-    class_of_all {first = f} {values = vs} one (one_step next later) e = several_classes one (classes_all next later) (e ∙ added_joined either f vs)
+    class_of_all : {tokens behind rest : List Lexeme} {first all : WrittenClass} {values : List WrittenClass} →
+        IsAnnotatedClass scope unprefixed tokens first behind → Many (IsBarClass scope unprefixed) behind values rest →
+        all ≡ added either first values → IsClass scope unprefixed tokens all rest
+    class_of_all {tokens = t} {rest = r} one no_step e =
+        subst (λ (c : WrittenClass). IsClass scope unprefixed t c r) (sym e) (one_class one)
+    class_of_all {first = f} {values = vs} one (one_step next later) e =
+        several_classes one (classes_all next later) (e ∙ added_joined either f vs)
 
     module _ (inside : List Lexeme → Reading WrittenClass) (sound_inside : (tokens : List Lexeme) → Sounds scope (λ class rest. IsClass scope unprefixed tokens class rest) (inside tokens)) where
-      sound_wildcard_class : (tokens : List Lexeme) → Sounds scope (λ class rest. IsOneClass scope unprefixed tokens class rest) (wildcard_at scope tokens)
+      sound_wildcard_class : (tokens : List Lexeme) →
+          Sounds scope (λ class rest. IsOneClass scope unprefixed tokens class rest) (wildcard_at scope tokens)
       sound_wildcard_class tokens = sound_weaker (wildcard_at scope tokens) (sound_wildcard tokens) (λ class rest w. subst (λ t. IsOneClass scope unprefixed t class rest) (sym w.tokens_are) (wildcard w.covers))
 
-      sound_one_class : (tokens : List Lexeme) → Sounds scope (λ class rest. IsOneClass scope unprefixed tokens class rest) (one_class_at scope unprefixed inside tokens)
+      sound_one_class : (tokens : List Lexeme) →
+          Sounds scope (λ class rest. IsOneClass scope unprefixed tokens class rest) (one_class_at scope unprefixed inside tokens)
       unfolding one_class_at first behind
       sound_one_class [] = sound_wildcard_class []
       sound_one_class (Identifier name ∷ rest) = finds (unprefixed_name an_identifier)
@@ -303,7 +336,8 @@ module _ {scope : Scope} where
           finds (parenthesized_class (subst (IsClass scope unprefixed rest class) e c))))
       sound_one_class (x ∷ rest) = sound_wildcard_class (x ∷ rest)
 
-      pub sound_annotated_class : (tokens : List Lexeme) → Sounds scope (λ class rest. IsAnnotatedClass scope unprefixed tokens class rest) (annotated_class_at scope unprefixed inside tokens)
+      pub sound_annotated_class : (tokens : List Lexeme) →
+          Sounds scope (λ class rest. IsAnnotatedClass scope unprefixed tokens class rest) (annotated_class_at scope unprefixed inside tokens)
       unfolding annotated_class_at
       sound_annotated_class tokens =
           sound_bind (opening_at tokens) _ (sound_opening tokens) (λ _ opened g.
@@ -311,12 +345,15 @@ module _ {scope : Scope} where
           sound_bind (follow_at followed) _ (sound_follow followed) (λ _ rest f.
           finds (annotated_class g c f))))
 
-      sound_more_classes : (class : WrittenClass) (tokens : List Lexeme) → Sounds scope (Looped (stands Bar) either (IsBarClass scope unprefixed) class tokens) (loop_at (stands Bar) (λ t. annotated_class_at scope unprefixed inside (behind t)) either class tokens)
-      sound_more_classes class tokens = sound_loop (stands Bar) (λ t. annotated_class_at scope unprefixed inside (behind t)) either (IsBarClass scope unprefixed)
+      sound_more_classes : (class : WrittenClass) (tokens : List Lexeme) →
+          Sounds scope (Looped (stands Bar) either (IsBarClass scope unprefixed) class tokens) (loop_at (stands Bar) (λ t. annotated_class_at scope unprefixed inside (behind t)) either class tokens)
+      sound_more_classes class tokens =
+          sound_loop (stands Bar) (λ t. annotated_class_at scope unprefixed inside (behind t)) either (IsBarClass scope unprefixed)
           (λ t goes. sound_weaker (annotated_class_at scope unprefixed inside (behind t)) (sound_annotated_class (behind t)) (λ c r said. record { inside = behind t; tokens_are = stands_is Bar t goes; said = said }))
           class tokens
 
-      pub sound_class_within : (tokens : List Lexeme) → Sounds scope (λ class rest. IsClass scope unprefixed tokens class rest) (class_within scope unprefixed inside tokens)
+      pub sound_class_within : (tokens : List Lexeme) →
+          Sounds scope (λ class rest. IsClass scope unprefixed tokens class rest) (class_within scope unprefixed inside tokens)
       unfolding class_within except_class_at several_classes_at more_classes_at behind
       sound_class_within tokens = sound_bind (opening_at tokens) _ (sound_opening tokens) (λ _ opened g.
           sound_cond (begins_except opened) _ _
@@ -330,14 +367,17 @@ module _ {scope : Scope} where
           sound_weaker (loop_at (stands Bar) (λ t. annotated_class_at scope unprefixed inside (behind t)) either class rest) (sound_more_classes class rest) (λ all end l.
           class_of_all (annotated_class g c f) l.steps l.all_is)))))
         where
-          less_stands : (opened less : List Lexeme) {class : WrittenClass} → BeginsWildcard scope opened class less → stands Minus (behind opened) ≡ true → stands Minus less ≡ true
+          less_stands : (opened less : List Lexeme) {class : WrittenClass} → BeginsWildcard scope opened class less →
+              stands Minus (behind opened) ≡ true → stands Minus less ≡ true
           less_stands opened less w minus = ap (λ t. stands Minus (behind t)) (sym w.tokens_are) ∙ minus
 
-    pub sound_class_inside : (left : ℕ) (tokens : List Lexeme) → Sounds scope (λ class rest. IsClass scope unprefixed tokens class rest) (class_inside scope unprefixed left tokens)
+    pub sound_class_inside : (left : ℕ) (tokens : List Lexeme) →
+        Sounds scope (λ class rest. IsClass scope unprefixed tokens class rest) (class_inside scope unprefixed left tokens)
     unfolding class_inside
     sound_class_inside zero tokens = ends
     sound_class_inside (suc left) tokens = sound_class_within (class_inside scope unprefixed left) (sound_class_inside left) tokens
 
-    pub sound_class : (left : ℕ) (tokens : List Lexeme) → Sounds scope (λ class rest. IsClass scope unprefixed tokens class rest) (class_at scope unprefixed left tokens)
+    pub sound_class : (left : ℕ) (tokens : List Lexeme) →
+        Sounds scope (λ class rest. IsClass scope unprefixed tokens class rest) (class_at scope unprefixed left tokens)
     unfolding class_at
     sound_class left tokens = sound_class_within (class_inside scope unprefixed left) (sound_class_inside left) tokens

@@ -15,17 +15,22 @@ pub data Sounds (scope : Scope) {A : Type 0} (P : A → List Lexeme → Type 0) 
   ends : Sounds scope P no_reading
   stops : {used : Use} → IsUndeclared scope used → Sounds scope P (no_prefix used)
 
-pub sound_bind : {scope : Scope} {A B : Type 0} {P : A → List Lexeme → Type 0} {Q : B → List Lexeme → Type 0} (found : Reading A) (more : A → List Lexeme → Reading B) → Sounds scope P found → ((value : A) (rest : List Lexeme) → P value rest → Sounds scope Q (more value rest)) → Sounds scope Q (found >>= more)
+pub sound_bind : {scope : Scope} {A B : Type 0} {P : A → List Lexeme → Type 0}
+    {Q : B → List Lexeme → Type 0} (found : Reading A) (more : A → List Lexeme → Reading B) →
+    Sounds scope P found → ((value : A) (rest : List Lexeme) → P value rest → Sounds scope Q (more value rest)) →
+    Sounds scope Q (found >>= more)
 sound_bind (read value rest) more (finds p) h = h value rest p
 sound_bind no_reading more ends h = ends
 sound_bind (no_prefix used) more (stops u) h = stops u
 
-pub sound_weaker : {scope : Scope} {A : Type 0} {P Q : A → List Lexeme → Type 0} (found : Reading A) → Sounds scope P found → ((value : A) (rest : List Lexeme) → P value rest → Q value rest) → Sounds scope Q found
+pub sound_weaker : {scope : Scope} {A : Type 0} {P Q : A → List Lexeme → Type 0} (found : Reading A) →
+    Sounds scope P found → ((value : A) (rest : List Lexeme) → P value rest → Q value rest) → Sounds scope Q found
 sound_weaker (read value rest) (finds p) h = finds (h value rest p)
 sound_weaker no_reading ends h = ends
 sound_weaker (no_prefix used) (stops u) h = stops u
 
-pub sound_cond : {scope : Scope} {A : Type 0} {P : A → List Lexeme → Type 0} (b : Bool) (x y : Reading A) → (b ≡ true → Sounds scope P x) → (b ≡ false → Sounds scope P y) → Sounds scope P (cond b x y)
+pub sound_cond : {scope : Scope} {A : Type 0} {P : A → List Lexeme → Type 0} (b : Bool) (x y : Reading A) →
+    (b ≡ true → Sounds scope P x) → (b ≡ false → Sounds scope P y) → Sounds scope P (cond b x y)
 sound_cond true x y h k = h refl
 sound_cond false x y h k = k refl
 
@@ -64,7 +69,8 @@ stands_is s [] e = absurd (false≢true e)
 stands_is s (mark other ∷ tokens) e = ap (λ (x : Symbol). mark x ∷ tokens) (sym (same_symbol_is s other e))
 stands_is s _ e = absurd (false≢true e)
 
-pub sound_symbol : {scope : Scope} (s : Symbol) (tokens : List Lexeme) → Sounds scope (λ _ rest. tokens ≡ mark s ∷ rest) (behind_symbol s tokens)
+pub sound_symbol : {scope : Scope} (s : Symbol) (tokens : List Lexeme) →
+    Sounds scope (λ _ rest. tokens ≡ mark s ∷ rest) (behind_symbol s tokens)
 unfolding behind_symbol
 sound_symbol s tokens = sound_cond (stands s tokens) _ _ (λ e. finds (stands_is s tokens e)) (λ e. ends)
 
@@ -73,7 +79,8 @@ sound_symbol s tokens = sound_cond (stands s tokens) _ _ (λ e. finds (stands_is
 -- steps one after another
 pub data Many {A : Type 0} (P : List Lexeme → A → List Lexeme → Type 0) : List Lexeme → List A → List Lexeme → Type 0 where
   no_step : {rest : List Lexeme} → Many P rest [] rest
-  one_step : {value : A} {values : List A} {tokens behind rest : List Lexeme} → P tokens value behind → Many P behind values rest → Many P tokens (value ∷ values) rest
+  one_step : {value : A} {values : List A} {tokens behind rest : List Lexeme} →
+      P tokens value behind → Many P behind values rest → Many P tokens (value ∷ values) rest
 
 abbrev pub added : {A B : Type 0} → (B → A → B) → B → List A → B
 added add before [] = before
@@ -91,7 +98,9 @@ pub record Looped {A B : Type 0} (goes_on : List Lexeme → Bool) (add : B → A
   pub stopped : goes_on rest ≡ false
 
 module _ {scope : Scope} {A B : Type 0} (goes_on : List Lexeme → Bool) (step : List Lexeme → Reading A) (add : B → A → B) (P : List Lexeme → A → List Lexeme → Type 0) where
-  sound_within : ((tokens : List Lexeme) → goes_on tokens ≡ true → Sounds scope (P tokens) (step tokens)) → (most : ℕ) (before : B) (tokens : List Lexeme) → Sounds scope (Looped goes_on add P before tokens) (loop_within goes_on step add most before tokens)
+  sound_within : ((tokens : List Lexeme) → goes_on tokens ≡ true → Sounds scope (P tokens) (step tokens)) →
+      (most : ℕ) (before : B) (tokens : List Lexeme) →
+      Sounds scope (Looped goes_on add P before tokens) (loop_within goes_on step add most before tokens)
   unfolding loop_within
   sound_within sound zero before tokens = ends
   sound_within sound (suc most) before tokens =
@@ -99,11 +108,14 @@ module _ {scope : Scope} {A B : Type 0} (goes_on : List Lexeme → Bool) (step :
       (λ goes. sound_bind (step tokens) _ (sound tokens goes) (λ value rest p. looped_more value rest p (sound_within sound most (add before value) rest)))
       (λ stops. finds (record { values = []; steps = no_step; all_is = refl; stopped = stops }))
     where
-      looped_more : (value : A) (rest : List Lexeme) → P tokens value rest → {found : Reading B} → Sounds scope (Looped goes_on add P (add before value) rest) found → Sounds scope (Looped goes_on add P before tokens) found
-      looped_more value rest p (finds l) = finds (record { values = value ∷ l.values; steps = one_step p l.steps; all_is = l.all_is; stopped = l.stopped })
+      looped_more : (value : A) (rest : List Lexeme) → P tokens value rest → {found : Reading B} →
+          Sounds scope (Looped goes_on add P (add before value) rest) found → Sounds scope (Looped goes_on add P before tokens) found
+      looped_more value rest p (finds l) =
+          finds (record { values = value ∷ l.values; steps = one_step p l.steps; all_is = l.all_is; stopped = l.stopped })
       looped_more value rest p ends = ends
       looped_more value rest p (stops u) = stops u
 
-  pub sound_loop : ((tokens : List Lexeme) → goes_on tokens ≡ true → Sounds scope (P tokens) (step tokens)) → (before : B) (tokens : List Lexeme) → Sounds scope (Looped goes_on add P before tokens) (loop_at goes_on step add before tokens)
+  pub sound_loop : ((tokens : List Lexeme) → goes_on tokens ≡ true → Sounds scope (P tokens) (step tokens)) →
+      (before : B) (tokens : List Lexeme) → Sounds scope (Looped goes_on add P before tokens) (loop_at goes_on step add before tokens)
   unfolding loop_at
   sound_loop sound before tokens = sound_within sound (suc (length tokens)) before tokens

@@ -7,7 +7,8 @@ use Rattle.rnc_lex.specs.declared.token.RncToken.{RncToken}
 use Rattle.rnc_parse.specs.Files.{lexemes, open_behind, IsShallow, IsTooDeepAt}
 
 -- a token at a time
-open_step : (before : ℕ) (token : Lexeme) (later : List Lexeme) → open_behind before (token ∷ later) ≡ open_behind (open_behind before (token ∷ [])) later
+open_step : (before : ℕ) (token : Lexeme) (later : List Lexeme) →
+    open_behind before (token ∷ later) ≡ open_behind (open_behind before (token ∷ [])) later
 open_step before (mark LeftBrace) later = refl
 open_step before (mark LeftParenthesis) later = refl
 open_step before (mark LeftBracket) later = refl
@@ -46,7 +47,8 @@ shallow_nothing : (before : ℕ) → before ≤ 200 → ShallowBehind before []
 shallow_nothing before few [] rest e = few
 shallow_nothing before few (x ∷ front) rest e = absurd cc
 
-shallow_more : (before now : ℕ) (token : Lexeme) (tokens : List Lexeme) → before ≤ 200 → now ≡ open_behind before (token ∷ []) → ShallowBehind now tokens → ShallowBehind before (token ∷ tokens)
+shallow_more : (before now : ℕ) (token : Lexeme) (tokens : List Lexeme) → before ≤ 200 → now ≡ open_behind before (token ∷ []) →
+    ShallowBehind now tokens → ShallowBehind before (token ∷ tokens)
 shallow_more before now token tokens few is h [] rest e = few
 shallow_more before now token tokens few is h (x ∷ front) rest e =
     let same : x ≡ token = cc in
@@ -56,7 +58,8 @@ shallow_more before now token tokens few is h (x ∷ front) rest e =
 pub deep_end : (before : ℕ) (rest : List RncToken) → rest ≡ [] → before ≤ 200 → Deep before rest None
 deep_end before rest e few = rw e (shallow_nothing before few)
 
-pub deep_more : (before now : ℕ) (token : RncToken) (tokens all : List RncToken) (answer : Option ℕ) → all ≡ token ∷ tokens → before ≤ 200 → now ≡ open_behind before (token.lexeme ∷ []) → Deep now tokens answer → Deep before all answer
+pub deep_more : (before now : ℕ) (token : RncToken) (tokens all : List RncToken) (answer : Option ℕ) → all ≡ token ∷ tokens → before ≤ 200 →
+    now ≡ open_behind before (token.lexeme ∷ []) → Deep now tokens answer → Deep before all answer
 deep_more before now token tokens all None e few is h = rw e (shallow_more before now token.lexeme (lexemes tokens) few is h)
 deep_more before now token tokens all (Some at) e few is h = record {
   front = token ∷ h.front;
@@ -68,7 +71,8 @@ deep_more before now token tokens all (Some at) e few is h = record {
   deep = open_step before token.lexeme (lexemes (h.front ++ h.token ∷ [])) ∙ ap (λ n. open_behind n (lexemes (h.front ++ h.token ∷ []))) (sym is) ∙ h.deep;
 }
 
-pub deep_here : (before now : ℕ) (token : RncToken) (tokens all : List RncToken) → all ≡ token ∷ tokens → before ≤ 200 → now ≡ open_behind before (token.lexeme ∷ []) → 200 < now → Deep before all (Some token.at)
+pub deep_here : (before now : ℕ) (token : RncToken) (tokens all : List RncToken) → all ≡ token ∷ tokens → before ≤ 200 →
+    now ≡ open_behind before (token.lexeme ∷ []) → 200 < now → Deep before all (Some token.at)
 deep_here before now token tokens all e few is many = record {
   front = [];
   token = token;
@@ -79,7 +83,8 @@ deep_here before now token tokens all e few is many = record {
   deep = omega (arith, one_more before token.lexeme, is, few, many);
 }
 
-pub deep_is : (tokens : List RncToken) (answer : Option ℕ) → Deep 0 tokens answer → MatchOption answer (IsShallow (lexemes tokens)) (λ at. IsTooDeepAt tokens at)
+pub deep_is : (tokens : List RncToken) (answer : Option ℕ) → Deep 0 tokens answer →
+    MatchOption answer (IsShallow (lexemes tokens)) (λ at. IsTooDeepAt tokens at)
 deep_is tokens None h = h
 deep_is tokens (Some at) h = record { front = h.front; token = h.token; rest = h.rest; tokens_are = h.tokens_are; at_is = h.at_is; shallow = h.shallow; deep = h.deep }
 

@@ -35,7 +35,8 @@ all_counts tokens = record {
 }
 
 -- what agrees twice with the same look-ups is the same
-one_thing : {d : Scope} {one other : WrittenSurface} {P : WrittenSurface → List Lexeme → Type 0} (x : Reading WrittenSurface) → Agrees d d one [] x → Agrees d d other [] x → Sounds d P x → one ≡ other
+one_thing : {d : Scope} {one other : WrittenSurface} {P : WrittenSurface → List Lexeme → Type 0} (x : Reading WrittenSurface) →
+    Agrees d d one [] x → Agrees d d other [] x → Sounds d P x → one ≡ other
 one_thing (read v r) (found a) (found b) p = sym (a refl) ∙ b refl
 one_thing (no_prefix u) (missing m) b (stops h) = elim (m h) [ ]
 one_thing no_reading a b p = elim a [ ]

@@ -26,7 +26,9 @@ IsPlain _ = Unit {0}
 pub data AreBalanced : List Lexeme → List Lexeme → Type 0 where
   none_left : {rest : List Lexeme} → AreBalanced rest rest
   one_plain : {token : Lexeme} {tokens rest : List Lexeme} → IsPlain token → AreBalanced tokens rest → AreBalanced (token ∷ tokens) rest
-  in_brackets : {opening closing : Symbol} {tokens behind rest : List Lexeme} → Closes opening closing → AreBalanced tokens (mark closing ∷ behind) → AreBalanced behind rest → AreBalanced (mark opening ∷ tokens) rest
+  in_brackets : {opening closing : Symbol} {tokens behind rest : List Lexeme} →
+      Closes opening closing → AreBalanced tokens (mark closing ∷ behind) → AreBalanced behind rest →
+      AreBalanced (mark opening ∷ tokens) rest
 
 -- `[` .. `]`
 pub data IsGroup : List Lexeme → List Lexeme → Type 0 where
@@ -49,4 +51,5 @@ pub data NamesFollower : Lexeme → Type 0 where
 -- `>>`, a name and a group, any number of times
 pub data Follow : List Lexeme → List Lexeme → Type 0 where
   no_more : {rest : List Lexeme} → Follow rest rest
-  one_more : {name : Lexeme} {tokens behind rest : List Lexeme} → NamesFollower name → IsGroup tokens behind → Follow behind rest → Follow (mark Follows ∷ name ∷ tokens) rest
+  one_more : {name : Lexeme} {tokens behind rest : List Lexeme} →
+      NamesFollower name → IsGroup tokens behind → Follow behind rest → Follow (mark Follows ∷ name ∷ tokens) rest

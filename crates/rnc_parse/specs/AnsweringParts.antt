@@ -61,7 +61,8 @@ RefusesPrefix tokens end prefix body (Ok surface) = ⊥
 RefusesPrefix tokens end prefix body (Err (fault.Lex lex)) = ⊥
 RefusesPrefix tokens end prefix body (Err (fault.TooDeep at)) = ⊥
 RefusesPrefix tokens end prefix body (Err (fault.Syntax at)) = (body_at every_prefix 200 body ≡ no_reading) × StandsAt tokens end at
-RefusesPrefix tokens end prefix body (Err (fault.UndeclaredPrefix named)) = (named ≡ prefix) × (surface : WrittenSurface) × (rest : List Lexeme) × (body_at every_prefix 200 body ≡ read surface rest)
+RefusesPrefix tokens end prefix body (Err (fault.UndeclaredPrefix named)) =
+    (named ≡ prefix) × (surface : WrittenSurface) × (rest : List Lexeme) × (body_at every_prefix 200 body ≡ read surface rest)
 RefusesPrefix tokens end prefix body (Err (fault.Twice named)) = ⊥
 RefusesPrefix tokens end prefix body (Err fault.NoMemory) = Unit {0}
 
@@ -105,7 +106,8 @@ RefusesTwice tokens end prefix body (Err (fault.Lex lex)) = ⊥
 RefusesTwice tokens end prefix body (Err (fault.TooDeep at)) = ⊥
 RefusesTwice tokens end prefix body (Err (fault.Syntax at)) = (body_at every_prefix 200 body ≡ no_reading) × StandsAt tokens end at
 RefusesTwice tokens end prefix body (Err (fault.UndeclaredPrefix named)) = ⊥
-RefusesTwice tokens end prefix body (Err (fault.Twice named)) = (named ≡ prefix) × (surface : WrittenSurface) × (rest : List Lexeme) × (body_at every_prefix 200 body ≡ read surface rest)
+RefusesTwice tokens end prefix body (Err (fault.Twice named)) =
+    (named ≡ prefix) × (surface : WrittenSurface) × (rest : List Lexeme) × (body_at every_prefix 200 body ≡ read surface rest)
 RefusesTwice tokens end prefix body (Err fault.NoMemory) = Unit {0}
 
 abbrev pub RefusesClash : List RncToken → ℕ → Clash → List Lexeme → Result Surface ReadFault → Type 0

@@ -23,19 +23,31 @@ pub data IsNamespace : List Lexeme → Namespace → List Lexeme → Type 0 wher
 
 -- decl
 pub data IsDeclaration : List Lexeme → Declaration → List Lexeme → Type 0 where
-  a_namespace_prefix : {token : Lexeme} {prefix : List ℕ} {ns : Namespace} {tokens rest : List Lexeme} → IsAnyId token prefix → IsNamespace tokens ns rest → IsDeclaration (word keyword.Namespace ∷ token ∷ mark Equals ∷ tokens) (declaration.Namespace prefix ns) rest
-  a_default : {ns : Namespace} {tokens rest : List Lexeme} → IsNamespace tokens ns rest → IsDeclaration (word keyword.Default ∷ word keyword.Namespace ∷ mark Equals ∷ tokens) (declaration.Default None ns) rest
-  a_default_prefix : {token : Lexeme} {prefix : List ℕ} {ns : Namespace} {tokens rest : List Lexeme} → IsAnyId token prefix → IsNamespace tokens ns rest → IsDeclaration (word keyword.Default ∷ word keyword.Namespace ∷ token ∷ mark Equals ∷ tokens) (declaration.Default (Some prefix) ns) rest
-  a_library_prefix : {token : Lexeme} {prefix uri : List ℕ} {tokens rest : List Lexeme} → IsAnyId token prefix → IsLiteral tokens uri rest → IsDeclaration (word keyword.Datatypes ∷ token ∷ mark Equals ∷ tokens) (declaration.Datatypes prefix uri) rest
+  a_namespace_prefix : {token : Lexeme} {prefix : List ℕ} {ns : Namespace} {tokens rest : List Lexeme} →
+      IsAnyId token prefix → IsNamespace tokens ns rest →
+      IsDeclaration (word keyword.Namespace ∷ token ∷ mark Equals ∷ tokens) (declaration.Namespace prefix ns) rest
+  a_default : {ns : Namespace} {tokens rest : List Lexeme} →
+      IsNamespace tokens ns rest →
+      IsDeclaration (word keyword.Default ∷ word keyword.Namespace ∷ mark Equals ∷ tokens) (declaration.Default None ns) rest
+  a_default_prefix : {token : Lexeme} {prefix : List ℕ} {ns : Namespace} {tokens rest : List Lexeme} →
+      IsAnyId token prefix → IsNamespace tokens ns rest →
+      IsDeclaration (word keyword.Default ∷ word keyword.Namespace ∷ token ∷ mark Equals ∷ tokens)
+      (declaration.Default (Some prefix) ns) rest
+  a_library_prefix : {token : Lexeme} {prefix uri : List ℕ} {tokens rest : List Lexeme} →
+      IsAnyId token prefix → IsLiteral tokens uri rest →
+      IsDeclaration (word keyword.Datatypes ∷ token ∷ mark Equals ∷ tokens) (declaration.Datatypes prefix uri) rest
 
 pub data AreDeclarations : List Lexeme → List Declaration → List Lexeme → Type 0 where
   no_declaration : {rest : List Lexeme} → AreDeclarations rest [] rest
-  next_declaration : {first : Declaration} {more : List Declaration} {tokens behind rest : List Lexeme} → IsDeclaration tokens first behind → AreDeclarations behind more rest → AreDeclarations tokens (first ∷ more) rest
+  next_declaration : {first : Declaration} {more : List Declaration} {tokens behind rest : List Lexeme} →
+      IsDeclaration tokens first behind → AreDeclarations behind more rest → AreDeclarations tokens (first ∷ more) rest
 
 -- what stands behind the declarations: a pattern, or items, and nothing more
 pub data IsBody (scope : Scope) : List Lexeme → WrittenSurface → Type 0 where
-  pattern_body : {p : WrittenPattern} {tokens inside : List Lexeme} → MayBegin tokens inside → IsPattern scope inside p [] → IsBody scope tokens (a_pattern p)
-  grammar_body : {items : WrittenItems} {tokens inside : List Lexeme} → MayBegin tokens inside → AreItems scope inside items [] → IsBody scope tokens (a_grammar items)
+  pattern_body : {p : WrittenPattern} {tokens inside : List Lexeme} →
+      MayBegin tokens inside → IsPattern scope inside p [] → IsBody scope tokens (a_pattern p)
+  grammar_body : {items : WrittenItems} {tokens inside : List Lexeme} →
+      MayBegin tokens inside → AreItems scope inside items [] → IsBody scope tokens (a_grammar items)
 
 -- the tokens are these declarations and, where prefixes stand for what the scope says, this body
 pub record IsFile (scope : Scope) (tokens : List Lexeme) (declarations : List Declaration) (surface : WrittenSurface) : Type 0 where
@@ -53,7 +65,8 @@ pub record Says (tokens : List Lexeme) (surface : WrittenSurface) : Type 0 where
 
 -- the tokens are in no reading, whatever prefixes stand for
 abbrev pub IsNoFile : List Lexeme → Type 0
-IsNoFile tokens = (scope : Scope) (declarations : List Declaration) (surface : WrittenSurface) → IsFile scope tokens declarations surface → ⊥
+IsNoFile tokens =
+    (scope : Scope) (declarations : List Declaration) (surface : WrittenSurface) → IsFile scope tokens declarations surface → ⊥
 
 -- some look-ups make the tokens a file with these declarations
 pub record IsSomeFile (tokens : List Lexeme) (declarations : List Declaration) : Type 0 where
@@ -68,7 +81,8 @@ pub record NeedsPrefix (tokens : List Lexeme) (used : Use) : Type 0 where
   pub some_file : IsSomeFile tokens declarations
   pub in_order : AreInOrder declarations
   pub undeclared : IsUndeclared (scope_of declarations) used
-  pub needed : (scope : Scope) (others : List Declaration) (surface : WrittenSurface) → IsUndeclared scope used → IsFile scope tokens others surface → ⊥
+  pub needed : (scope : Scope) (others : List Declaration) (surface : WrittenSurface) → IsUndeclared scope used →
+      IsFile scope tokens others surface → ⊥
 
 -- the tokens are a file, whose declarations declare the prefix twice, or though they may not
 pub record DeclaresTwice (tokens : List Lexeme) (prefix : List ℕ) : Type 0 where

@@ -20,7 +20,11 @@ namespace_of None = Inherited
 
 abbrev pub scope_in : LookUps → Scope
 scope_in look_ups = record {
-  namespace = λ prefix. if look_ups.any then Some Inherited else (if bytes_eq prefix (codes "xml") then Some (Uri xml_uri) else held look_ups.namespaces prefix);
+  namespace = λ prefix.
+      if look_ups.any then Some Inherited
+      else (if bytes_eq prefix (codes "xml") then Some (Uri xml_uri) else held look_ups.namespaces prefix);
   unprefixed = namespace_of look_ups.unprefixed;
-  library = λ prefix. if look_ups.any then Some [] else or_else (held look_ups.libraries prefix) (if bytes_eq prefix (codes "xsd") then Some xsd_uri else None);
+  library = λ prefix.
+      if look_ups.any then Some []
+      else or_else (held look_ups.libraries prefix) (if bytes_eq prefix (codes "xsd") then Some xsd_uri else None);
 }

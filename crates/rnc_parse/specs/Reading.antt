@@ -76,7 +76,8 @@ unfoldable pub behind_symbol : Symbol → List Lexeme → Reading (Unit {0})
 behind_symbol symbol tokens = if stands symbol tokens then read tt (behind tokens) else no_reading
 
 -- a step, as long as the tokens go on; what the steps find is added to what is there
-unfoldable pub loop_within : {A B : Type 0} → (List Lexeme → Bool) → (List Lexeme → Reading A) → (B → A → B) → ℕ → B → List Lexeme → Reading B
+unfoldable pub loop_within : {A B : Type 0} →
+    (List Lexeme → Bool) → (List Lexeme → Reading A) → (B → A → B) → ℕ → B → List Lexeme → Reading B
 loop_within goes_on step add zero before tokens = no_reading
 loop_within goes_on step add (suc most) before tokens =
     if goes_on tokens then (step tokens >>= λ value rest. loop_within goes_on step add most (add before value) rest)

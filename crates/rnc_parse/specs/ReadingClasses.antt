@@ -37,7 +37,8 @@ module _ (scope : Scope) (unprefixed : Namespace) (inside : List Lexeme → Read
   abbrev pub one_class_by : List Lexeme → Option Lexeme → Reading WrittenClass
   one_class_by tokens (Some (Identifier name)) = read (the_name unprefixed name) (behind tokens)
   one_class_by tokens (Some (word keyword)) = read (the_name unprefixed (keyword_text keyword)) (behind tokens)
-  one_class_by tokens (Some (PrefixedName prefix local)) = namespace_at scope prefix (behind tokens) >>= λ ns rest. read (the_name ns local) rest
+  one_class_by tokens (Some (PrefixedName prefix local)) =
+      namespace_at scope prefix (behind tokens) >>= λ ns rest. read (the_name ns local) rest
   one_class_by tokens (Some (mark LeftParenthesis)) = parenthesized_at (behind tokens)
   one_class_by tokens _ = wildcard_at scope tokens
 

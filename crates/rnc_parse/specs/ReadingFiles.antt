@@ -18,7 +18,8 @@ use Rattle.rnc_parse.specs.ReadingPatterns.{pattern_at, items_at}
 -- ---- declarations
 
 unfoldable pub namespace_uri_at : List Lexeme → Reading Namespace
-namespace_uri_at tokens = if is_inherit (first tokens) then read Inherited (behind tokens) else (literal_at tokens >>= λ uri rest. read (Uri uri) rest)
+namespace_uri_at tokens =
+    if is_inherit (first tokens) then read Inherited (behind tokens) else (literal_at tokens >>= λ uri rest. read (Uri uri) rest)
 
 abbrev pub is_namespace_word : Option Lexeme → Bool
 is_namespace_word (Some (word keyword.Namespace)) = true

@@ -58,7 +58,8 @@ library_at scope prefix rest = looked_up (scope.library prefix) (of_types prefix
 -- ---- datatypes
 
 abbrev pub type_by : Scope → Option Lexeme → List Lexeme → Reading TypeName
-type_by scope (Some (PrefixedName prefix local)) rest = library_at scope prefix rest >>= λ uri behind. read (record { library = uri; name = local }) behind
+type_by scope (Some (PrefixedName prefix local)) rest =
+    library_at scope prefix rest >>= λ uri behind. read (record { library = uri; name = local }) behind
 type_by scope (Some (word keyword.String)) rest = read (built_in (codes "string")) rest
 type_by scope (Some (word keyword.Token)) rest = read (built_in (codes "token")) rest
 type_by scope _ rest = no_reading

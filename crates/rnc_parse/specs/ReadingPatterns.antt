@@ -156,9 +156,12 @@ module _ (scope : Scope) (left : ℕ) (inside : Inside) where
   abbrev pub primary_by : List Lexeme → Option Lexeme → Reading WrittenPattern
   primary_by tokens (Some (word keyword.Element)) = named_at scope.unprefixed element (behind tokens)
   primary_by tokens (Some (word keyword.Attribute)) = named_at (Uri []) attribute (behind tokens)
-  primary_by tokens (Some (word keyword.List)) = between LeftBrace RightBrace inside.pattern (behind tokens) >>= λ p rest. read (list p) rest
-  primary_by tokens (Some (word keyword.Mixed)) = between LeftBrace RightBrace inside.pattern (behind tokens) >>= λ p rest. read (mixed p) rest
-  primary_by tokens (Some (word keyword.Grammar)) = between LeftBrace RightBrace inside.items (behind tokens) >>= λ items rest. read (grammar items) rest
+  primary_by tokens (Some (word keyword.List)) =
+      between LeftBrace RightBrace inside.pattern (behind tokens) >>= λ p rest. read (list p) rest
+  primary_by tokens (Some (word keyword.Mixed)) =
+      between LeftBrace RightBrace inside.pattern (behind tokens) >>= λ p rest. read (mixed p) rest
+  primary_by tokens (Some (word keyword.Grammar)) =
+      between LeftBrace RightBrace inside.items (behind tokens) >>= λ items rest. read (grammar items) rest
   primary_by tokens (Some (mark LeftParenthesis)) = between LeftParenthesis RightParenthesis inside.pattern tokens
   primary_by tokens _ = leaf_at scope tokens
 
@@ -216,7 +219,8 @@ module _ (scope : Scope) (left : ℕ) (inside : Inside) where
 
   -- an item; none where it is an annotation
   abbrev pub item_by : List Lexeme → Option Lexeme → Reading (Option WrittenItem)
-  item_by tokens (Some (word keyword.Div)) = between LeftBrace RightBrace inside.items (behind tokens) >>= λ items rest. read (Some (div items)) rest
+  item_by tokens (Some (word keyword.Div)) =
+      between LeftBrace RightBrace inside.items (behind tokens) >>= λ items rest. read (Some (div items)) rest
   item_by tokens (Some (word keyword.Include)) = include_at (behind tokens) >>= λ item rest. read (Some item) rest
   item_by tokens _ = definition_at tokens >>= λ d rest. read (Some (define d.0 d.1 d.2)) rest
 
@@ -230,7 +234,8 @@ module _ (scope : Scope) (left : ℕ) (inside : Inside) where
   items_within tokens = loop_at goes_on item_at add_item no_items tokens
 
   abbrev pub replacement_by : List Lexeme → Option Lexeme → Reading (Option WrittenReplacement)
-  replacement_by tokens (Some (word keyword.Div)) = between LeftBrace RightBrace inside.replacements (behind tokens) >>= λ replacements rest. read (Some (div_anew replacements)) rest
+  replacement_by tokens (Some (word keyword.Div)) =
+      between LeftBrace RightBrace inside.replacements (behind tokens) >>= λ replacements rest. read (Some (div_anew replacements)) rest
   replacement_by tokens _ = definition_at tokens >>= λ d rest. read (Some (define_anew d.0 d.1 d.2)) rest
 
   unfoldable pub replacement_at : List Lexeme → Reading (Option WrittenReplacement)

@@ -38,8 +38,10 @@ xsd_uri = codes "http://www.w3.org/2001/XMLSchema-datatypes"
 -- the namespace that the first declaration of the prefix binds it to
 abbrev pub declared_namespace : List Declaration → List ℕ → Option Namespace
 declared_namespace [] prefix = None
-declared_namespace (declaration.Namespace bound ns ∷ more) prefix = if bytes_eq bound prefix then Some ns else declared_namespace more prefix
-declared_namespace (declaration.Default (Some bound) ns ∷ more) prefix = if bytes_eq bound prefix then Some ns else declared_namespace more prefix
+declared_namespace (declaration.Namespace bound ns ∷ more) prefix =
+    if bytes_eq bound prefix then Some ns else declared_namespace more prefix
+declared_namespace (declaration.Default (Some bound) ns ∷ more) prefix =
+    if bytes_eq bound prefix then Some ns else declared_namespace more prefix
 declared_namespace (declaration.Default None ns ∷ more) prefix = declared_namespace more prefix
 declared_namespace (declaration.Datatypes bound uri ∷ more) prefix = declared_namespace more prefix
 
@@ -66,10 +68,12 @@ or_else None other = other
 
 -- and `xsd` is a library unless another is declared
 abbrev pub library_in : List Declaration → List ℕ → Option (List ℕ)
-library_in declarations prefix = or_else (declared_library declarations prefix) (if bytes_eq prefix (codes "xsd") then Some xsd_uri else None)
+library_in declarations prefix =
+    or_else (declared_library declarations prefix) (if bytes_eq prefix (codes "xsd") then Some xsd_uri else None)
 
 abbrev pub scope_of : List Declaration → Scope
-scope_of declarations = record { namespace = namespace_in declarations; unprefixed = declared_default declarations; library = library_in declarations }
+scope_of declarations =
+    record { namespace = namespace_in declarations; unprefixed = declared_default declarations; library = library_in declarations }
 
 -- ---- declarations in order
 
@@ -112,7 +116,8 @@ Binds (declaration.Datatypes bound uri ∷ more) prefix ns = Binds more prefix n
 pub data IsDeclaredTwice (declarations : List Declaration) : List ℕ → Type 0 where
   made_twice : {binding : Binding} → IsMadeTwice (bindings declarations) binding → IsDeclaredTwice declarations (bound_prefix binding)
   xmlns_declared : (ns : Namespace) → Binds declarations (codes "xmlns") ns → IsDeclaredTwice declarations (codes "xmlns")
-  xml_declared_otherwise : (ns : Namespace) → Binds declarations (codes "xml") ns → ns ≢ Uri xml_uri → IsDeclaredTwice declarations (codes "xml")
+  xml_declared_otherwise : (ns : Namespace) → Binds declarations (codes "xml") ns → ns ≢ Uri xml_uri →
+      IsDeclaredTwice declarations (codes "xml")
 
 -- no prefix is
 abbrev pub AreInOrder : List Declaration → Type 0

@@ -53,11 +53,13 @@ abbrev mutual
   pattern_of (pattern.Interleave' shape row) = patterns_of interleave empty row
 
   -- patterns of a row nest to the left
-  pub patterns_of : {n : _} → (WrittenPattern → WrittenPattern → WrittenPattern) → WrittenPattern → pattern.Row_of-Pattern n → WrittenPattern
+  pub patterns_of : {n : _} →
+      (WrittenPattern → WrittenPattern → WrittenPattern) → WrittenPattern → pattern.Row_of-Pattern n → WrittenPattern
   patterns_of join none pattern.end_of-Pattern = none
   patterns_of join none (pattern.more_of-Pattern first row) = patterns_behind join (pattern_of first) row
 
-  pub patterns_behind : {n : _} → (WrittenPattern → WrittenPattern → WrittenPattern) → WrittenPattern → pattern.Row_of-Pattern n → WrittenPattern
+  pub patterns_behind : {n : _} →
+      (WrittenPattern → WrittenPattern → WrittenPattern) → WrittenPattern → pattern.Row_of-Pattern n → WrittenPattern
   patterns_behind join before pattern.end_of-Pattern = before
   patterns_behind join before (pattern.more_of-Pattern next row) = patterns_behind join (join before (pattern_of next)) row
 

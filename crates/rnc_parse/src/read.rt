@@ -44,12 +44,6 @@ pub enum ReadFault {
     NoMemory,
 }
 
-impl From<NoMemory> for ReadFault {
-    fn from(_error: NoMemory) -> ReadFault {
-        ReadFault::NoMemory
-    }
-}
-
 /// Reads a schema file: what it says, or the one cause for which it says nothing. It takes time and memory in proportion to
 /// the text.
 pub fn read(alloc: Global, text: &str) -> Result<Surface, ReadFault>

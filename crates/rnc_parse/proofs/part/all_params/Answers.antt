@@ -13,7 +13,8 @@ returns-in_err-param c =
     (loop_fails goes_on param_at (λ params param. params ++ param ∷ []) c.params.params c.params.cursor (all_params_at c.args.cursor.now) c.in_err-param.field-0.0 param_shortens (sym c.goes_on.ensures ∙ c.params-test.true) c.params.invariant c.in_err-param.ensures)
 
 pub params-smaller : goal.params-smaller
-params-smaller c = param_shortens.shorter c.params.cursor (sym c.goes_on.ensures ∙ c.params-test.true) _ c.param.new.cursor c.in_ok-param.ensures
+params-smaller c =
+    param_shortens.shorter c.params.cursor (sym c.goes_on.ensures ∙ c.params-test.true) _ c.param.new.cursor c.in_ok-param.ensures
 
 pub params-preserved : goal.params-preserved
 params-preserved c =

@@ -31,4 +31,5 @@ more_classes-returns t c =
 
 pub several_classes-returns-then-not-stands : goal.several_classes-returns-then-not-stands
 unfolding several_classes_at
-several_classes-returns-then-not-stands t c = rw (c.in_ok-first.ensures, c.in_ok-follow.ensures) (only_one _ _ _ _ _ (sym c.stands.ensures ∙ c.if-not-stands.true))
+several_classes-returns-then-not-stands t c =
+    rw (c.in_ok-first.ensures, c.in_ok-follow.ensures) (only_one _ _ _ _ _ (sym c.stands.ensures ∙ c.if-not-stands.true))
