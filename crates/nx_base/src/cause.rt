@@ -18,47 +18,47 @@ pub enum Cause {
     UndeclaredPrefix,
     /// A prefix that is declared twice, or that may not be declared so (Annex C.3).
     Twice,
-    /// An included file that is no grammar (4.7).
+    /// An included file that is no grammar (7.8).
     NotGrammar,
-    /// A file that refers to itself through a chain (4.6, 4.7).
+    /// A file that refers to itself through a chain (7.7, 7.8).
     IncludeLoop,
-    /// A reference to no definition (4.18), or an override of none (4.7).
+    /// A reference to no definition (7.19), or an override of none (7.8).
     NoDefinition,
-    /// A grammar without a start (4.18).
+    /// A grammar without a start (7.19).
     NoStart,
-    /// Definitions of one name that don't say how they are combined, or say it in two ways (4.17).
+    /// Definitions of one name that don't say how they are combined, or say it in two ways (7.18).
     CombineClash,
-    /// A cycle of references that passes no element (4.19).
+    /// A cycle of references that passes no element (7.20).
     RefLoop,
-    /// A wildcard taken from a wildcard (4.16).
+    /// A wildcard taken from a wildcard (7.17).
     BadExcept,
-    /// A class with a name that belongs to namespace declarations (4.16).
+    /// A class with a name that belongs to namespace declarations (7.17).
     XmlnsName,
     /// A grammar beyond the limits of nodes.
     TooLarge,
-    /// A datatype that isn't known (4.16).
+    /// A datatype that isn't known (7.17).
     UnknownType,
-    /// A param that a datatype doesn't have (4.16).
+    /// A param that a datatype doesn't have (7.17).
     UnknownParam,
-    /// A param's value that isn't of its form (4.16).
+    /// A param's value that isn't of its form (7.17).
     BadParam,
-    /// A value that its datatype doesn't accept (4.16).
+    /// A value that its datatype doesn't accept (7.17).
     BadValue,
     /// More than 128 values in one except.
     TooManyExcepts,
     /// An except of a datatype that isn't a choice of values of its own or the built-in types.
     UnsupportedExcept,
-    /// A pattern below one that it may not stand in (7.1).
+    /// A pattern below one that it may not stand in (10.2).
     Path,
-    /// Data or a value beside elements or text (7.2).
+    /// Data or a value beside elements or text (10.3).
     Mixture,
-    /// Two attributes that can have one name (7.3).
+    /// Two attributes that can have one name (10.4).
     AttributeOverlap,
-    /// An attribute with a wildcard that isn't repeated (7.3).
+    /// An attribute with a wildcard that isn't repeated (10.4).
     WildcardOnce,
-    /// An interleave with one element's name on both sides (7.4).
+    /// An interleave with one element's name on both sides (10.5).
     InterleaveOverlap,
-    /// An interleave with text on both sides (7.4).
+    /// An interleave with text on both sides (10.5).
     TextTwice,
     /// A schema that no document is valid for.
     NothingValid,

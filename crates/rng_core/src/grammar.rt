@@ -4,9 +4,9 @@ use crate::name_class::NameClass;
 use nx_base::sequence::{Bytes, Sequence};
 use rng_types::datatype::{Datatype, Excepts};
 
-/// A pattern of the simple form. What walks over one, its destruction included, calls itself as deep as the pattern is;
-/// simplification bounds a path in it at 8,000 nodes, for which 2 MB of stack suffice.
-#[derive(Drop)]
+/// A pattern of the simple form. Simplification bounds a path in it at 8,000 nodes. What walks over a pattern calls itself
+/// once for each node of a path, for which 2 MB of stack suffice; its destruction goes down the first sides in a loop, since
+/// particles nest to the left.
 pub enum Pat {
     /// Nothing at all matches.
     NotAllowed,
@@ -32,6 +32,27 @@ pub enum Pat {
     Group(Box<Pat>, Box<Pat>),
     /// What the sides match, shuffled.
     Interleave(Box<Pat>, Box<Pat>),
+}
+
+impl Drop for Pat {
+    fn drop(mut self) {
+        loop {
+            match self {
+                Pat::NotAllowed => return,
+                Pat::Empty => return,
+                Pat::Text => return,
+                Pat::Typed(_, _) => return,
+                Pat::Value(_, _) => return,
+                Pat::Ref(_) => return,
+                Pat::List(body) => self = Box::into_inner(body),
+                Pat::Attribute(_, body) => self = Box::into_inner(body),
+                Pat::OneOrMore(body) => self = Box::into_inner(body),
+                Pat::Choice(first, _) => self = Box::into_inner(first),
+                Pat::Group(first, _) => self = Box::into_inner(first),
+                Pat::Interleave(first, _) => self = Box::into_inner(first),
+            }
+        }
+    }
 }
 
 /// An element's names and its content.

@@ -1,4 +1,4 @@
--- Attributes of one element: ISO/IEC 19757-2, section 7.3.
+-- Attributes of one element: ISO/IEC 19757-2, section 10.4.
 use Rattle.std.specs.Prelude.{ℕ, List}
 use Rattle.rng_core.specs.Names.{Class, any_name, ns_name, either, without, Overlap}
 use Rattle.rng_core.specs.Patterns.{Pattern, Definition, attribute, group, interleave}

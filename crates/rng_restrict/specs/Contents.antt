@@ -1,4 +1,4 @@
--- Content types: ISO/IEC 19757-2, section 7.2.
+-- Content types: ISO/IEC 19757-2, section 10.3.
 use Rattle.std.specs.Prelude.{◌≡◌, ℕ, List}
 use Rattle.rng_types.specs.declared.datatype.Datatype.{Datatype}
 use Rattle.rng_types.specs.declared.datatype.Except.{Except}

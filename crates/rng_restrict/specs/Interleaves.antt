@@ -1,4 +1,4 @@
--- Interleaves: ISO/IEC 19757-2, section 7.4.
+-- Interleaves: ISO/IEC 19757-2, section 10.5.
 use Rattle.std.specs.Prelude.{◌≡◌, ℕ, List, Some, slice_get}
 use Rattle.rng_core.specs.Names.{Overlap}
 use Rattle.rng_core.specs.Patterns.{Pattern, Definition, any_text, ref, interleave}

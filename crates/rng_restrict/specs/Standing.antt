@@ -1,4 +1,4 @@
--- Where patterns stand in one another: ISO/IEC 19757-2, sections 7.1 and 7.3. References aren't followed.
+-- Where patterns stand in one another: ISO/IEC 19757-2, sections 10.2 and 10.4. References aren't followed.
 use Rattle.rng_core.specs.Names.{Class}
 use Rattle.rng_core.specs.Patterns.{Pattern, listed, attribute, one_or_more, choice, group, interleave}
 
@@ -27,7 +27,7 @@ pub data StandsOnce (q : Pattern) : Pattern → Type 0 where
   once_in_first_of_interleave : {p r : Pattern} → StandsOnce q p → StandsOnce q (interleave p r)
   once_in_second_of_interleave : {p r : Pattern} → StandsOnce q r → StandsOnce q (interleave p r)
 
--- section 7.3: it occurs in another, where nothing but choices, groups, interleaves and oneOrMores lie between
+-- section 10.4: it occurs in another, where nothing but choices, groups, interleaves and oneOrMores lie between
 pub data Occurs (q : Pattern) : Pattern → Type 0 where
   as_itself : Occurs q q
   below_one_or_more : {p : Pattern} → Occurs q p → Occurs q (one_or_more p)

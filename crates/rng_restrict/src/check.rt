@@ -11,7 +11,7 @@ use crate::reach::reached;
 use rng_core::grammar::Grammar;
 use std::alloc::Global;
 
-/// Judges a grammar by the restrictions of ISO/IEC 19757-2, section 7.
+/// Judges a grammar by the restrictions of ISO/IEC 19757-2, section 10.
 ///
 /// A refusal comes exactly where its restriction is broken and none before it is, in the order of `RestrictFault`.
 /// Only the start and what it reaches are judged. The walks call themselves as deep as a pattern is; simplification

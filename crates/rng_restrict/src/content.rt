@@ -7,7 +7,7 @@ ghost use Rattle.rng_restrict.specs.Finding.{are_groupable, grouped as grouped_t
 
 use rng_core::grammar::Pat;
 
-/// What an element's content is made of (ISO/IEC 19757-2, section 7.2).
+/// What an element's content is made of (ISO/IEC 19757-2, section 10.3).
 #[derive(Clone, Copy)]
 pub enum Content {
     /// Attributes alone.

@@ -5,20 +5,20 @@ ghost use Rattle.rng_restrict.specs.declared.fault.RestrictFault.TheVariants.{No
 
 use nx_base::memory::NoMemory;
 
-/// The restriction that a grammar breaks (ISO/IEC 19757-2, section 7).
+/// The restriction that a grammar breaks (ISO/IEC 19757-2, section 10).
 #[derive(Clone, Copy, Debug, PartialEq, Eq)]
 pub enum RestrictFault {
-    /// A prohibited path (7.1).
+    /// A prohibited path (10.2).
     Path,
-    /// An element's content mixes data with elements or text (7.2).
+    /// An element's content mixes data with elements or text (10.3).
     Mixture,
-    /// Both sides of a group or an interleave have an attribute with a name in common (7.3).
+    /// Both sides of a group or an interleave have an attribute with a name in common (10.4).
     AttributeOverlap,
-    /// An attribute with anyName or nsName isn't repeated (7.3).
+    /// An attribute with anyName or nsName isn't repeated (10.4).
     WildcardOnce,
-    /// Both sides of an interleave refer to an element with a name in common (7.4).
+    /// Both sides of an interleave refer to an element with a name in common (10.5).
     InterleaveOverlap,
-    /// Text occurs in both sides of an interleave (7.4).
+    /// Text occurs in both sides of an interleave (10.5).
     TextTwice,
     /// There was no memory.
     NoMemory,

@@ -1,4 +1,4 @@
-//! The restrictions on schemas (ISO/IEC 19757-2, section 7), in their order.
+//! The restrictions on schemas (ISO/IEC 19757-2, section 10), in their order.
 //!
 //! A grammar is judged by its start and the definitions that its start reaches, which a work list finds (`reach`).
 //! Each restriction is a walk over each of these patterns (`path`, `content`, `attribute`, `wildcard`, `element`,
