@@ -1,8 +1,7 @@
 -- The letters of a text: its characters after line ends and escapes (ISO/IEC 19757-2, Annex C).
-use Rattle.std.specs.Prelude.{◌≡◌, ◌≢◌, ℕ, ◌-◌, ◌==◌, ◌⊎◌, Bool, true, false, if◌then◌else◌, List, [], ◌∷◌, ◌++◌, length, codes, IsTrue}
+use Rattle.std.specs.Prelude.{◌≡◌, ◌≢◌, ℕ, ◌-◌, ◌==◌, ◌⊎◌, Bool, true, false, if◌then◌else◌, List, [], ◌∷◌, ◌++◌, length, replicate, codes, IsTrue}
 use Rattle.std.specs.Str.{chars, encode_utf8_all}
 use Rattle.std.specs.Str.Parse.{IsNumeral, digits_value}
-use Rattle.std.proofs.Math.ListN.{replicate}
 use Rattle.nx_base.specs.Characters.{is_char}
 use Rattle.rnc_lex.specs.declared.letter.Letter.{Letter}
 

@@ -69,32 +69,46 @@ AreUpToThree quote inside = (front back : List ℕ) → inside ++ quote ∷ quot
 -- these letters, in front of the rest, are one token
 pub data Stands (letters rest : List Letter) (found : Lexeme) : Type 0 where
   -- a name that is no keyword
-  identifier : IsPlainName letters rest → ((k : Keyword) → said letters ≢ keyword_text k) → found ≡ lexeme.Identifier (utf8 letters) → Stands letters rest found
+  identifier : IsPlainName letters rest → ((k : Keyword) → said letters ≢ keyword_text k) → found ≡ lexeme.Identifier (utf8 letters) →
+      Stands letters rest found
   keyword : (k : Keyword) → IsPlainName letters rest → said letters ≡ keyword_text k → found ≡ lexeme.Keyword k → Stands letters rest found
   -- `\` (92) and a name
-  escaped_identifier : (mark : Letter) (name : List Letter) → letters ≡ mark ∷ name → mark.character ≡ 92 → IsWholeName name rest → found ≡ lexeme.Identifier (utf8 name) → Stands letters rest found
+  escaped_identifier : (mark : Letter) (name : List Letter) → letters ≡ mark ∷ name → mark.character ≡ 92 → IsWholeName name rest →
+      found ≡ lexeme.Identifier (utf8 name) → Stands letters rest found
   -- a name, `:` and a name
-  prefixed_name : (name local : List Letter) (colon : Letter) → letters ≡ name ++ colon ∷ local → IsTrue (is_nc_name (said name)) → colon.character ≡ 58 → IsWholeName local rest → found ≡ lexeme.PrefixedName (utf8 name) (utf8 local) → Stands letters rest found
+  prefixed_name : (name local : List Letter) (colon : Letter) → letters ≡ name ++ colon ∷ local → IsTrue (is_nc_name (said name)) →
+      colon.character ≡ 58 → IsWholeName local rest → found ≡ lexeme.PrefixedName (utf8 name) (utf8 local) → Stands letters rest found
   -- a name and `:*`
-  namespace_wildcard : (name mark : List Letter) → letters ≡ name ++ mark → IsTrue (is_nc_name (said name)) → said mark ≡ codes ":*" → found ≡ lexeme.NamespaceWildcard (utf8 name) → Stands letters rest found
+  namespace_wildcard : (name mark : List Letter) → letters ≡ name ++ mark → IsTrue (is_nc_name (said name)) → said mark ≡ codes ":*" →
+      found ≡ lexeme.NamespaceWildcard (utf8 name) → Stands letters rest found
   -- between two quotes, of which three in a row would open another literal instead
-  short_literal : (first last : Letter) (inside : List Letter) → letters ≡ first ∷ inside ++ last ∷ [] → IsTrue (is_quote first.character) → last.character ≡ first.character → AreInLine first.character inside → (inside ≡ [] → Begins (λ c. c == first.character) (said rest) → ⊥) → found ≡ lexeme.Literal (utf8 inside) → Stands letters rest found
+  short_literal : (first last : Letter) (inside : List Letter) → letters ≡ first ∷ inside ++ last ∷ [] →
+      IsTrue (is_quote first.character) → last.character ≡ first.character → AreInLine first.character inside → (inside ≡ [] → Begins (λ c. c == first.character) (said rest) → ⊥) →
+      found ≡ lexeme.Literal (utf8 inside) → Stands letters rest found
   -- between three quotes and the next three in a row
-  long_literal : (quote : ℕ) (before inside behind : List Letter) → letters ≡ before ++ inside ++ behind → IsTrue (is_quote quote) → said before ≡ three quote → said behind ≡ three quote → AreUpToThree quote (said inside) → found ≡ lexeme.Literal (utf8 inside) → Stands letters rest found
+  long_literal : (quote : ℕ) (before inside behind : List Letter) → letters ≡ before ++ inside ++ behind → IsTrue (is_quote quote) →
+      said before ≡ three quote → said behind ≡ three quote → AreUpToThree quote (said inside) → found ≡ lexeme.Literal (utf8 inside) →
+      Stands letters rest found
   -- a mark that doesn't go on to a longer one
-  symbol : (s : Symbol) → said letters ≡ symbol_text s → ((t : Symbol) (c : ℕ) (more : List ℕ) → said rest ≡ c ∷ more → symbol_text t ≢ symbol_text s ++ c ∷ []) → found ≡ lexeme.Symbol s → Stands letters rest found
+  symbol : (s : Symbol) → said letters ≡ symbol_text s → ((t : Symbol) (c : ℕ) (more : List ℕ) → said rest ≡ c ∷ more → symbol_text t ≢ symbol_text s ++ c ∷ []) →
+      found ≡ lexeme.Symbol s → Stands letters rest found
 
 -- these letters, in front of the rest, are passed over
 pub data IsPassedOver (letters rest : List Letter) : Type 0 where
   space : (letter : Letter) → letters ≡ letter ∷ [] → IsTrue (is_space letter.character) → IsPassedOver letters rest
   -- `#` (35) to the end of the line
-  comment : (mark : Letter) (inside : List Letter) → letters ≡ mark ∷ inside → mark.character ≡ 35 → AllByRecursion (λ (letter : Letter). letter.character ≢ 10) inside → (Begins (λ c. not (c == 10)) (said rest) → ⊥) → IsPassedOver letters rest
+  comment : (mark : Letter) (inside : List Letter) → letters ≡ mark ∷ inside → mark.character ≡ 35 →
+      AllByRecursion (λ (letter : Letter). letter.character ≢ 10) inside → (Begins (λ c. not (c == 10)) (said rest) → ⊥) →
+      IsPassedOver letters rest
 
 -- letters are these tokens, what is passed over between them, and then the rest
 pub data AreTokens (rest : List Letter) : List Letter → List RncToken → Type 0 where
   ended : {letters : List Letter} {tokens : List RncToken} → letters ≡ rest → tokens ≡ [] → AreTokens rest letters tokens
-  passed : {letters : List Letter} {tokens : List RncToken} (front more : List Letter) → letters ≡ front ++ more → IsPassedOver front more → AreTokens rest more tokens → AreTokens rest letters tokens
-  taken : {letters : List Letter} {tokens : List RncToken} (front more : List Letter) (token : RncToken) (others : List RncToken) → letters ≡ front ++ more → tokens ≡ token ∷ others → Stands front more token.lexeme → token.at ≡ place_of front → AreTokens rest more others → AreTokens rest letters tokens
+  passed : {letters : List Letter} {tokens : List RncToken} (front more : List Letter) → letters ≡ front ++ more →
+      IsPassedOver front more → AreTokens rest more tokens → AreTokens rest letters tokens
+  taken : {letters : List Letter} {tokens : List RncToken} (front more : List Letter) (token : RncToken) (others : List RncToken) →
+      letters ≡ front ++ more → tokens ≡ token ∷ others → Stands front more token.lexeme → token.at ≡ place_of front →
+      AreTokens rest more others → AreTokens rest letters tokens
 
 -- the text is these tokens
 abbrev pub IsTokensOf : List ℕ → List RncToken → Type 0

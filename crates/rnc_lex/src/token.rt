@@ -84,7 +84,7 @@ pub enum Lexeme {
     Symbol(Symbol),
 }
 
-/// A token, and the byte offset of the text at which it begins, escapes uncounted for.
+/// A token, and the byte offset at which it begins in the text as it is written, where escapes have their full length.
 #[derive(Drop)]
 pub struct RncToken {
     pub at: usize,

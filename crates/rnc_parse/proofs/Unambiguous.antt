@@ -6,10 +6,10 @@ use Rattle.rnc_lex.specs.declared.token.Symbol.TheVariants.{LeftBrace, RightBrac
 use Rattle.rnc_parse.specs.declared.declaration.Declaration.{Declaration}
 use Rattle.rnc_parse.specs.Scopes.{Scope, scope_of, IsDeclaredTwice, IsUndeclared}
 use Rattle.rnc_parse.specs.Written.{WrittenSurface}
-use Rattle.rnc_parse.specs.Files.{open_behind, IsBody}
+use Rattle.rnc_parse.specs.Files.{open_behind, IsBody, IsFile}
 use Rattle.rnc_parse.specs.Reading.{Reading, read, no_reading, no_prefix}
 use Rattle.rnc_parse.specs.ReadingFiles.{body_at}
-use Rattle.rnc_parse.specs.Laws.{TokensSayOneThing, WhatIsSaidIsNotRefused}
+use Rattle.rnc_parse.specs.Laws.{FilesSayOneThing, TokensSayOneThing, WhatIsSaidIsNotRefused}
 use Rattle.rnc_parse.proofs.Sounding.{Sounds, stops}
 use Rattle.rnc_parse.proofs.SoundFiles.{sound_body}
 use Rattle.rnc_parse.proofs.Agreeing.{Agrees, found, missing}
@@ -41,19 +41,30 @@ one_thing (read v r) (found a) (found b) p = sym (a refl) ∙ b refl
 one_thing (no_prefix u) (missing m) b (stops h) = elim (m h) [ ]
 one_thing no_reading a b p = elim a [ ]
 
+-- tokens are one file at most, whatever prefixes stand for
+pub files_one_thing : FilesSayOneThing
+files_one_thing scope tokens some others one other a b =
+    let is = file_declarations a in
+    let are = file_declarations b in
+    let same : some ≡ others = cc in
+    let bodies : b.body ≡ a.body = cc in
+    let said : IsBody scope a.body other = subst (λ (t : List Lexeme). IsBody scope t other) bodies b.said in (
+      same,
+      one_thing (body_at scope (length a.body) a.body)
+      (body_agrees scope scope (length a.body) (all_counts a.body) a.said)
+      (body_agrees scope scope (length a.body) (all_counts a.body) said)
+      (sound_body (length a.body) a.body),
+    )
+
 -- tokens say one thing at most
 pub says_one_thing : TokensSayOneThing
 says_one_thing tokens one other a b =
     let is = file_declarations a.file in
     let are = file_declarations b.file in
     let same : b.declarations ≡ a.declarations = cc in
-    let bodies : b.file.body ≡ a.file.body = cc in
-    let moved : IsBody (scope_of a.declarations) b.file.body other = subst (λ (ds : List Declaration). IsBody (scope_of ds) b.file.body other) same b.file.said in
-    let said : IsBody (scope_of a.declarations) a.file.body other = subst (λ (t : List Lexeme). IsBody (scope_of a.declarations) t other) bodies moved in
-    one_thing (body_at (scope_of a.declarations) (length a.file.body) a.file.body)
-    (body_agrees (scope_of a.declarations) (scope_of a.declarations) (length a.file.body) (all_counts a.file.body) a.file.said)
-    (body_agrees (scope_of a.declarations) (scope_of a.declarations) (length a.file.body) (all_counts a.file.body) said)
-    (sound_body (length a.file.body) a.file.body)
+    let said : IsFile (scope_of a.declarations) tokens b.declarations other =
+        subst (λ (ds : List Declaration). IsFile (scope_of ds) tokens b.declarations other) same b.file in
+    (files_one_thing (scope_of a.declarations) tokens a.declarations b.declarations one other a.file said).1
 
 -- tokens that say something are refused for no cause
 pub says_no_refusal : WhatIsSaidIsNotRefused

@@ -1,4 +1,5 @@
--- Annotations, which say nothing of the schema: where they stand, the grammar says.
+-- Annotations, which say nothing of the schema: where they stand, the grammar says. Of what stands in their brackets, that brackets
+-- of each kind close is all that is asked, and the prefixes of their names stand for nothing here; Annex C asks more.
 use Rattle.std.specs.Prelude.{ℕ, List, ◌∷◌}
 use Rattle.rnc_lex.specs.declared.token.Lexeme.{Lexeme}
 use Rattle.rnc_lex.specs.declared.token.Lexeme.TheVariants.{Identifier, PrefixedName, Keyword as word, Symbol as mark}

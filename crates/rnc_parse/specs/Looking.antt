@@ -1,4 +1,4 @@
--- What the look-ups of the program say.
+-- What the look-ups of the program say. No public contract rests on this.
 use Rattle.std.specs.Prelude.{ℕ, if◌then◌else◌, List, [], Option, Some, None, Vec, codes}
 use Rattle.std.specs.Global.{Global}
 use Rattle.std.specs.BTreeMap.{BTreeMap, get_by}

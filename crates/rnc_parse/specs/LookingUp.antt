@@ -1,4 +1,4 @@
--- Look-ups made of declarations.
+-- Look-ups made of declarations. No public contract rests on this.
 use Rattle.std.specs.Prelude.{◌≡◌, ℕ, Bool, true, false, if◌then◌else◌, List, [], ◌∷◌, Option, Some, None, codes, Result, Ok, Err}
 use Rattle.std.specs.Str.{bytes_eq}
 use Rattle.rnc_parse.specs.declared.declaration.Declaration.{Declaration}

@@ -1,4 +1,4 @@
--- What reading finds at the front of tokens: the steps and loops that all parts share.
+-- What reading finds at the front of tokens: the steps and loops that all parts share. The program's own functions; no public contract rests on them.
 use Rattle.std.specs.Prelude.{◌≡◌, ℕ, zero, suc, Bool, false, ◌==◌, if◌then◌else◌, List, [], ◌∷◌, length, Option, Some, None, Result, Ok, Err}
 use Rattle.rnc_lex.specs.declared.token.Lexeme.{Lexeme}
 use Rattle.rnc_lex.specs.declared.token.Lexeme.TheVariants.{Symbol as mark}

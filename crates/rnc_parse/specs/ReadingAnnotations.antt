@@ -1,4 +1,4 @@
--- What reading finds of annotations.
+-- What reading finds of annotations. The program's own functions; no public contract rests on them.
 use Rattle.std.specs.Prelude.{◌≡◌, Bool, true, false, if◌then◌else◌, List, [], ◌∷◌, Option, Some, None, Result, Ok, Err}
 use Rattle.rnc_lex.specs.declared.token.Lexeme.{Lexeme}
 use Rattle.rnc_lex.specs.declared.token.Lexeme.TheVariants.{Identifier, PrefixedName, Keyword as word, Symbol as mark}

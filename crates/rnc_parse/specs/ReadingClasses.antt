@@ -1,4 +1,4 @@
--- What reading finds of name classes.
+-- What reading finds of name classes. The program's own functions; no public contract rests on them.
 use Rattle.std.specs.Prelude.{ℕ, zero, suc, Bool, true, false, ◌&&◌, if◌then◌else◌, List, Option, Some}
 use Rattle.rnc_lex.specs.declared.token.Lexeme.{Lexeme}
 use Rattle.rnc_lex.specs.declared.token.Lexeme.TheVariants.{Identifier, PrefixedName, NamespaceWildcard, Keyword as word, Symbol as mark}

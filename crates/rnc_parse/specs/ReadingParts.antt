@@ -1,4 +1,4 @@
--- What reading finds of literals, datatypes and references to files.
+-- What reading finds of literals, datatypes and references to files. The program's own functions; no public contract rests on them.
 use Rattle.std.specs.Prelude.{ℕ, Bool, true, false, not, ◌&&◌, if◌then◌else◌, List, [], ◌∷◌, ◌++◌, codes, Option, Some, is_some}
 use Rattle.rnc_lex.specs.declared.token.Lexeme.{Lexeme}
 use Rattle.rnc_lex.specs.declared.token.Lexeme.TheVariants.{Identifier, PrefixedName, Literal, Keyword as word}

@@ -1,4 +1,4 @@
--- What reading finds of patterns and items.
+-- What reading finds of patterns and items. The program's own functions; no public contract rests on them.
 use Rattle.std.specs.Prelude.{ℕ, zero, suc, Bool, ◌&&◌, if◌then◌else◌, List, [], codes, map, Option, Some, None}
 use Rattle.rnc_lex.specs.declared.token.Lexeme.{Lexeme}
 use Rattle.rnc_lex.specs.declared.token.Lexeme.TheVariants.{Identifier, Literal, Keyword as word, Symbol as mark}

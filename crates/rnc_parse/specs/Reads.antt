@@ -39,7 +39,7 @@ pub record DeclaresAgain (text prefix : List ℕ) : Type 0 where
   pub shallow : IsShallow (lexemes tokens)
   pub twice : DeclaresTwice (lexemes tokens) prefix
 
--- the prefix of a name or of a type is left out of the declarations
+-- the prefix of a name, of a type or behind `inherit =` is left out of the declarations
 pub record LeavesOut (text prefix : List ℕ) : Type 0 where
   pub tokens : List RncToken
   pub lexed : Lexes text (Ok tokens)

@@ -13,7 +13,7 @@ pub record Scope : Type 0 where
   pub unprefixed : Namespace
   pub library : List ℕ → Option (List ℕ)
 
--- a prefix that is used for names, or for types
+-- a prefix that is used for names or behind `inherit =`, or for types
 pub data Use : Type 0 where
   of_names : List ℕ → Use
   of_types : List ℕ → Use

@@ -12,7 +12,7 @@ use Rattle.rnc_parse.specs.declared.surface.Surface.{Surface}
 use Rattle.rnc_parse.specs.declared.surface.Surface.TheVariants as surface
 use Rattle.rnc_parse.specs.Written.{WrittenClass, every_name, names_in, the_name, no_name, either, without, WrittenPattern, element, attribute, list, mixed, ref, parent_ref, empty, any_text, not_allowed, value, typed, typed_but, external, grammar, optional, zero_or_more, one_or_more, choice, group, interleave, WrittenItem, define, div, include, WrittenItems, no_items, item_then, WrittenReplacement, define_anew, div_anew, WrittenReplacements, no_replacements, replacement_then, WrittenSurface, a_pattern, a_grammar}
 
--- no class in a row covers no name; classes of a row nest to the left
+-- a row of no classes covers no name; classes of a row nest to the left
 abbrev mutual
   pub class_of : NameClass → WrittenClass
   class_of class.AnyName = every_name

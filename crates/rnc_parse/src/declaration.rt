@@ -17,7 +17,8 @@ use std::alloc::Global;
 pub enum Declaration {
     /// `namespace`: what a prefix of names stands for.
     Namespace(Bytes, Namespace),
-    /// `default namespace`: what names without a prefix are in, and so are those of the prefix, if there is one.
+    /// `default namespace`: what names of elements without a prefix are in, and so are those of the prefix, if there is
+    /// one.
     Default(Option<Bytes>, Namespace),
     /// `datatypes`: the library that a prefix of types stands for.
     Datatypes(Bytes, Bytes),

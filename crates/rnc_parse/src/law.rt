@@ -1,6 +1,6 @@
 //! Laws of reading. Nothing here runs.
 
-ghost use Rattle.rnc_parse.specs.Laws.{TextsAreReadAsOne, WhatIsReadIsNotRefused, TextsAreRefusedForOneCause, TextsAreReadOrRefused, TokensSayOneThing, WhatIsSaidIsNotRefused};
+ghost use Rattle.rnc_parse.specs.Laws.{TextsAreReadAsOne, WhatIsReadIsNotRefused, TextsAreRefusedForOneCause, TextsAreReadOrRefused, FilesSayOneThing, TokensSayOneThing, WhatIsSaidIsNotRefused};
 
 /// A text is read as one surface at most.
 pub fn texts_are_read_as_one()
@@ -22,12 +22,17 @@ pub fn texts_are_read_or_refused()
     ensures { TextsAreReadOrRefused }
 {}
 
-/// Tokens say one thing at most: the grammar is unambiguous as far as the surface goes.
+/// Tokens are one file at most, whatever prefixes stand for: the grammar is unambiguous as far as the surface goes.
+pub fn files_say_one_thing()
+    ensures { FilesSayOneThing }
+{}
+
+/// Tokens say one thing at most.
 pub fn tokens_say_one_thing()
     ensures { TokensSayOneThing }
 {}
 
-/// Tokens that say something are refused for no cause.
+/// Tokens that say something are a file, leave no prefix out and declare none twice.
 pub fn what_is_said_is_not_refused()
     ensures { WhatIsSaidIsNotRefused }
 {}

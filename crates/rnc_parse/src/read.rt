@@ -33,19 +33,20 @@ pub const MOST_BRACKETS: usize = 200;
 pub enum ReadFault {
     /// The text isn't tokens.
     Lex(LexFault),
-    /// The 201st bracket is opened at the place.
+    /// The 201st of the brackets that are open at once stands at the place.
     TooDeep(usize),
-    /// The tokens are in no reading. The place is that of the token at which reading stopped, or the text's length.
+    /// The tokens are in no reading. The place is that of some token, or the text's length.
     Syntax(usize),
     /// The prefix stands for nothing.
     UndeclaredPrefix(Bytes),
     /// The prefix, empty for the default namespace, is declared twice, or though it may not be.
     Twice(Bytes),
+    /// There was no memory.
     NoMemory,
 }
 
 /// Reads a schema file: what it says, or the one cause for which it says nothing. It takes time and memory in proportion to
-/// the text.
+/// the text and to the namespaces of its names, each of which holds its own.
 pub fn read(alloc: Global, text: &str) -> Result<Surface, ReadFault>
     ensures answers { AnswersText text.now result }
     ensures texts { IfOk result (λ surface. HasUtf8Texts (surface_of surface)) }

@@ -32,7 +32,7 @@ pub(crate) struct LookUps {
     namespaces: BTreeMap<Vec<u8>, Namespace>,
     /// The URIs of the libraries whose prefixes are declared.
     libraries: BTreeMap<Vec<u8>, Bytes>,
-    /// The namespace of names without a prefix, where one is declared.
+    /// The namespace of names of elements without a prefix, where one is declared.
     unprefixed: Option<Namespace>,
 }
 
@@ -146,7 +146,7 @@ impl LookUps {
         Ok(())
     }
 
-    /// Sets the namespace of names without a prefix.
+    /// Sets the namespace of names of elements without a prefix.
     fn set_default(&mut self, ns: &Namespace) -> Result<(), Clash>
         ensures { (done : List Declaration) → HoldsSoFar self.old done → Declares (done ++ declaration.Default None ns.now ∷ []) self.new result }
     {
@@ -157,7 +157,7 @@ impl LookUps {
         Ok(())
     }
 
-    /// Sets the namespace of names without a prefix, and binds a prefix to it.
+    /// Sets the namespace of names of elements without a prefix, and binds a prefix to it.
     fn bind_default(&mut self, prefix: &Bytes, ns: &Namespace) -> Result<(), Clash>
         ensures { (done : List Declaration) → HoldsSoFar self.old done → Declares (done ++ declaration.Default (Some prefix.now) ns.now ∷ []) self.new result }
     {
@@ -180,7 +180,7 @@ impl LookUps {
         Ok(())
     }
 
-    /// The namespace of names without a prefix.
+    /// The namespace of names of elements without a prefix.
     pub(crate) fn unprefixed(&self) -> Result<Namespace, NoMemory>
         ensures { IfOk result (λ ns. ns ≡ (scope_in self.now).unprefixed) }
     {
