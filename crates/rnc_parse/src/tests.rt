@@ -31,11 +31,11 @@ enum Piece<'a> {
     Replacements(&'a [Replacement]),
 }
 
-/// Pieces in their order. No part of an answer has more.
+/// Pieces, the first last, as they are put on a stack. No part of an answer has more.
 type Pieces<'a> = [Piece<'a>; 5];
 
 fn three<'a>(first: Piece<'a>, second: Piece<'a>, third: Piece<'a>) -> Pieces<'a> {
-    [first, second, third, Piece::Nothing, Piece::Nothing]
+    [Piece::Nothing, Piece::Nothing, third, second, first]
 }
 
 fn two<'a>(first: Piece<'a>, second: Piece<'a>) -> Pieces<'a> {
@@ -54,14 +54,26 @@ fn bytes<'a>(bytes: &'a Bytes) -> Piece<'a> {
     Piece::Word(str::from_utf8(bytes.as_slice()).unwrap_or("no text"))
 }
 
-const DIGITS: [&str; 10] = ["0", "1", "2", "3", "4", "5", "6", "7", "8", "9"];
+fn digit<'a>(number: usize) -> Piece<'a> {
+    match number % 10 {
+        0 => Piece::Word("0"),
+        1 => Piece::Word("1"),
+        2 => Piece::Word("2"),
+        3 => Piece::Word("3"),
+        4 => Piece::Word("4"),
+        5 => Piece::Word("5"),
+        6 => Piece::Word("6"),
+        7 => Piece::Word("7"),
+        8 => Piece::Word("8"),
+        _ => Piece::Word("9"),
+    }
+}
 
 fn of_number<'a>(number: usize) -> Pieces<'a> {
-    let last = Piece::Word(DIGITS[number % 10]);
     if number < 10 {
-        return one(last);
+        return one(digit(number));
     }
-    two(Piece::Number(number / 10), last)
+    two(Piece::Number(number / 10), digit(number))
 }
 
 /// A namespace in braces, `?` where it is inherited.
@@ -94,11 +106,11 @@ fn of_classes<'a>(classes: &'a [NameClass]) -> Pieces<'a> {
 /// The library in braces, and the name.
 fn of_type_name<'a>(name: &'a TypeName) -> Pieces<'a> {
     [
-        Piece::Word("{"),
-        bytes(&name.library),
-        Piece::Word("}"),
-        bytes(&name.name),
         Piece::Nothing,
+        bytes(&name.name),
+        Piece::Word("}"),
+        bytes(&name.library),
+        Piece::Word("{"),
     ]
 }
 
@@ -106,11 +118,11 @@ fn of_params<'a>(params: &'a [Param]) -> Pieces<'a> {
     match params {
         [] => one(Piece::Nothing),
         [first, rest @ ..] => [
-            Piece::Word(" "),
-            bytes(&first.name),
-            Piece::Word("="),
-            bytes(&first.value),
             Piece::Params(rest),
+            bytes(&first.value),
+            Piece::Word("="),
+            bytes(&first.name),
+            Piece::Word(" "),
         ],
     }
 }
@@ -121,11 +133,11 @@ fn of_file<'a>(file: &'a FileReference) -> Pieces<'a> {
 
 fn named<'a>(word: &'a str, class: &'a NameClass, body: &'a Pattern) -> Pieces<'a> {
     [
-        Piece::Word(word),
-        Piece::Class(class),
-        Piece::Word("("),
-        Piece::Pattern(body),
         Piece::Word(")"),
+        Piece::Pattern(body),
+        Piece::Word("("),
+        Piece::Class(class),
+        Piece::Word(word),
     ]
 }
 
@@ -169,19 +181,19 @@ fn of_leaf<'a>(pattern: &'a Pattern) -> Pieces<'a> {
 fn of_data<'a>(pattern: &'a Pattern) -> Pieces<'a> {
     match pattern {
         Pattern::Value(name, text) => [
-            Piece::TypeName(name),
+            Piece::Nothing,
             Piece::Word("'"),
             bytes(text),
             Piece::Word("'"),
-            Piece::Nothing,
+            Piece::TypeName(name),
         ],
         Pattern::Data(name, params) => two(Piece::TypeName(name), Piece::Params(params.as_slice())),
         Pattern::DataExcept(name, params, except) => [
-            Piece::TypeName(name),
-            Piece::Params(params.as_slice()),
-            Piece::Word("-("),
-            Piece::Pattern(except),
             Piece::Word(")"),
+            Piece::Pattern(except),
+            Piece::Word("-("),
+            Piece::Params(params.as_slice()),
+            Piece::TypeName(name),
         ],
         _ => word("another pattern"),
     }
@@ -220,11 +232,11 @@ fn of_item<'a>(item: &'a Item) -> Pieces<'a> {
         }
         Item::Div(items) => two(Piece::Word("["), Piece::Items(items.as_slice())),
         Item::Include(file, replacements) => [
-            Piece::Word("include "),
-            Piece::File(file),
-            Piece::Word("["),
-            Piece::Replacements(replacements.as_slice()),
             Piece::Nothing,
+            Piece::Replacements(replacements.as_slice()),
+            Piece::Word("["),
+            Piece::File(file),
+            Piece::Word("include "),
         ],
     }
 }
@@ -273,8 +285,12 @@ fn of_fault<'a>(fault: &'a ReadFault) -> Pieces<'a> {
         ReadFault::Lex(fault) => of_lex_fault(fault),
         ReadFault::TooDeep(at) => two(Piece::Word("TooDeep "), Piece::Number(*at)),
         ReadFault::Syntax(at) => two(Piece::Word("Syntax "), Piece::Number(*at)),
-        ReadFault::UndeclaredPrefix(prefix) => two(Piece::Word("UndeclaredPrefix "), bytes(prefix)),
-        ReadFault::Twice(prefix) => two(Piece::Word("Twice "), bytes(prefix)),
+        ReadFault::UndeclaredPrefix(prefix) => three(
+            Piece::Word("UndeclaredPrefix '"),
+            bytes(prefix),
+            Piece::Word("'"),
+        ),
+        ReadFault::Twice(prefix) => three(Piece::Word("Twice '"), bytes(prefix), Piece::Word("'")),
         ReadFault::NoMemory => word("no memory"),
     }
 }
@@ -307,25 +323,17 @@ fn of_piece<'a>(piece: Piece<'a>) -> Pieces<'a> {
     }
 }
 
-/// Puts pieces on a stack, the first on top.
-fn put<'a>(stack: &mut Vec<Piece<'a>>, pieces: Pieces<'a>) -> Result<(), NoMemory> {
-    for piece in pieces.iter().rev() {
-        stack.push(*piece)?;
-    }
-    Ok(())
-}
-
 /// The pieces as one line: patterns by the signs of the compact syntax, names with their namespace in braces.
 fn written(alloc: Global, pieces: Pieces<'_>) -> Result<String, NoMemory> {
     let mut line = String::new(alloc);
     let mut stack = Vec::new(alloc);
-    put(&mut stack, pieces)?;
+    stack.extend_from_slice(&pieces)?;
     for _ in 0..10000 {
         match stack.pop() {
             None => return Ok(line),
             Some(Piece::Nothing) => {}
             Some(Piece::Word(word)) => line.push_str(word)?,
-            Some(piece) => put(&mut stack, of_piece(piece))?,
+            Some(piece) => stack.extend_from_slice(&of_piece(piece))?,
         }
     }
     line.push_str(" and more")?;
@@ -337,121 +345,288 @@ fn told(alloc: Global, text: &str) -> Result<String, NoMemory> {
     written(alloc, of_answer(&read(alloc, text)))
 }
 
-/// Schemas, and what `told` makes of them.
-#[rattlefmt::skip]
-const SCHEMAS: [(&str, &str); 90] = [
-    // Files without items, and one name.
-    ("", "[]"),
-    ("x", "x"),
-    ("\u{FEFF}x", "x"),
-    ("\\x{65}mpty", "empty"),
-    ("\\start", "start"),
-    ("\\element", "element"),
-    ("\\element | a", "(|element|a)"),
-    ("start", "Syntax 5"),
-    ("a } b", "Syntax 2"),
+/// Schemas, each with what `told` makes of it behind `=> `, and a blank line between them. The first is empty.
+const SCHEMAS: &str = r##"
+=> []
 
-    // Comments and escapes.
-    ("# x\n## y\r\na # z", "a"),
-    ("# x\na ## y", "a"),
-    ("element a { \\x{74}ext }", "element {?}a(text)"),
-    ("element a { text }", "element {?}a(text)"),
-    ("\\x{65}l\\xx{65}ment \\x{e9}\\x{74} { text }", "element {?}ét(text)"),
-    ("a \\x{}", "BadEscape 2"),
-    ("a 'b", "BadLiteral 2"),
-    ("a $ b", "BadCharacter 2"),
+x
+=> x
 
-    // Elements, attributes and signs.
-    ("element element { empty }", "element {?}element(empty)"),
-    ("element \\element { element start { notAllowed } }", "element {?}element(element {?}start(notAllowed))"),
-    ("attribute text { token }", "attribute {}text({}token)"),
-    ("element r { element a { empty }, element b { empty } | element c { empty } }", "Syntax 53"),
-    ("element r { (element a { empty }, element b { empty }) | element c { empty } }", "element {?}r((|(,element {?}a(empty),element {?}b(empty))|element {?}c(empty)))"),
-    ("(a, b) | c", "(|(,a,b)|c)"),
-    ("a, b, c", "(,a,b,c)"),
-    ("a & b+ & c?", "(&a&+(b)&?(c))"),
-    ("a*", "*(a)"),
-    ("a**", "Syntax 2"),
-    ("a,", "Syntax 2"),
-    ("mixed { a }, list { b }", "(,mixed(a),list(b))"),
-    ("list { xsd:int+ }", "list(+({http://www.w3.org/2001/XMLSchema-datatypes}int))"),
-    ("parent text", "Syntax 7"),
-    ("parent \\text", "parent text"),
+\x{65}mpty
+=> empty
 
-    // Literals and datatypes.
-    ("'a' | \"b\" ~ 'c' | string ' d '", "(|{}token'a'|{}token'bc'|{}string' d ')"),
-    ("\"a\" ~ '''b\n\"c''' ~ \"\"\"'d\"\"\"", "{}token'ab\n\"c'd'"),
-    ("token 'a'", "{}token'a'"),
-    ("xsd:int", "{http://www.w3.org/2001/XMLSchema-datatypes}int"),
-    ("xsd:int { minInclusive = '5' [a = 'b'] text = '4' ~ '2' } - '7'", "{http://www.w3.org/2001/XMLSchema-datatypes}int minInclusive=5 text=42-({}token'7')"),
-    ("string { [ a [ b ] ] c = 'd' [ ] e = 'f' }", "{}string c=d e=f"),
-    ("string - (string 'a' | 'b')", "{}string-((|{}string'a'|{}token'b'))"),
-    ("string - 'a' | b", "Syntax 13"),
-    ("string { }", "{}string"),
-    ("string { a = 'b'", "Syntax 16"),
-    ("datatypes d = 'u' d:int", "{u}int"),
-    ("datatypes d = 'u' ~ '''v''' d:int 'x'", "{uv}int'x'"),
-    ("datatypes xsd = 'u' xsd:int", "{u}int"),
-    ("datatypes xml = 'u' xml:int", "{u}int"),
-    ("d:int", "UndeclaredPrefix d"),
-    ("d:int, )", "Syntax 7"),
+\start
+=> start
 
-    // Namespaces.
-    ("namespace p = 'u' element p:a { attribute b { text } }", "element {u}a(attribute {}b(text))"),
-    ("namespace p = inherit element p:a { p:int }", "UndeclaredPrefix p"),
-    ("namespace p = inherit element p:a { empty }", "element {?}a(empty)"),
-    ("namespace p = '' element p:* { empty }", "element {}*(empty)"),
-    ("default namespace = 'u' element a { attribute b { text } }", "element {u}a(attribute {}b(text))"),
-    ("default namespace p = 'u' element a | p:b { p }", "element (|{u}a|{u}b)(p)"),
-    ("default namespace = inherit element a { text }", "element {?}a(text)"),
-    ("element xml:a { text }", "element {http://www.w3.org/XML/1998/namespace}a(text)"),
-    ("namespace xml = 'http://www.w3.org/XML/1998/namespace' a", "a"),
-    ("namespace xml = 'u' a", "Twice xml"),
-    ("namespace xml = inherit a", "Twice xml"),
-    ("namespace xmlns = 'u' a", "Twice xmlns"),
-    ("default namespace = 'u' default namespace = 'v' a", "Twice "),
-    ("namespace p = 'u' default namespace p = 'u' a", "Twice p"),
-    ("datatypes p = 'u' datatypes p = 'u' a", "Twice p"),
-    ("datatypes p = 'u' namespace p = 'u' a", "a"),
-    ("namespace p = 'u' namespace p = 'u' a, b | c", "Syntax 41"),
+\element
+=> element
 
-    // Name classes.
-    ("element q:a { text }", "UndeclaredPrefix q"),
-    ("element * - (a | x:*) { empty }", "UndeclaredPrefix x"),
-    ("element * - (a | xml:*) { empty }", "element *-(|{?}a|{http://www.w3.org/XML/1998/namespace}*)(empty)"),
-    ("element * - a | b { empty }", "Syntax 14"),
-    ("attribute a | * { text }", "attribute (|{}a|*)(text)"),
+\element | a
+=> (|element|a)
 
-    // Grammars and references to files.
-    ("external 'f' inherit = xml, parent y, external 'g'", "(,external {http://www.w3.org/XML/1998/namespace}f,parent y,external {?}g)"),
-    ("default namespace = 'u' external 'f' ~ 'g'", "external {u}fg"),
-    ("namespace p = 'u' include 'f' inherit = p", "[include {u}f[];]"),
-    ("include 'f' inherit = q", "UndeclaredPrefix q"),
-    ("grammar { start = a div { a |= b } } ", "[start=a;[a|=b;];]"),
-    ("grammar { start = parent a }, b", "(,[start=parent a;],b)"),
-    ("start |= a start &= b \\start = c d |= e d &= f", "[start|=a;start&=b;start=c;d|=e;d&=f;]"),
-    ("div { div { } start = a } b = c", "[[[];start=a;];b=c;]"),
-    ("include 'f' include 'g' inherit = xml { start &= a div { b = c } n [] }", "[include {?}f[];include {http://www.w3.org/XML/1998/namespace}g[start&=a;[b=c;];];]"),
-    ("include 'f' { start = a div { b |= c div { d &= e } } } f = g", "[include {?}f[start=a;[b|=c;[d&=e;];];];f=g;]"),
-    ("include 'f' { include 'g' }", "Syntax 14"),
+start
+=> Syntax 5
 
-    // Annotations.
-    ("[ a ( b ) { [ = ] } ] [ ] start = [ ] a >> x [ ] ? >> element [ y:z ]", "[start=?(a);]"),
-    ("element a { text } >> x:y [ z = \"w\" ] >> text [ ]", "element {?}a(text)"),
-    ("[ ] [ ] [ ] start = a", "Syntax 8"),
-    ("[ ] a", "a"),
-    ("[ ] [ ] a", "a"),
-    ("[ ( ] ) ] a", "Syntax 4"),
-    ("[ [ ] a", "Syntax 7"),
-    ("x [ ] y:z [ ] [ ] w [ ]", "[]"),
-    ("element [ ] a >> b [ ] | [ ] c { [ ] text }", "element (|{?}a|{?}c)(text)"),
-];
+a } b
+=> Syntax 2
+
+# x
+## y
+a # z
+=> a
+
+# x
+a ## y
+=> a
+
+element a { \x{74}ext }
+=> element {?}a(text)
+
+element a { text }
+=> element {?}a(text)
+
+\x{65}l\xx{65}ment \x{e9}\x{74} { text }
+=> element {?}ét(text)
+
+a \x{}
+=> BadEscape 2
+
+a 'b
+=> BadLiteral 2
+
+a $ b
+=> BadCharacter 2
+
+element element { empty }
+=> element {?}element(empty)
+
+element \element { element start { notAllowed } }
+=> element {?}element(element {?}start(notAllowed))
+
+attribute text { token }
+=> attribute {}text({}token)
+
+element r { element a { empty }, element b { empty } | element c { empty } }
+=> Syntax 53
+
+element r { (element a { empty }, element b { empty }) | element c { empty } }
+=> element {?}r((|(,element {?}a(empty),element {?}b(empty))|element {?}c(empty)))
+
+(a, b) | c
+=> (|(,a,b)|c)
+
+a, b, c
+=> (,a,b,c)
+
+a & b+ & c?
+=> (&a&+(b)&?(c))
+
+a*
+=> *(a)
+
+a**
+=> Syntax 2
+
+a,
+=> Syntax 2
+
+mixed { a }, list { b }
+=> (,mixed(a),list(b))
+
+list { xsd:int+ }
+=> list(+({http://www.w3.org/2001/XMLSchema-datatypes}int))
+
+parent text
+=> Syntax 7
+
+parent \text
+=> parent text
+
+'a' | "b" ~ 'c' | string ' d '
+=> (|{}token'a'|{}token'bc'|{}string' d ')
+
+"a" ~ '''b
+"c''' ~ """'d"""
+=> {}token'ab
+"c'd'
+
+token 'a'
+=> {}token'a'
+
+xsd:int
+=> {http://www.w3.org/2001/XMLSchema-datatypes}int
+
+xsd:int { minInclusive = '5' [a = 'b'] text = '4' ~ '2' } - '7'
+=> {http://www.w3.org/2001/XMLSchema-datatypes}int minInclusive=5 text=42-({}token'7')
+
+string { [ a [ b ] ] c = 'd' [ ] e = 'f' }
+=> {}string c=d e=f
+
+string - (string 'a' | 'b')
+=> {}string-((|{}string'a'|{}token'b'))
+
+string - 'a' | b
+=> Syntax 13
+
+string { }
+=> {}string
+
+string { a = 'b'
+=> Syntax 16
+
+datatypes d = 'u' d:int
+=> {u}int
+
+datatypes d = 'u' ~ '''v''' d:int 'x'
+=> {uv}int'x'
+
+datatypes xsd = 'u' xsd:int
+=> {u}int
+
+datatypes xml = 'u' xml:int
+=> {u}int
+
+d:int
+=> UndeclaredPrefix 'd'
+
+d:int, )
+=> Syntax 7
+
+namespace p = 'u' element p:a { attribute b { text } }
+=> element {u}a(attribute {}b(text))
+
+namespace p = inherit element p:a { p:int }
+=> UndeclaredPrefix 'p'
+
+namespace p = inherit element p:a { empty }
+=> element {?}a(empty)
+
+namespace p = '' element p:* { empty }
+=> element {}*(empty)
+
+default namespace = 'u' element a { attribute b { text } }
+=> element {u}a(attribute {}b(text))
+
+default namespace p = 'u' element a | p:b { p }
+=> element (|{u}a|{u}b)(p)
+
+default namespace = inherit element a { text }
+=> element {?}a(text)
+
+element xml:a { text }
+=> element {http://www.w3.org/XML/1998/namespace}a(text)
+
+namespace xml = 'http://www.w3.org/XML/1998/namespace' a
+=> a
+
+namespace xml = 'u' a
+=> Twice 'xml'
+
+namespace xml = inherit a
+=> Twice 'xml'
+
+namespace xmlns = 'u' a
+=> Twice 'xmlns'
+
+default namespace = 'u' default namespace = 'v' a
+=> Twice ''
+
+namespace p = 'u' default namespace p = 'u' a
+=> Twice 'p'
+
+datatypes p = 'u' datatypes p = 'u' a
+=> Twice 'p'
+
+datatypes p = 'u' namespace p = 'u' a
+=> a
+
+namespace p = 'u' namespace p = 'u' a, b | c
+=> Syntax 41
+
+element q:a { text }
+=> UndeclaredPrefix 'q'
+
+element * - (a | x:*) { empty }
+=> UndeclaredPrefix 'x'
+
+element * - (a | xml:*) { empty }
+=> element *-(|{?}a|{http://www.w3.org/XML/1998/namespace}*)(empty)
+
+element * - a | b { empty }
+=> Syntax 14
+
+attribute a | * { text }
+=> attribute (|{}a|*)(text)
+
+external 'f' inherit = xml, parent y, external 'g'
+=> (,external {http://www.w3.org/XML/1998/namespace}f,parent y,external {?}g)
+
+default namespace = 'u' external 'f' ~ 'g'
+=> external {u}fg
+
+namespace p = 'u' include 'f' inherit = p
+=> [include {u}f[];]
+
+include 'f' inherit = q
+=> UndeclaredPrefix 'q'
+
+grammar { start = a div { a |= b } } 
+=> [start=a;[a|=b;];]
+
+grammar { start = parent a }, b
+=> (,[start=parent a;],b)
+
+start |= a start &= b \start = c d |= e d &= f
+=> [start|=a;start&=b;start=c;d|=e;d&=f;]
+
+div { div { } start = a } b = c
+=> [[[];start=a;];b=c;]
+
+include 'f' include 'g' inherit = xml { start &= a div { b = c } n [] }
+=> [include {?}f[];include {http://www.w3.org/XML/1998/namespace}g[start&=a;[b=c;];];]
+
+include 'f' { start = a div { b |= c div { d &= e } } } f = g
+=> [include {?}f[start=a;[b|=c;[d&=e;];];];f=g;]
+
+include 'f' { include 'g' }
+=> Syntax 14
+
+[ a ( b ) { [ = ] } ] [ ] start = [ ] a >> x [ ] ? >> element [ y:z ]
+=> [start=?(a);]
+
+element a { text } >> x:y [ z = "w" ] >> text [ ]
+=> element {?}a(text)
+
+[ ] [ ] [ ] start = a
+=> Syntax 8
+
+[ ] a
+=> a
+
+[ ] [ ] a
+=> a
+
+[ ( ] ) ] a
+=> Syntax 4
+
+[ [ ] a
+=> Syntax 7
+
+x [ ] y:z [ ] [ ] w [ ]
+=> []
+
+element [ ] a >> b [ ] | [ ] c { [ ] text }
+=> element (|{?}a|{?}c)(text)"##;
 
 #[test]
 fn schemas_are_read(rt: HostRuntime) -> Result<(), Fail> {
-    for (schema, want) in &SCHEMAS {
-        assert_eq!(rt; told(rt.alloc(), schema)?.as_str(), *want, "at {schema}");
+    let mut rows = 0u32;
+    for row in SCHEMAS.split("\n\n") {
+        let (schema, want) = row.split_once("\n=> ").unwrap_or((row, "no row"));
+        assert_eq!(rt; told(rt.alloc(), schema)?.as_str(), want, "at {schema}");
+        rows = rows.saturating_add(1);
     }
+    assert_eq!(rt; rows, 89);
     Ok(())
 }
 
@@ -478,16 +653,20 @@ fn brackets_are_counted(rt: HostRuntime) -> Result<(), Fail> {
 const S1: &str =
     "start = element doc { attribute id { xsd:NCName }, element title { text }, element para { (text | element em { text })* }* }";
 
-/// How reading a text ends.
-fn ending(alloc: Global, text: &str) -> &'static str {
-    match read(alloc, text) {
+fn ending_of(answer: &Result<Surface, ReadFault>) -> &'static str {
+    match answer {
         Ok(Surface::Pattern(Pattern::Ref(_))) => "name",
+        Ok(Surface::Pattern(_)) => "pattern",
         Ok(Surface::Grammar(_)) => "grammar",
-        Ok(_) => "pattern",
         Err(ReadFault::Syntax(_)) => "Syntax",
         Err(ReadFault::Lex(LexFault::BadCharacter(_))) => "BadCharacter",
         Err(_) => "other",
     }
+}
+
+/// How reading a text ends.
+fn ending(alloc: Global, text: &str) -> &'static str {
+    ending_of(&read(alloc, text))
 }
 
 /// How reading so many bytes of the schema ends.
@@ -577,13 +756,17 @@ fn the_schema_of_schemas_is_read(rt: HostRuntime) -> Result<(), Fail> {
     Ok(())
 }
 
-/// How many items a grammar has that is read, or how many alternatives a choice, and 0 for all else.
-fn parts(alloc: Global, text: &str) -> usize {
-    match read(alloc, text) {
+fn parts_of(answer: &Result<Surface, ReadFault>) -> usize {
+    match answer {
         Ok(Surface::Grammar(items)) => items.len(),
         Ok(Surface::Pattern(Pattern::Choice(patterns))) => patterns.len(),
         _ => 0,
     }
+}
+
+/// How many items a grammar has that is read, or how many alternatives a choice, and 0 for all else.
+fn parts(alloc: Global, text: String) -> usize {
+    parts_of(&read(alloc, text.as_str()))
 }
 
 /// So many definitions, each of a name of its own.
@@ -595,13 +778,19 @@ fn definitions(alloc: Global, count: usize) -> Result<String, Fail> {
     Ok(text)
 }
 
+fn items(alloc: Global, count: usize) -> Result<String, Fail> {
+    Ok("a = b ".repeat(alloc, count)?)
+}
+
+fn alternatives(alloc: Global, count: usize) -> Result<String, Fail> {
+    Ok(format!(in alloc; "{}a", "a | ".repeat(alloc, count)?)?)
+}
+
 #[test]
 fn long_schemas_are_read(rt: HostRuntime) -> Result<(), Fail> {
-    let definitions = definitions(rt.alloc(), 20000)?;
-    assert_eq!(rt; parts(rt.alloc(), definitions.as_str()), 20000);
-    let items = "a = b ".repeat(rt.alloc(), 100000)?;
-    assert_eq!(rt; parts(rt.alloc(), items.as_str()), 100000);
-    let alternatives = format!(in rt.alloc(); "a{}", " | a".repeat(rt.alloc(), 99999)?)?;
-    assert_eq!(rt; parts(rt.alloc(), alternatives.as_str()), 100000);
+    let alloc = rt.alloc();
+    assert_eq!(rt; parts(alloc, definitions(alloc, 20000)?), 20000);
+    assert_eq!(rt; parts(alloc, items(alloc, 100000)?), 100000);
+    assert_eq!(rt; parts(alloc, alternatives(alloc, 99999)?), 100000);
     Ok(())
 }
