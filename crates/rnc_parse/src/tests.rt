@@ -1,348 +1,277 @@
 use crate::read::{ReadFault, read};
 use crate::surface::{
-    Combine, Defined, FileReference, Item, NameClass, Namespace, Param, Pattern, Replacement,
+    Combine, Defined, FileReference, Item, NameClass, Namespace, Params, Pattern, Replacement,
     Surface, TypeName,
 };
-use nx_base::memory::NoMemory;
 use nx_base::sequence::Bytes;
 use rnc_lex::fault::LexFault;
 use std::alloc::Global;
 use std::test::Fail;
 
-/// What is still to be written of an answer: a word, or a part of which words are to be written. Of a list the rest is
-/// still to be written, and the bracket behind it.
-#[derive(Clone, Copy)]
-enum Piece<'a> {
-    Nothing,
-    Word(&'a str),
-    Number(usize),
-    Namespace(&'a Namespace),
-    Class(&'a NameClass),
-    Classes(&'a [NameClass]),
-    TypeName(&'a TypeName),
-    Params(&'a [Param]),
-    File(&'a FileReference),
-    Pattern(&'a Pattern),
-    /// Patterns with the sign before each.
-    Patterns(&'a str, &'a [Pattern]),
-    Item(&'a Item),
-    Items(&'a [Item]),
-    Replacement(&'a Replacement),
-    Replacements(&'a [Replacement]),
+/// A surface as one line: patterns by the signs of the compact syntax, names with their namespace in braces, `?` where it
+/// is inherited.
+#[derive(Drop)]
+struct Printer {
+    line: String,
 }
 
-/// Pieces, the first last, as they are put on a stack. No part of an answer has more.
-type Pieces<'a> = [Piece<'a>; 5];
-
-fn three<'a>(first: Piece<'a>, second: Piece<'a>, third: Piece<'a>) -> Pieces<'a> {
-    [Piece::Nothing, Piece::Nothing, third, second, first]
-}
-
-fn two<'a>(first: Piece<'a>, second: Piece<'a>) -> Pieces<'a> {
-    three(first, second, Piece::Nothing)
-}
-
-fn one<'a>(piece: Piece<'a>) -> Pieces<'a> {
-    two(piece, Piece::Nothing)
-}
-
-fn word<'a>(word: &'a str) -> Pieces<'a> {
-    one(Piece::Word(word))
-}
-
-fn bytes<'a>(bytes: &'a Bytes) -> Piece<'a> {
-    Piece::Word(str::from_utf8(bytes.as_slice()).unwrap_or("no text"))
-}
-
-fn digit<'a>(number: usize) -> Piece<'a> {
-    match number % 10 {
-        0 => Piece::Word("0"),
-        1 => Piece::Word("1"),
-        2 => Piece::Word("2"),
-        3 => Piece::Word("3"),
-        4 => Piece::Word("4"),
-        5 => Piece::Word("5"),
-        6 => Piece::Word("6"),
-        7 => Piece::Word("7"),
-        8 => Piece::Word("8"),
-        _ => Piece::Word("9"),
+impl Printer {
+    fn word(&mut self, word: &str) -> Result<(), Fail> {
+        self.line.push_str(word)?;
+        Ok(())
     }
-}
 
-fn of_number<'a>(number: usize) -> Pieces<'a> {
-    if number < 10 {
-        return one(digit(number));
+    fn bytes(&mut self, bytes: &Bytes) -> Result<(), Fail> {
+        self.word(std::str::from_utf8(bytes.as_slice())?)
     }
-    two(Piece::Number(number / 10), digit(number))
-}
 
-/// A namespace in braces, `?` where it is inherited.
-fn of_namespace<'a>(ns: &'a Namespace) -> Pieces<'a> {
-    match ns {
-        Namespace::Inherited => word("{?}"),
-        Namespace::Uri(uri) => three(Piece::Word("{"), bytes(uri), Piece::Word("}")),
+    fn namespace(&mut self, ns: &Namespace) -> Result<(), Fail> {
+        self.word("{")?;
+        match ns {
+            Namespace::Inherited => self.word("?")?,
+            Namespace::Uri(uri) => self.bytes(uri)?,
+        }
+        self.word("}")
     }
-}
 
-fn of_class<'a>(class: &'a NameClass) -> Pieces<'a> {
-    match class {
-        NameClass::AnyName => word("*"),
-        NameClass::NsName(ns) => two(Piece::Namespace(ns), Piece::Word("*")),
-        NameClass::Name(ns, local) => two(Piece::Namespace(ns), bytes(local)),
-        NameClass::Choice(classes) => two(Piece::Word("("), Piece::Classes(classes.as_slice())),
-        NameClass::Except(class, except) => {
-            three(Piece::Class(class), Piece::Word("-"), Piece::Class(except))
+    #[cycle(print_class)]
+    fn class(&mut self, class: &NameClass) -> Result<(), Fail> {
+        match class {
+            NameClass::AnyName => self.word("*"),
+            NameClass::NsName(ns) => {
+                self.namespace(ns)?;
+                self.word("*")
+            }
+            NameClass::Name(ns, local) => {
+                self.namespace(ns)?;
+                self.bytes(local)
+            }
+            NameClass::Choice(classes) => {
+                self.word("(")?;
+                for class in classes {
+                    self.word("|")?;
+                    self.class(class)?;
+                }
+                self.word(")")
+            }
+            NameClass::Except(class, except) => {
+                self.class(class)?;
+                self.word("-")?;
+                self.class(except)
+            }
+        }
+    }
+
+    fn type_name(&mut self, name: &TypeName) -> Result<(), Fail> {
+        self.word("{")?;
+        self.bytes(&name.library)?;
+        self.word("}")?;
+        self.bytes(&name.name)
+    }
+
+    fn params(&mut self, params: &Params) -> Result<(), Fail> {
+        for param in params.as_slice() {
+            self.word(" ")?;
+            self.bytes(&param.name)?;
+            self.word("=")?;
+            self.bytes(&param.value)?;
+        }
+        Ok(())
+    }
+
+    fn file(&mut self, file: &FileReference) -> Result<(), Fail> {
+        self.namespace(&file.namespace)?;
+        self.bytes(&file.uri)
+    }
+
+    fn defined(&mut self, name: &Defined, combine: Combine) -> Result<(), Fail> {
+        match name {
+            Defined::Start => self.word("start")?,
+            Defined::Name(name) => self.bytes(name)?,
+        }
+        match combine {
+            Combine::Alone => self.word("="),
+            Combine::Choice => self.word("|="),
+            Combine::Interleave => self.word("&="),
+        }
+    }
+
+    #[cycle(print)]
+    fn patterns(&mut self, sign: &str, patterns: &[Pattern]) -> Result<(), Fail> {
+        self.word("(")?;
+        for pattern in patterns {
+            self.word(sign)?;
+            self.pattern(pattern)?;
+        }
+        self.word(")")
+    }
+
+    #[cycle(print)]
+    fn inner(&mut self, word: &str, body: &Pattern) -> Result<(), Fail> {
+        self.word(word)?;
+        self.word("(")?;
+        self.pattern(body)?;
+        self.word(")")
+    }
+
+    #[cycle(print)]
+    fn pattern(&mut self, pattern: &Pattern) -> Result<(), Fail> {
+        match pattern {
+            Pattern::Element(class, body) => {
+                self.word("element ")?;
+                self.class(class)?;
+                self.inner("", body)
+            }
+            Pattern::Attribute(class, body) => {
+                self.word("attribute ")?;
+                self.class(class)?;
+                self.inner("", body)
+            }
+            Pattern::List(body) => self.inner("list", body),
+            Pattern::Mixed(body) => self.inner("mixed", body),
+            Pattern::Optional(body) => self.inner("?", body),
+            Pattern::ZeroOrMore(body) => self.inner("*", body),
+            Pattern::OneOrMore(body) => self.inner("+", body),
+            Pattern::Choice(patterns) => self.patterns("|", patterns.as_slice()),
+            Pattern::Group(patterns) => self.patterns(",", patterns.as_slice()),
+            Pattern::Interleave(patterns) => self.patterns("&", patterns.as_slice()),
+            Pattern::Grammar(items) => self.items(items.as_slice()),
+            Pattern::DataExcept(name, params, except) => {
+                self.type_name(name)?;
+                self.params(params)?;
+                self.inner("-", except)
+            }
+            _ => self.leaf(pattern),
+        }
+    }
+
+    #[cycle(print)]
+    fn items(&mut self, items: &[Item]) -> Result<(), Fail> {
+        self.word("[")?;
+        for item in items {
+            self.item(item)?;
+            self.word(";")?;
+        }
+        self.word("]")
+    }
+
+    #[cycle(print)]
+    fn item(&mut self, item: &Item) -> Result<(), Fail> {
+        match item {
+            Item::Define(name, combine, body) => {
+                self.defined(name, *combine)?;
+                self.pattern(body)
+            }
+            Item::Div(items) => self.items(items.as_slice()),
+            Item::Include(file, replacements) => {
+                self.word("include ")?;
+                self.file(file)?;
+                self.replacements(replacements.as_slice())
+            }
+        }
+    }
+
+    #[cycle(print)]
+    fn replacements(&mut self, replacements: &[Replacement]) -> Result<(), Fail> {
+        self.word("[")?;
+        for replacement in replacements {
+            self.replacement(replacement)?;
+            self.word(";")?;
+        }
+        self.word("]")
+    }
+
+    #[cycle(print)]
+    fn replacement(&mut self, replacement: &Replacement) -> Result<(), Fail> {
+        match replacement {
+            Replacement::Define(name, combine, body) => {
+                self.defined(name, *combine)?;
+                self.pattern(body)
+            }
+            Replacement::Div(replacements) => self.replacements(replacements.as_slice()),
+        }
+    }
+
+    fn leaf(&mut self, pattern: &Pattern) -> Result<(), Fail> {
+        match pattern {
+            Pattern::Ref(name) => self.bytes(name),
+            Pattern::ParentRef(name) => {
+                self.word("parent ")?;
+                self.bytes(name)
+            }
+            Pattern::Empty => self.word("empty"),
+            Pattern::Text => self.word("text"),
+            Pattern::NotAllowed => self.word("notAllowed"),
+            Pattern::Value(name, text) => {
+                self.type_name(name)?;
+                self.word("'")?;
+                self.bytes(text)?;
+                self.word("'")
+            }
+            Pattern::Data(name, params) => {
+                self.type_name(name)?;
+                self.params(params)
+            }
+            Pattern::External(file) => {
+                self.word("external ")?;
+                self.file(file)
+            }
+            _ => self.word("-"),
+        }
+    }
+
+    fn place(&mut self, word: &str, at: usize) -> Result<(), Fail> {
+        self.word(word)?;
+        write!(self.line, "{at}")?;
+        Ok(())
+    }
+
+    fn prefix(&mut self, word: &str, prefix: &Bytes) -> Result<(), Fail> {
+        self.word(word)?;
+        self.bytes(prefix)?;
+        self.word("'")
+    }
+
+    fn lex_fault(&mut self, fault: &LexFault) -> Result<(), Fail> {
+        match fault {
+            LexFault::BadEscape(at) => self.place("BadEscape ", *at),
+            LexFault::BadLiteral(at) => self.place("BadLiteral ", *at),
+            LexFault::BadCharacter(at) => self.place("BadCharacter ", *at),
+            LexFault::NoMemory => self.word("no memory in tokens"),
+        }
+    }
+
+    fn fault(&mut self, fault: &ReadFault) -> Result<(), Fail> {
+        match fault {
+            ReadFault::Lex(fault) => self.lex_fault(fault),
+            ReadFault::TooDeep(at) => self.place("TooDeep ", *at),
+            ReadFault::Syntax(at) => self.place("Syntax ", *at),
+            ReadFault::UndeclaredPrefix(prefix) => self.prefix("UndeclaredPrefix '", prefix),
+            ReadFault::Twice(prefix) => self.prefix("Twice '", prefix),
+            ReadFault::NoMemory => self.word("no memory"),
+        }
+    }
+
+    fn answer(&mut self, answer: &Result<Surface, ReadFault>) -> Result<(), Fail> {
+        match answer {
+            Ok(Surface::Pattern(pattern)) => self.pattern(pattern),
+            Ok(Surface::Grammar(items)) => self.items(items.as_slice()),
+            Err(fault) => self.fault(fault),
         }
     }
 }
 
-fn of_classes<'a>(classes: &'a [NameClass]) -> Pieces<'a> {
-    match classes {
-        [] => word(")"),
-        [first, rest @ ..] => three(Piece::Word("|"), Piece::Class(first), Piece::Classes(rest)),
-    }
-}
-
-/// The library in braces, and the name.
-fn of_type_name<'a>(name: &'a TypeName) -> Pieces<'a> {
-    [
-        Piece::Nothing,
-        bytes(&name.name),
-        Piece::Word("}"),
-        bytes(&name.library),
-        Piece::Word("{"),
-    ]
-}
-
-fn of_params<'a>(params: &'a [Param]) -> Pieces<'a> {
-    match params {
-        [] => one(Piece::Nothing),
-        [first, rest @ ..] => [
-            Piece::Params(rest),
-            bytes(&first.value),
-            Piece::Word("="),
-            bytes(&first.name),
-            Piece::Word(" "),
-        ],
-    }
-}
-
-fn of_file<'a>(file: &'a FileReference) -> Pieces<'a> {
-    two(Piece::Namespace(&file.namespace), bytes(&file.uri))
-}
-
-fn named<'a>(word: &'a str, class: &'a NameClass, body: &'a Pattern) -> Pieces<'a> {
-    [
-        Piece::Word(")"),
-        Piece::Pattern(body),
-        Piece::Word("("),
-        Piece::Class(class),
-        Piece::Word(word),
-    ]
-}
-
-fn marked<'a>(word: &'a str, body: &'a Pattern) -> Pieces<'a> {
-    three(Piece::Word(word), Piece::Pattern(body), Piece::Word(")"))
-}
-
-fn joined<'a>(sign: &'a str, patterns: &'a [Pattern]) -> Pieces<'a> {
-    two(Piece::Word("("), Piece::Patterns(sign, patterns))
-}
-
-fn of_pattern<'a>(pattern: &'a Pattern) -> Pieces<'a> {
-    match pattern {
-        Pattern::Element(class, body) => named("element ", class, body),
-        Pattern::Attribute(class, body) => named("attribute ", class, body),
-        Pattern::List(body) => marked("list(", body),
-        Pattern::Mixed(body) => marked("mixed(", body),
-        Pattern::Optional(body) => marked("?(", body),
-        Pattern::ZeroOrMore(body) => marked("*(", body),
-        Pattern::OneOrMore(body) => marked("+(", body),
-        Pattern::Choice(patterns) => joined("|", patterns.as_slice()),
-        Pattern::Group(patterns) => joined(",", patterns.as_slice()),
-        Pattern::Interleave(patterns) => joined("&", patterns.as_slice()),
-        Pattern::Grammar(items) => two(Piece::Word("["), Piece::Items(items.as_slice())),
-        _ => of_leaf(pattern),
-    }
-}
-
-fn of_leaf<'a>(pattern: &'a Pattern) -> Pieces<'a> {
-    match pattern {
-        Pattern::Ref(name) => one(bytes(name)),
-        Pattern::ParentRef(name) => two(Piece::Word("parent "), bytes(name)),
-        Pattern::Empty => word("empty"),
-        Pattern::Text => word("text"),
-        Pattern::NotAllowed => word("notAllowed"),
-        Pattern::External(file) => two(Piece::Word("external "), Piece::File(file)),
-        _ => of_data(pattern),
-    }
-}
-
-fn of_data<'a>(pattern: &'a Pattern) -> Pieces<'a> {
-    match pattern {
-        Pattern::Value(name, text) => [
-            Piece::Nothing,
-            Piece::Word("'"),
-            bytes(text),
-            Piece::Word("'"),
-            Piece::TypeName(name),
-        ],
-        Pattern::Data(name, params) => two(Piece::TypeName(name), Piece::Params(params.as_slice())),
-        Pattern::DataExcept(name, params, except) => [
-            Piece::Word(")"),
-            Piece::Pattern(except),
-            Piece::Word("-("),
-            Piece::Params(params.as_slice()),
-            Piece::TypeName(name),
-        ],
-        _ => word("another pattern"),
-    }
-}
-
-fn of_patterns<'a>(sign: &'a str, patterns: &'a [Pattern]) -> Pieces<'a> {
-    match patterns {
-        [] => word(")"),
-        [first, rest @ ..] => three(
-            Piece::Word(sign),
-            Piece::Pattern(first),
-            Piece::Patterns(sign, rest),
-        ),
-    }
-}
-
-fn name_of<'a>(name: &'a Defined) -> Piece<'a> {
-    match name {
-        Defined::Start => Piece::Word("start"),
-        Defined::Name(name) => bytes(name),
-    }
-}
-
-fn combine_of<'a>(combine: Combine) -> Piece<'a> {
-    match combine {
-        Combine::Alone => Piece::Word("="),
-        Combine::Choice => Piece::Word("|="),
-        Combine::Interleave => Piece::Word("&="),
-    }
-}
-
-fn of_item<'a>(item: &'a Item) -> Pieces<'a> {
-    match item {
-        Item::Define(name, combine, body) => {
-            three(name_of(name), combine_of(*combine), Piece::Pattern(body))
-        }
-        Item::Div(items) => two(Piece::Word("["), Piece::Items(items.as_slice())),
-        Item::Include(file, replacements) => [
-            Piece::Nothing,
-            Piece::Replacements(replacements.as_slice()),
-            Piece::Word("["),
-            Piece::File(file),
-            Piece::Word("include "),
-        ],
-    }
-}
-
-fn of_items<'a>(items: &'a [Item]) -> Pieces<'a> {
-    match items {
-        [] => word("]"),
-        [first, rest @ ..] => three(Piece::Item(first), Piece::Word(";"), Piece::Items(rest)),
-    }
-}
-
-fn of_replacement<'a>(replacement: &'a Replacement) -> Pieces<'a> {
-    match replacement {
-        Replacement::Define(name, combine, body) => {
-            three(name_of(name), combine_of(*combine), Piece::Pattern(body))
-        }
-        Replacement::Div(replacements) => two(
-            Piece::Word("["),
-            Piece::Replacements(replacements.as_slice()),
-        ),
-    }
-}
-
-fn of_replacements<'a>(replacements: &'a [Replacement]) -> Pieces<'a> {
-    match replacements {
-        [] => word("]"),
-        [first, rest @ ..] => three(
-            Piece::Replacement(first),
-            Piece::Word(";"),
-            Piece::Replacements(rest),
-        ),
-    }
-}
-
-fn of_lex_fault<'a>(fault: &LexFault) -> Pieces<'a> {
-    match fault {
-        LexFault::BadEscape(at) => two(Piece::Word("BadEscape "), Piece::Number(*at)),
-        LexFault::BadLiteral(at) => two(Piece::Word("BadLiteral "), Piece::Number(*at)),
-        LexFault::BadCharacter(at) => two(Piece::Word("BadCharacter "), Piece::Number(*at)),
-        LexFault::NoMemory => word("no memory in tokens"),
-    }
-}
-
-fn of_fault<'a>(fault: &'a ReadFault) -> Pieces<'a> {
-    match fault {
-        ReadFault::Lex(fault) => of_lex_fault(fault),
-        ReadFault::TooDeep(at) => two(Piece::Word("TooDeep "), Piece::Number(*at)),
-        ReadFault::Syntax(at) => two(Piece::Word("Syntax "), Piece::Number(*at)),
-        ReadFault::UndeclaredPrefix(prefix) => three(
-            Piece::Word("UndeclaredPrefix '"),
-            bytes(prefix),
-            Piece::Word("'"),
-        ),
-        ReadFault::Twice(prefix) => three(Piece::Word("Twice '"), bytes(prefix), Piece::Word("'")),
-        ReadFault::NoMemory => word("no memory"),
-    }
-}
-
-fn of_answer<'a>(answer: &'a Result<Surface, ReadFault>) -> Pieces<'a> {
-    match answer {
-        Ok(Surface::Pattern(pattern)) => one(Piece::Pattern(pattern)),
-        Ok(Surface::Grammar(items)) => two(Piece::Word("["), Piece::Items(items.as_slice())),
-        Err(fault) => of_fault(fault),
-    }
-}
-
-fn of_piece<'a>(piece: Piece<'a>) -> Pieces<'a> {
-    match piece {
-        Piece::Nothing => word(""),
-        Piece::Word(letters) => word(letters),
-        Piece::Number(number) => of_number(number),
-        Piece::Namespace(ns) => of_namespace(ns),
-        Piece::Class(class) => of_class(class),
-        Piece::Classes(classes) => of_classes(classes),
-        Piece::TypeName(name) => of_type_name(name),
-        Piece::Params(params) => of_params(params),
-        Piece::File(file) => of_file(file),
-        Piece::Pattern(pattern) => of_pattern(pattern),
-        Piece::Patterns(sign, patterns) => of_patterns(sign, patterns),
-        Piece::Item(item) => of_item(item),
-        Piece::Items(items) => of_items(items),
-        Piece::Replacement(replacement) => of_replacement(replacement),
-        Piece::Replacements(replacements) => of_replacements(replacements),
-    }
-}
-
-/// The pieces as one line: patterns by the signs of the compact syntax, names with their namespace in braces.
-fn written(alloc: Global, pieces: Pieces<'_>) -> Result<String, NoMemory> {
-    let mut line = String::new(alloc);
-    let mut stack = Vec::new(alloc);
-    stack.extend_from_slice(&pieces)?;
-    for _ in 0..10000 {
-        match stack.pop() {
-            None => return Ok(line),
-            Some(Piece::Nothing) => {}
-            Some(Piece::Word(word)) => line.push_str(word)?,
-            Some(piece) => stack.extend_from_slice(&of_piece(piece))?,
-        }
-    }
-    line.push_str(" and more")?;
-    Ok(line)
+fn written(alloc: Global, answer: &Result<Surface, ReadFault>) -> Result<String, Fail> {
+    let mut printer = Printer {
+        line: String::new(alloc),
+    };
+    printer.answer(answer)?;
+    Ok(printer.line)
 }
 
 /// What is read of a schema, or why it isn't.
-fn told(alloc: Global, text: &str) -> Result<String, NoMemory> {
-    written(alloc, of_answer(&read(alloc, text)))
+fn told(alloc: Global, text: &str) -> Result<String, Fail> {
+    written(alloc, &read(alloc, text))
 }
 
 /// Schemas, each with what `told` makes of it behind `=> `, and a blank line between them. The first is empty.
