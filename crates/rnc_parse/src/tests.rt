@@ -499,6 +499,15 @@ namespace p = 'u' include 'f' inherit = p
 include 'f' inherit = q
 => UndeclaredPrefix 'q'
 
+datatypes p = 'u' datatypes p = 'v' q:a
+=> Twice 'p'
+
+[ a:b = 'c' ] d
+=> d
+
+include 'f' inherit = a = b
+=> Syntax 24
+
 grammar { start = a div { a |= b } } 
 => [start=a;[a|=b;];]
 
@@ -555,7 +564,7 @@ fn schemas_are_read(rt: HostRuntime) -> Result<(), Fail> {
         assert_eq!(rt; told(rt.alloc(), schema)?.as_str(), want, "at {schema}");
         rows = rows.saturating_add(1);
     }
-    assert_eq!(rt; rows, 89);
+    assert_eq!(rt; rows, 92);
     Ok(())
 }
 
