@@ -1,0 +1,4 @@
+pub mod Written
+pub mod Views
+pub mod Texts
+pub mod Reads

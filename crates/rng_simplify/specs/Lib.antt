@@ -1,0 +1,17 @@
+pub mod Composed
+pub mod Classes
+pub mod Composing
+pub mod References
+pub mod Forms
+pub mod Simple
+pub mod Places
+pub mod Whole
+pub mod Datatypes
+pub mod Broken
+pub mod Simplified
+pub mod Seeing
+pub mod Cells
+pub mod Denoting
+pub mod Making
+pub mod Keeping
+pub mod Supplying
