@@ -5,3 +5,11 @@ pub mod Entries
 pub mod Growing
 pub mod Replacing
 pub mod Made
+pub mod Joining
+pub mod Texts
+pub mod Loading
+pub mod Owning
+pub mod Pieces
+pub mod Walking
+pub mod Denoted
+pub mod OnePiece

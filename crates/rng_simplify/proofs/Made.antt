@@ -36,17 +36,17 @@ pub record Both {A B : Type 0} (outcome : Outcome A) (more : A → Making → Ou
   pub first : outcome ≡ made value mid
   pub second : more value mid ≡ made b new
 
-abbrev value_or : {A : Type 0} → A → Outcome A → A
+abbrev pub value_or : {A : Type 0} → A → Outcome A → A
 value_or other (made value now) = value
 value_or other (refused why) = other
 value_or other no_piece = other
 
-abbrev now_or : {A : Type 0} → Making → Outcome A → Making
+abbrev pub now_or : {A : Type 0} → Making → Outcome A → Making
 now_or other (made value now) = now
 now_or other (refused why) = other
 now_or other no_piece = other
 
-abbrev is_made : {A : Type 0} → Outcome A → Type 0
+abbrev pub is_made : {A : Type 0} → Outcome A → Type 0
 is_made (made value now) = Unit {0}
 is_made (refused why) = ⊥
 is_made no_piece = ⊥
@@ -56,7 +56,7 @@ both (made value mid) more b new h = record { value = value; mid = mid; first = 
 both (refused why) more b new h = absurd (subst is_made (sym h) tt)
 both no_piece more b new h = absurd (subst is_made (sym h) tt)
 
-supply_on : {files : FileMap} {number : ℕ → ℕ} {context : Context} {old new : List Cell} {mention : Mention} {piece : FilePiece} → Grows old new → Supply files number context old mention piece → Supply files number context new mention piece
+pub supply_on : {files : FileMap} {number : ℕ → ℕ} {context : Context} {old new : List Cell} {mention : Mention} {piece : FilePiece} → Grows old new → Supply files number context old mention piece → Supply files number context new mention piece
 supply_on grows (a_pattern_piece opens items composes denotes) = a_pattern_piece opens items composes (denotes_on grows denotes)
 supply_on grows (a_grammar_piece opens items gathers denotes) = a_grammar_piece opens items gathers (denote_all_on grows denotes)
 
@@ -118,7 +118,7 @@ module _ (files : FileMap) (number : ℕ → ℕ) (context : Context) where
   zero_or_more_from : (p : WrittenPattern) (q1 q2 : Composed) → Composes files context (written.one_or_more p) q1 → Composes files context written.empty q2 → Composes files context (written.zero_or_more p) (composed.choice q1 q2)
   zero_or_more_from p q1 q2 (by_one_or_more composes) by_empty = by_zero_or_more composes
 
-  file_from : (inner : Context) (surface : WrittenSurface) (items : WrittenItems) (all : Clauses) → grammar_items surface ≡ Some items → Gathers files inner items all → ComposesFile files inner surface (composed.grammar all)
+  pub file_from : (inner : Context) (surface : WrittenSurface) (items : WrittenItems) (all : Clauses) → grammar_items surface ≡ Some items → Gathers files inner items all → ComposesFile files inner surface (composed.grammar all)
   file_from inner (written.a_grammar its) items all is gathers = file_of_grammar (subst (λ x. Gathers files inner x all) (let same : items ≡ its = cc in same) gathers)
   file_from inner (written.a_pattern (written.grammar its)) items all is gathers = file_of_pattern (by_grammar (subst (λ x. Gathers files inner x all) (let same : items ≡ its = cc in same) gathers))
   file_from inner (written.a_pattern p) items all is gathers = let never : ⊥ = cc in absurd never

@@ -60,7 +60,7 @@ row_made : (ns : List ℕ) (by : Sign) (n : _) (row : pattern.Row_of-Pattern n) 
 row_made ns by n pattern.end_of-Pattern now = none_joined_made ns by now
 row_made ns by n (pattern.more_of-Pattern first row) now = row_behind ns by _ (pattern_of first) row now
 
-abbrev row_in : Pattern → (n : _) × pattern.Row_of-Pattern n
+abbrev pub row_in : Pattern → (n : _) × pattern.Row_of-Pattern n
 row_in (pattern.Choice' shape row) = (_, row)
 row_in (pattern.Group' shape row) = (_, row)
 row_in (pattern.Interleave' shape row) = (_, row)

@@ -15,3 +15,9 @@ pub mod Denoting
 pub mod Making
 pub mod Keeping
 pub mod Supplying
+pub mod Rows
+pub mod Mentioning
+pub mod Loading
+pub mod Following
+pub mod Standing
+pub mod Composition

@@ -2,7 +2,7 @@
 //!
 //! The files that a file mentions stand before it, the last one that it mentions first. Each file leaves a piece on a stack. Where a file mentions another one, the piece of that one is the next on the stack.
 
-ghost use Rattle.std.specs.Prelude.{◌≡◌, ◌≢◌, [], IfOk};
+ghost use Rattle.std.specs.Prelude.{◌≡◌, ◌≢◌, [], Some, None, MatchOption, IfOk};
 ghost use Rattle.rnc_parse.specs.Views.{pattern_of, surface_of, item_of, items_in, replacement_of, replacements_in};
 ghost use Rattle.rnc_parse.specs.Written as written;
 ghost use Rattle.rnc_parse.specs.declared.surface.FileReference.{FileReference};
@@ -12,6 +12,9 @@ ghost use Rattle.rng_simplify.specs.Making.{Makes, making_of, cell_made, or_empt
 ghost use Rattle.rnc_parse.specs.Written.{a_grammar, a_pattern};
 ghost use Rattle.rng_simplify.specs.declared.stop.Stop.TheVariants.{NoPiece};
 ghost use Rattle.rng_simplify.specs.Cells as cell;
+ghost use Rattle.rng_simplify.specs.Rows.{row_of};
+ghost use Rattle.rng_simplify.specs.Composing.{grammar_items};
+ghost use Rattle.rng_simplify.specs.declared.node.Sign.{Sign as TheSign};
 
 use crate::class::class_in;
 use crate::fault::SchemaFault;
@@ -116,6 +119,31 @@ fn params_copy(alloc: Global, params: &Params) -> Result<Params, NoMemory>
     Ok(copies)
 }
 
+/// The items of the grammar that the pattern is, if it is one. A row of one pattern is that pattern.
+#[cycle(alone)]
+fn grammar_alone(pattern: &Pattern) -> Option<&[Item]>
+    ensures { MatchOption result (grammar_items (a_pattern (pattern_of pattern.now)) ≡ None) (λ items. grammar_items (a_pattern (pattern_of pattern.now)) ≡ Some (items_in items.now)) }
+{
+    match pattern {
+        Pattern::Grammar(items) => Some(items.as_slice()),
+        Pattern::Choice(patterns) => grammar_in_row(patterns.as_slice()),
+        Pattern::Group(patterns) => grammar_in_row(patterns.as_slice()),
+        Pattern::Interleave(patterns) => grammar_in_row(patterns.as_slice()),
+        _ => None,
+    }
+}
+
+/// The same of patterns that are joined by any sign.
+#[cycle(alone)]
+fn grammar_in_row(patterns: &[Pattern]) -> Option<&[Item]>
+    ensures { (by : TheSign) → MatchOption result (grammar_items (a_pattern (row_of by patterns.now)) ≡ None) (λ items. grammar_items (a_pattern (row_of by patterns.now)) ≡ Some (items_in items.now)) }
+{
+    match patterns {
+        [only] => grammar_alone(only),
+        _ => None,
+    }
+}
+
 impl Composer {
     /// A further node, by its number.
     fn node(&mut self, node: Node) -> Result<usize, Stop>
@@ -176,9 +204,9 @@ impl Composer {
     fn pattern_file(&mut self, inherited: &Bytes, pattern: &Pattern) -> Result<Piece, Stop>
         ensures { Makes (making_of self.new) piece_of (make_file inherited.now (a_pattern (pattern_of pattern.now)) (making_of self.old)) result }
     {
-        match pattern {
-            Pattern::Grammar(items) => self.grammar_file(inherited, items.as_slice()),
-            _ => self.lone_pattern(inherited, pattern),
+        match grammar_alone(pattern) {
+            Some(items) => self.grammar_file(inherited, items),
+            None => self.lone_pattern(inherited, pattern),
         }
     }
 
