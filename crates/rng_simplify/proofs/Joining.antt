@@ -1,18 +1,22 @@
 -- Rows of patterns as one pattern: what is a grammar alone, and what is mentioned.
-use Rattle.std.proofs.Common.{◌≡◌, refl, ap, sym, ◌∙◌, ℕ, List, [], ◌∷◌, ◌++◌, Vec, Global, Option, Some, None}
+use Rattle.std.proofs.Common.{◌≡◌, refl, ap, sym, ◌∙◌, ℕ, List, [], ◌∷◌, ◌++◌, Vec, Global, Option, Some, None, Result, Ok, Err, IfOk}
 use Rattle.std.specs.Prelude.{map, flat_map}
 use Rattle.std.proofs.lemmas.List.{append_assoc, append-nil}
 use Rattle.rnc_parse.specs.declared.surface.Pattern.{Pattern}
 use Rattle.rnc_parse.specs.declared.surface.Pattern as pattern
-use Rattle.rnc_parse.specs.Written.{WrittenPattern, WrittenItems, a_pattern, a_grammar, joined, joined_or}
+use Rattle.nx_base.specs.declared.memory.NoMemory.{NoMemory}
+use Rattle.rnc_parse.specs.declared.surface.FileReference.{FileReference}
+use Rattle.rnc_parse.specs.Written.{WrittenPattern, WrittenItems, WrittenReplacements, a_pattern, a_grammar, joined, joined_or}
 use Rattle.rnc_parse.specs.Written as written
 use Rattle.rnc_parse.specs.Views.{pattern_of, patterns_of, patterns_behind}
 use Rattle.rng_simplify.specs.declared.node.Sign.{Sign}
 use Rattle.rng_simplify.specs.declared.node.Sign.TheVariants as sign
 use Rattle.rng_simplify.specs.Composing.{grammar_items}
 use Rattle.rng_simplify.specs.Making.{Making, make_file, lone_made}
-use Rattle.rng_simplify.specs.Mentioning.{mentions_of_each}
-use Rattle.rng_simplify.specs.References.{Mention, mentions}
+use Rattle.rng_simplify.specs.declared.mention.Mention.{Mention as Kept}
+use Rattle.rng_simplify.specs.Classes.{namespace_in}
+use Rattle.rng_simplify.specs.Mentioning.{kept_of_all, mentions_of_each}
+use Rattle.rng_simplify.specs.References.{mentions, mentions_of_item, mentions_anew}
 use Rattle.rng_simplify.specs.Rows.{join_by, none_by, row_of}
 use Rattle.rng_simplify.proofs.Rows.{row_in}
 
@@ -94,3 +98,9 @@ none_mentions sign.Interleave = refl
 pub row_mentions : (by : Sign) (patterns : List Pattern) → mentions (row_of by patterns) ≡ mentions_of_each patterns
 row_mentions by [] = none_mentions by
 row_mentions by (first ∷ more) = joined_mentions by (pattern_of first) more
+
+-- what is found of an include, and behind that of what is in its braces
+pub reference_then : (ns : List ℕ) (reference : FileReference) (replacements : WrittenReplacements) (old mid new : List Kept) (result : Result (Unit {0}) NoMemory) → mid ≡ old ++ record { text = reference.uri; inherited = namespace_in ns reference.namespace } ∷ [] → IfOk result (λ _. new ≡ mid ++ kept_of_all ns (mentions_anew replacements)) → IfOk result (λ _. new ≡ old ++ kept_of_all ns (mentions_of_item (written.include reference replacements)))
+reference_then ns reference replacements old mid new (Ok done) first second =
+    second ∙ ap (λ xs. xs ++ kept_of_all ns (mentions_anew replacements)) first ∙ append_assoc old (record { text = reference.uri; inherited = namespace_in ns reference.namespace } ∷ []) (kept_of_all ns (mentions_anew replacements))
+reference_then ns reference _ old mid new (Err fault) first second = tt
