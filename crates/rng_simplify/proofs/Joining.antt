@@ -1,5 +1,5 @@
 -- Rows of patterns as one pattern: what is a grammar alone, and what is mentioned.
-use Rattle.std.proofs.Common.{◌≡◌, refl, ap, sym, ◌∙◌, ℕ, List, [], ◌∷◌, ◌++◌, Vec, Global, Option, Some, None, Result, Ok, Err, IfOk}
+use Rattle.std.proofs.Common.{◌≡◌, ◌≢◌, refl, ap, sym, ◌∙◌, ℕ, length, arith, List, [], ◌∷◌, ◌++◌, Vec, Global, Option, Some, None, Result, Ok, Err, IfOk}
 use Rattle.std.specs.Prelude.{map, flat_map}
 use Rattle.std.proofs.lemmas.List.{append_assoc, append-nil}
 use Rattle.rnc_parse.specs.declared.surface.Pattern.{Pattern}
@@ -55,15 +55,22 @@ joined_is_none : (by : Sign) (first : WrittenPattern) (more : List WrittenPatter
 joined_is_none by first [] h = h
 joined_is_none by first (next ∷ more) h = joined_is_none by (join_by by first next) more (join_is_none by first next)
 
--- no patterns are no grammar
-pub none_is_none : (by : Sign) → grammar_items (a_pattern (row_of by [])) ≡ None
+none_is_none : (by : Sign) → grammar_items (a_pattern (none_by by)) ≡ None
 none_is_none sign.Choice = refl
 none_is_none sign.Group = refl
 none_is_none sign.Interleave = refl
 
+-- no patterns are no grammar
+pub nothing_is_none : (by : Sign) (patterns : List Pattern) → length patterns ≡ 0 → grammar_items (a_pattern (row_of by patterns)) ≡ None
+nothing_is_none by [] none = none_is_none by
+nothing_is_none by (first ∷ more) none = absurd (omega (arith, none))
+
 -- nor are two or more
-pub row_is_none : (by : Sign) (first next : Pattern) (more : List Pattern) → grammar_items (a_pattern (row_of by (first ∷ next ∷ more))) ≡ None
-row_is_none by first next more = joined_is_none by (join_by by (pattern_of first) (pattern_of next)) (map pattern_of more) (join_is_none by (pattern_of first) (pattern_of next))
+pub row_is_none : (by : Sign) (first : Pattern) (others patterns : List Pattern) → patterns ≡ first ∷ others → length others ≢ 0 → grammar_items (a_pattern (row_of by patterns)) ≡ None
+row_is_none by first [] patterns all other = absurd (other refl)
+row_is_none by first (next ∷ more) patterns all other =
+    ap (λ ps. grammar_items (a_pattern (row_of by ps))) all
+    ∙ joined_is_none by (join_by by (pattern_of first) (pattern_of next)) (map pattern_of more) (join_is_none by (pattern_of first) (pattern_of next))
 
 -- a file of a pattern that is no grammar alone
 pub lone_is : (ns : List ℕ) (p : WrittenPattern) (now : Making) → grammar_items (a_pattern p) ≡ None → make_file ns (a_pattern p) now ≡ lone_made ns p now

@@ -43,12 +43,12 @@ module _ (told : Option FileMap) (uri : List ℕ) where
   -- a file that is reached is refused
   pub refused_at : (context : Context) (before after : ℕ) (fault : SchemaFault) → IfTold told (λ files. Reached files uri context) → ReadsFile told context.uri before after (Err fault) → Answers told uri before after (Err fault)
   refused_at context before after (Absent absent) reached h = (
-      told_both told (λ files. Reached files uri context) (λ files. files context.uri ≡ None) (λ files. IsAbsent files uri absent) (λ files r e. record { context = context; reached = r; uri_is = h.0; nothing_there = ap files h.0 ∙ e }) reached h.1,
-      h.2,
+    told_both told (λ files. Reached files uri context) (λ files. files context.uri ≡ None) (λ files. IsAbsent files uri absent) (λ files r e. record { context = context; reached = r; uri_is = h.0; nothing_there = ap files h.0 ∙ e }) reached h.1,
+    h.2,
   )
   refused_at context before after (NotUtf8 wrong at) reached h = (
-      told_both told (λ files. Reached files uri context) (λ files. (bytes : List ℕ) × (files context.uri ≡ Some bytes) × IsNoTextAt bytes at) (λ files. IsNoText files uri wrong at) (λ files r e. record { context = context; reached = r; uri_is = h.0; bytes = e.0; there = ap files h.0 ∙ e.1; no_text = e.2.no_text; stops = e.2.stops }) reached h.1,
-      h.2,
+    told_both told (λ files. Reached files uri context) (λ files. (bytes : List ℕ) × (files context.uri ≡ Some bytes) × IsNoTextAt bytes at) (λ files. IsNoText files uri wrong at) (λ files r e. record { context = context; reached = r; uri_is = h.0; bytes = e.0; there = ap files h.0 ∙ e.1; no_text = e.2.no_text; stops = e.2.stops }) reached h.1,
+    h.2,
   )
   refused_at context before after (BadUri text) reached h = absurd h
   refused_at context before after Failed reached h = h
@@ -170,23 +170,23 @@ module _ (told : Option FileMap) (uri : List ℕ) where
     -- the text is no URI
     pub bad_uri : (count : ℕ) → IsBadUri link.uri kept.text → IfTold told (λ files. HasBadUri files uri kept.text)
     bad_uri count bad = told_with told (λ files. Mentions files uri next.context next.mention) (λ files. HasBadUri files uri kept.text) (λ files m. record {
-        context = next.context;
-        mention = next.mention;
-        mentioned = m;
-        text_is = text_is;
-        bad = subst (λ b. IsBadUri b kept.text) next.uri_is bad;
-      }) next.mentioned
+      context = next.context;
+      mention = next.mention;
+      mentioned = m;
+      text_is = text_is;
+      bad = subst (λ b. IsBadUri b kept.text) next.uri_is bad;
+    }) next.mentioned
 
     -- the file leads back here
     pub loop_at : (other : List ℕ) → Joins link.uri kept.text other → Contains (link.uri ∷ uris_of outer) other → IfTold told (λ files. HasIncludeLoop files uri)
     loop_at other joins among = told_with told (λ files. Mentions files uri next.context next.mention) (λ files. HasIncludeLoop files uri) (λ files m. record {
-        context = next.context;
-        mention = next.mention;
-        mentioned = m;
-        other = other;
-        joined = joins_at other joins;
-        leads_here = subst (λ us. Contains us other) (sym next.chain_is) among;
-      }) next.mentioned
+      context = next.context;
+      mention = next.mention;
+      mentioned = m;
+      other = other;
+      joined = joins_at other joins;
+      leads_here = subst (λ us. Contains us other) (sym next.chain_is) among;
+    }) next.mentioned
 
     pub not_next : (count : ℕ) (fault : SchemaFault) → NextUri (uris_of outer) link.uri kept.text (Err fault) → Answers told uri count count (Err fault)
     not_next count (BadUri bad) h = (subst (λ t. IfTold told (λ files. HasBadUri files uri t)) (sym h.0) (bad_uri count h.1), refl)

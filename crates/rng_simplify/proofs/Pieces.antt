@@ -35,9 +35,9 @@ pub record Runs {A : Type 0} (given : List ℕ) (held : A → List ℕ) (need : 
 
 then_keeps : {A B : Type 0} (given : List ℕ) (held : A → List ℕ) (held2 : B → List ℕ) (n m : ℕ) (old mid : Making) (v : A) (outcome : Outcome B) → Keeps given held n old (made v mid) → Keeps (held v) held2 m mid outcome → Keeps given held2 (n + m) old outcome
 then_keeps given held held2 n m old mid v (made w new) first second = (
-    second.0 ∙ ap (drop m) first.0 ∙ drop-drop m n old.pieces,
-    grows_on first.1 second.1,
-    λ extra owns. second.2 extra (first.2 extra owns),
+  second.0 ∙ ap (drop m) first.0 ∙ drop-drop m n old.pieces,
+  grows_on first.1 second.1,
+  λ extra owns. second.2 extra (first.2 extra owns),
 )
 then_keeps given held held2 n m old mid v (refused why) first second = tt
 then_keeps given held held2 n m old mid v no_piece first second = absurd second
@@ -95,15 +95,15 @@ cell_runs c now = record { keeps = λ enough. (refl, one_more now.cells c, λ ex
 next_keeps : (cells : List Cell) (pieces : List FilePiece) → 1 ≤ length pieces → Keeps [] one 1 (record { cells = cells; pieces = pieces }) (next_piece cells pieces >>= as_pattern)
 next_keeps cells [] enough = absurd (omega (arith, enough))
 next_keeps cells (of_pattern root ∷ more) enough = (
-    refl,
-    grows_not cells,
-    λ extra owns. held_else (record { cells = cells; pieces = of_pattern root ∷ more }) (record { cells = cells; pieces = more }) extra (root ∷ extra) refl (λ i. omega arith) owns,
+  refl,
+  grows_not cells,
+  λ extra owns. held_else (record { cells = cells; pieces = of_pattern root ∷ more }) (record { cells = cells; pieces = more }) extra (root ∷ extra) refl (λ i. omega arith) owns,
 )
 next_keeps cells (of_grammar clauses ∷ more) enough = (
-    refl,
-    one_more cells (cell.grammar clauses),
-    λ extra owns. cell_owns (cell.grammar clauses) (record { cells = cells; pieces = more }) extra
-    (held_else (record { cells = cells; pieces = of_grammar clauses ∷ more }) (record { cells = cells; pieces = more }) extra (bodies_of clauses ++ extra) refl
+  refl,
+  one_more cells (cell.grammar clauses),
+  λ extra owns. cell_owns (cell.grammar clauses) (record { cells = cells; pieces = more }) extra
+      (held_else (record { cells = cells; pieces = of_grammar clauses ∷ more }) (record { cells = cells; pieces = more }) extra (bodies_of clauses ++ extra) refl
       (λ i. omega (arith, count-append i (bodies_of clauses) extra, count-append i (bodies_of clauses) (flat_map piece_nodes more))) owns),
 )
 
@@ -114,10 +114,10 @@ grammar_keeps : (cells : List Cell) (pieces : List FilePiece) → 1 ≤ length p
 grammar_keeps cells [] enough = absurd (omega (arith, enough))
 grammar_keeps cells (of_pattern root ∷ more) enough = tt
 grammar_keeps cells (of_grammar clauses ∷ more) enough = (
-    refl,
-    grows_not cells,
-    λ extra owns. held_else (record { cells = cells; pieces = of_grammar clauses ∷ more }) (record { cells = cells; pieces = more }) extra (bodies_of clauses ++ extra) refl
-    (λ i. omega (arith, count-append i (bodies_of clauses) extra, count-append i (bodies_of clauses) (flat_map piece_nodes more))) owns,
+  refl,
+  grows_not cells,
+  λ extra owns. held_else (record { cells = cells; pieces = of_grammar clauses ∷ more }) (record { cells = cells; pieces = more }) extra (bodies_of clauses ++ extra) refl
+      (λ i. omega (arith, count-append i (bodies_of clauses) extra, count-append i (bodies_of clauses) (flat_map piece_nodes more))) owns,
 )
 
 next_grammar_runs : (now : Making) → Runs [] bodies_of 1 now (next_grammar now)
@@ -164,7 +164,7 @@ module _ (ns : List ℕ) where
   between by p q now first second =
       need_is [] one (length (mentions p) + length (mentions q)) (length (mentions p ++ mentions q)) now (make ns p now >>= λ i then. make ns q then >>= λ j. cell_made (cell.joined by i j)) (sym (length-append (mentions p) (mentions q)))
       (then_runs [] one one (length (mentions p)) (length (mentions q)) now (make ns p now) (λ i then. make ns q then >>= λ j. cell_made (cell.joined by i j)) first
-        (λ i mid. last_runs (one i) (λ j. one j ++ one i) one (length (mentions q)) mid (make ns q mid) (λ j. cell_made (cell.joined by i j)) (framed (one i) one (length (mentions q)) mid (make ns q mid) (second mid)) (λ j then. joined_runs by i j then)))
+      (λ i mid. last_runs (one i) (λ j. one j ++ one i) one (length (mentions q)) mid (make ns q mid) (λ j. cell_made (cell.joined by i j)) (framed (one i) one (length (mentions q)) mid (make ns q mid) (second mid)) (λ j then. joined_runs by i j then)))
 
   -- one item and those behind it
   row_runs : (n m : ℕ) (now : Making) (first : Outcome (List Clause)) (more : Making → Outcome (List Clause)) → Runs [] bodies_of n now first → ((mid : Making) → Runs [] bodies_of m mid (more mid)) → Runs [] bodies_of (n + m) now (first >>= λ cs then. more then >>= λ ds. made (cs ++ ds))
@@ -209,7 +209,7 @@ module _ (ns : List ℕ) where
     item_runs (written.include reference replacements) now =
         need_is [] bodies_of (1 + length (mentions_anew replacements)) (suc (length (mentions_anew replacements))) now (make_item ns (written.include reference replacements) now) (omega arith)
         (then_runs [] bodies_of bodies_of 1 (length (mentions_anew replacements)) now (next_grammar now) (λ old then. make_anew ns replacements then >>= λ new. replaced_if (defines_all old new) (with_new old new)) (next_grammar_runs now)
-          (λ old mid. last_runs (bodies_of old) (λ new. bodies_of new ++ bodies_of old) bodies_of (length (mentions_anew replacements)) mid (make_anew ns replacements mid) (λ new. replaced_if (defines_all old new) (with_new old new)) (framed (bodies_of old) bodies_of (length (mentions_anew replacements)) mid (make_anew ns replacements mid) (anew_run replacements mid)) (λ new then. replaced_runs (defines_all old new) old new then)))
+        (λ old mid. last_runs (bodies_of old) (λ new. bodies_of new ++ bodies_of old) bodies_of (length (mentions_anew replacements)) mid (make_anew ns replacements mid) (λ new. replaced_if (defines_all old new) (with_new old new)) (framed (bodies_of old) bodies_of (length (mentions_anew replacements)) mid (make_anew ns replacements mid) (anew_run replacements mid)) (λ new then. replaced_runs (defines_all old new) old new then)))
 
     pub items_run : (items : WrittenItems) (now : Making) → Runs [] bodies_of (length (mentions_of_items items)) now (make_items ns items now)
     items_run written.no_items now = made_runs bodies_of [] now

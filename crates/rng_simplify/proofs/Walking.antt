@@ -72,8 +72,8 @@ nothing_owns = record {
 
 file_leaves : (n : ℕ) (file : Loaded) (outcome : Outcome FilePiece) (now : Making) → Keeps [] piece_nodes n now outcome → (more : ℕ) → length now.pieces ≡ n + more → Owns now [] → Leaves (suc more) (outcome >>= λ piece then. made (tt {0}) (record { cells = then.cells; pieces = piece ∷ then.pieces }))
 file_leaves n file (made piece then) now keeps more enough owns = (
-    (let e : length then.pieces ≡ length (drop n now.pieces) = ap (λ (ps : List FilePiece). length ps) keeps.0 in omega (arith, e, length-drop n now.pieces, enough)),
-    held_piece piece then (keeps.2 [] owns),
+  (let e : length then.pieces ≡ length (drop n now.pieces) = ap (λ (ps : List FilePiece). length ps) keeps.0 in omega (arith, e, length-drop n now.pieces, enough)),
+  held_piece piece then (keeps.2 [] owns),
 )
   where
     held_piece : (piece : FilePiece) (then : Making) → Owns then (piece_nodes piece ++ []) → Owns (record { cells = then.cells; pieces = piece ∷ then.pieces }) []
@@ -91,7 +91,7 @@ file_step : (file : Loaded) (files : List Loaded) (n more : ℕ) → n ≡ lengt
 file_step file files n more together before =
     subst (Leaves (suc more)) (sym (file_last file files))
     (then_leaves n (suc more) (files_made (reverse files) nothing_made) (λ done. file_made file) before
-      (λ done now enough owns. file_leaves (length (mentions_of (surface_of file.surface))) file (make_file file.inherited (surface_of file.surface) now) now ((file_runs file.inherited (surface_of file.surface) now).keeps (omega (arith, enough, together))) more (enough ∙ together) owns))
+    (λ done now enough owns. file_leaves (length (mentions_of (surface_of file.surface))) file (make_file file.inherited (surface_of file.surface) now) now ((file_runs file.inherited (surface_of file.surface) now).keeps (omega (arith, enough, together))) more (enough ∙ together) owns))
 
 pub waiting_together : (context : Context) (all : List Mention) (more : List Waiting) → length (waiting_in context all ++ more) ≡ length all + length more
 waiting_together context all more = length-append (waiting_in context all) more ∙ ap (λ n. n + length more) (length-map all (λ (mention : Mention). record { context = context; mention = mention }))

@@ -138,9 +138,13 @@ fn grammar_alone(pattern: &Pattern) -> Option<&[Item]>
 fn grammar_in_row(patterns: &[Pattern]) -> Option<&[Item]>
     ensures { (by : TheSign) → MatchOption result (grammar_items (a_pattern (row_of by patterns.now)) ≡ None) (λ items. grammar_items (a_pattern (row_of by patterns.now)) ≡ Some (items_in items.now)) }
 {
-    match patterns {
-        [only] => grammar_alone(only),
-        _ => None,
+    let Some((first, others)) = patterns.split_first() else {
+        return None;
+    };
+    if others.is_empty() {
+        grammar_alone(first)
+    } else {
+        None
     }
 }
 

@@ -1,14 +1,15 @@
-use Rattle.std.proofs.Common.{◌≡◌, ap, sym, ◌∙◌, subst}
-use Rattle.rnc_parse.specs.Written as written
+use Rattle.std.proofs.Common.{◌≡◌, sym, subst}
 use Rattle.rnc_parse.specs.Views.{pattern_of, items_in}
-use Rattle.rng_simplify.specs.Making.{Makes, make_file, making_of, piece_of}
-use Rattle.rng_simplify.proofs.Rows.{grammar_seen}
+use Rattle.rng_simplify.specs.Making.{Makes, making_of, piece_of}
+use Rattle.rng_simplify.proofs.Joining.{lone_is, grammar_is}
 use Rattle.rng_simplify.proofs.compose.Composer.pattern_file.Goals as goal
 
-pub returns-in-Grammar : goal.returns-in-Grammar
-returns-in-Grammar c =
-    let seen : written.grammar (items_in c.as_slice.result.now) ≡ pattern_of c.args.pattern.now = ap (λ xs. written.grammar (items_in xs)) c.as_slice.ensures.value ∙ grammar_seen c.in-Grammar.items ∙ ap pattern_of (sym c.in-Grammar.is) in
-    subst (λ p. Makes (making_of c.grammar_file.new.self) piece_of (make_file c.args.inherited.now (written.a_pattern p) (making_of c.args.self.now)) c.grammar_file.result) seen c.grammar_file.ensures
+pub returns-in-Some : goal.returns-in-Some
+returns-in-Some c =
+    subst (λ outcome. Makes (making_of c.grammar_file.new.self) piece_of outcome c.grammar_file.result)
+    (sym (grammar_is c.args.inherited.now (pattern_of c.args.pattern.now) (items_in c.in-Some.items.now) (making_of c.args.self.now) c.in-Some.ensures)) c.grammar_file.ensures
 
-pub returns-in_default : goal.returns-in_default
-returns-in_default c = ?
+pub returns-in-None : goal.returns-in-None
+returns-in-None c =
+    subst (λ outcome. Makes (making_of c.lone_pattern.new.self) piece_of outcome c.lone_pattern.result)
+    (sym (lone_is c.args.inherited.now (pattern_of c.args.pattern.now) (making_of c.args.self.now) c.in-None.ensures)) c.lone_pattern.ensures
