@@ -8,6 +8,8 @@ pub mod Made
 pub mod Joining
 pub mod Texts
 pub mod Loading
+pub mod Chains
+pub mod Turns
 pub mod Owning
 pub mod Pieces
 pub mod Walking

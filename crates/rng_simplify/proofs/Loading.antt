@@ -1,7 +1,7 @@
 -- Files that are loaded in turns.
 use Rattle.std.proofs.Common.{◌≡◌, refl, sym, ap, ◌∙◌, subst, ℕ, zero, suc, ◌<◌, List, [], ◌∷◌, ◌++◌, length, Option, Some, None, Result, Ok, Err, Bool, true, false, Vec, Global, arith, ◌⊎◌, inl, inr}
 use Rattle.std.specs.Prelude.{Contains, IsUtf8, reverse, map}
-use Rattle.std.proofs.lemmas.List.{append_assoc, append-nil}
+use Rattle.std.proofs.lemmas.List.{append_assoc, append-nil, reverse-append, reverse-reverse}
 use Rattle.nx_base.specs.declared.cause.Cause.{Cause}
 use Rattle.nx_base.specs.declared.cause.Cause.TheVariants as cause
 use Rattle.nx_host.specs.Files.{FileMap}
@@ -18,7 +18,7 @@ use Rattle.rng_simplify.specs.declared.mention.Mention.{Mention as Kept}
 use Rattle.rng_simplify.specs.Broken.{IsAbsent, IsNoText, HasBadUri, IsRefused, HasIncludeLoop}
 use Rattle.rng_simplify.specs.Composing.{Context, top, referred, Says, Opens}
 use Rattle.rng_simplify.specs.Following.{uris_of, IsLink, IsChain, no_link, further_link, IsUnderWay, IsTextLink, AreTextLinks, IsAdded, OpensFile, NextUri}
-use Rattle.rng_simplify.specs.Loading.{Waiting, waiting_in, IsRead, AreRead, all_read, one_read, AreLoaded, AllLoaded, IsNoTextAt, IsOfReading, IsRefusedText, ReadsFile}
+use Rattle.rng_simplify.specs.Loading.{Waiting, waiting_in, IsRead, AreRead, all_read, one_read, AreLoaded, AllLoaded, IsNoTextAt, IsOfReading, IsRefusedText, Unreads, SaysBytes, Fetches, ReadsFile}
 use Rattle.rng_simplify.specs.Mentioning.{kept_of, kept_of_all}
 use Rattle.rng_simplify.specs.References.{Mention, Mentions, Reached, the_first, a_further, reference_of, mentions_of}
 use Rattle.rng_simplify.specs.Simplified.{IfTold, Answers}
@@ -235,3 +235,28 @@ module _ (told : Option FileMap) (uri : List ℕ) where
           chain = subst (λ ls. IsChain told uri ls (waiting_in inner all ++ rests)) (sym (added.links_are ∙ ap (λ ls. first ∷ ls) links_are)) chain;
           completed = λ rest read. subst (AllLoaded told uri) (sym (append_assoc loaded (file ∷ []) rest) ∙ ap (λ fs. fs ++ rest) (sym added.loaded_are)) (next.completed (file ∷ rest) (one_read inner is_read read));
         }
+
+-- ---- one file
+
+-- a text is refused
+pub unread_is : (uri bytes : List ℕ) (fault : SchemaFault) → IsUtf8 bytes → Unreads bytes fault → SaysBytes uri bytes (Err fault)
+unread_is uri bytes (Unreadable why) is_text h = record { is_text = is_text; refused = h.0; of_reading = h.1 }
+unread_is uri bytes NoMemory is_text h = tt
+unread_is uri bytes fault is_text h = absurd h
+
+-- what the bytes say is what the file says
+pub file_is : (told : Option FileMap) (uri bytes : List ℕ) (before after : ℕ) (result : Result Surface SchemaFault) → Fetches told uri before after (Ok bytes) → SaysBytes uri bytes result → ReadsFile told uri before after result
+file_is told uri bytes before after (Ok surface) fetched says = (told_with told (λ files. files uri ≡ Some bytes) (λ files. Says files uri (surface_of surface)) (λ files there. record { bytes = bytes; there = there; is_text = says.is_text; reads = says.reads }) fetched.0, says.texts, fetched.1)
+file_is told uri bytes before after (Err (NotUtf8 wrong at)) fetched says = (says.0, told_with told (λ files. files uri ≡ Some bytes) (λ files. (bytes : List ℕ) × (files uri ≡ Some bytes) × IsNoTextAt bytes at) (λ files there. (bytes, there, says.1)) fetched.0, fetched.1)
+file_is told uri bytes before after (Err (Unreadable why)) fetched says = (says.of_reading, told_with told (λ files. files uri ≡ Some bytes) (λ files. (bytes : List ℕ) × (files uri ≡ Some bytes) × IsRefusedText bytes why) (λ files there. (bytes, there, says)) fetched.0, fetched.1)
+file_is told uri bytes before after (Err NoMemory) fetched says = fetched.1
+file_is told uri bytes before after (Err fault) fetched says = absurd says
+
+-- a file is put on the chain
+pub added : (uri inherited : List ℕ) (surface : Surface) (waiting : Vec Kept Global) (old_links new_links : List Link) (old_loaded new_loaded : List Loaded) → waiting.items ≡ reverse (kept_of_all inherited (mentions_of (surface_of surface))) → new_links ≡ old_links ++ record { uri = uri; waiting = waiting } ∷ [] → new_loaded ≡ old_loaded ++ record { inherited = inherited; surface = surface } ∷ [] → IsAdded uri inherited surface old_links new_links old_loaded new_loaded
+added uri inherited surface waiting old_links new_links old_loaded new_loaded waiting_are links_are loaded_are = record {
+  waiting = waiting;
+  waiting_are = ap reverse waiting_are ∙ reverse-reverse (kept_of_all inherited (mentions_of (surface_of surface)));
+  links_are = ap reverse links_are ∙ reverse-append old_links (record { uri = uri; waiting = waiting } ∷ []);
+  loaded_are = loaded_are;
+}
