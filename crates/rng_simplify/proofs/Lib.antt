@@ -15,3 +15,4 @@ pub mod Pieces
 pub mod Walking
 pub mod Denoted
 pub mod OnePiece
+pub mod Refusing

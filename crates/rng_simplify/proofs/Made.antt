@@ -60,7 +60,7 @@ pub supply_on : {files : FileMap} {number : ℕ → ℕ} {context : Context} {ol
 supply_on grows (a_pattern_piece opens items composes denotes) = a_pattern_piece opens items composes (denotes_on grows denotes)
 supply_on grows (a_grammar_piece opens items gathers denotes) = a_grammar_piece opens items gathers (denote_all_on grows denotes)
 
-supplies_on : {files : FileMap} {number : ℕ → ℕ} {context : Context} {old new : List Cell} {more : List Mention} {pieces : List FilePiece} → Grows old new → Supplies files number context old more pieces → Supplies files number context new more pieces
+pub supplies_on : {files : FileMap} {number : ℕ → ℕ} {context : Context} {old new : List Cell} {more : List Mention} {pieces : List FilePiece} → Grows old new → Supplies files number context old more pieces → Supplies files number context new more pieces
 supplies_on grows nothing_more = nothing_more
 supplies_on grows (one_further first rest) = one_further (supply_on grows first) (supplies_on grows rest)
 
@@ -206,7 +206,7 @@ module _ (files : FileMap) (number : ℕ → ℕ) (context : Context) where
   grammar_at reference more first clauses old mid new is part =
       subst (λ n. GrammarMade reference more clauses old n) (ap (now_or mid) is) (subst (λ cs. GrammarMade reference more cs old mid) (ap (value_or first) is) part)
 
-  included_is : (reference : FileReference) (replacements : WrittenReplacements) (more : List Mention) (clauses : List Clause) (cells : List Cell) (pieces : List FilePiece) (new : Making) → Supplies files number context cells (an_include reference replacements ∷ more) pieces → (next_piece cells pieces >>= as_grammar) ≡ made clauses new → GrammarMade reference more clauses (record { cells = cells; pieces = pieces }) new
+  pub included_is : (reference : FileReference) (replacements : WrittenReplacements) (more : List Mention) (clauses : List Clause) (cells : List Cell) (pieces : List FilePiece) (new : Making) → Supplies files number context cells (an_include reference replacements ∷ more) pieces → (next_piece cells pieces >>= as_grammar) ≡ made clauses new → GrammarMade reference more clauses (record { cells = cells; pieces = pieces }) new
   included_is reference anew more clauses cells pieces new (one_further (a_pattern_piece opens items composes denotes) left) is = absurd (subst is_made (sym is) tt)
   included_is reference anew more clauses cells pieces new (one_further {pieces = rest} (a_grammar_piece {inner = inner} {surface = surface} {items = items} {clauses = first} {all = all} opens is_grammar_file gathers denotes) left) is =
       grammar_at reference more first clauses (record { cells = cells; pieces = of_grammar first ∷ rest }) (record { cells = cells; pieces = rest }) new is (record {

@@ -1,6 +1,6 @@
 //! Laws of composing. Nothing here runs.
 
-ghost use Rattle.rng_simplify.specs.Composition.{NoPieceIsMissing, MadeIsWellFormed, WellFormedDenotes, MadeIsComposed};
+ghost use Rattle.rng_simplify.specs.Composition.{NoPieceIsMissing, MadeIsWellFormed, WellFormedDenotes, MadeIsComposed, RefusedIsBroken};
 ghost use Rattle.rng_simplify.specs.Supplying.{PatternsAreComposed};
 
 /// What is made of a pattern, with pieces for the files that it mentions, is that pattern in one piece.
@@ -26,4 +26,9 @@ pub fn well_formed_denotes()
 /// What is made of files is the schema in one piece.
 pub fn made_is_composed()
     ensures { MadeIsComposed }
+{}
+
+/// Files of which nothing is made make no grammar, for the cause that is told.
+pub fn refused_is_broken()
+    ensures { RefusedIsBroken }
 {}
