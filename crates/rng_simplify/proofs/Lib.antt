@@ -16,3 +16,4 @@ pub mod Walking
 pub mod Denoted
 pub mod OnePiece
 pub mod Refusing
+pub mod Wholes

@@ -133,17 +133,17 @@ module _ (files : FileMap) (number : ℕ → ℕ) (context : Context) where
   after_item : (item : WrittenItem) (more : List Mention) (clauses : List Clause) (old mid : Making) → Supplied (mentions_of_item item ++ more) old → make_item context.inherited item old ≡ made clauses mid → Supplied more mid
   after_item item more clauses old mid supplied is =
       let alone : ItemsMade files number context (written.item_then item written.no_items) more (clauses ++ []) old mid =
-        items_is files number context (written.item_then item written.no_items) more (clauses ++ []) old mid
-        (supplied_as (mentions_of_item item ++ more) ((mentions_of_item item ++ []) ++ more) old (ap (λ ms. ms ++ more) (sym (append-nil (mentions_of_item item)))) supplied)
-        (ap (λ outcome. outcome >>= λ first then. make_items context.inherited written.no_items then >>= λ second. made (first ++ second)) is) in
+      items_is files number context (written.item_then item written.no_items) more (clauses ++ []) old mid
+      (supplied_as (mentions_of_item item ++ more) ((mentions_of_item item ++ []) ++ more) old (ap (λ ms. ms ++ more) (sym (append-nil (mentions_of_item item)))) supplied)
+      (ap (λ outcome. outcome >>= λ first then. make_items context.inherited written.no_items then >>= λ second. made (first ++ second)) is) in
       alone.part.left
 
   after_replacement : (replacement : WrittenReplacement) (more : List Mention) (clauses : List Clause) (old mid : Making) → Supplied (mentions_of_replacement replacement ++ more) old → make_replacement context.inherited replacement old ≡ made clauses mid → Supplied more mid
   after_replacement replacement more clauses old mid supplied is =
       let alone : AnewMade files number context (written.replacement_then replacement written.no_replacements) more (clauses ++ []) old mid =
-        anew_is files number context (written.replacement_then replacement written.no_replacements) more (clauses ++ []) old mid
-        (supplied_as (mentions_of_replacement replacement ++ more) ((mentions_of_replacement replacement ++ []) ++ more) old (ap (λ ms. ms ++ more) (sym (append-nil (mentions_of_replacement replacement)))) supplied)
-        (ap (λ outcome. outcome >>= λ first then. make_anew context.inherited written.no_replacements then >>= λ second. made (first ++ second)) is) in
+      anew_is files number context (written.replacement_then replacement written.no_replacements) more (clauses ++ []) old mid
+      (supplied_as (mentions_of_replacement replacement ++ more) ((mentions_of_replacement replacement ++ []) ++ more) old (ap (λ ms. ms ++ more) (sym (append-nil (mentions_of_replacement replacement)))) supplied)
+      (ap (λ outcome. outcome >>= λ first then. make_anew context.inherited written.no_replacements then >>= λ second. made (first ++ second)) is) in
       alone.part.left
 
   -- ---- patterns and items
@@ -214,19 +214,19 @@ module _ (files : FileMap) (number : ℕ → ℕ) (context : Context) where
         one_of_two (mentions p) (mentions q) why (make context.inherited p old) (λ i then. make context.inherited q then >>= λ j. cell_made (cell.joined sign.Choice i j))
         (λ h. pattern_refused p (mentions q ++ more) why old apart h)
         (λ i mid h k. let one : IsMadeOf files number context p (mentions q ++ more) i old mid = pattern_is files number context p (mentions q ++ more) i old mid apart h in
-          pattern_refused q more why mid one.left (only_first (make context.inherited q mid) (λ j. cell_made (cell.joined sign.Choice i j)) why (λ j then n. cell_never (cell.joined sign.Choice i j) then why n) k)) is
+        pattern_refused q more why mid one.left (only_first (make context.inherited q mid) (λ j. cell_made (cell.joined sign.Choice i j)) why (λ j then n. cell_never (cell.joined sign.Choice i j) then why n) k)) is
     pattern_refused (written.group p q) more why old supplied is =
         let apart : Supplied (mentions p ++ (mentions q ++ more)) old = supplied_as ((mentions p ++ mentions q) ++ more) (mentions p ++ (mentions q ++ more)) old (append_assoc (mentions p) (mentions q) more) supplied in
         one_of_two (mentions p) (mentions q) why (make context.inherited p old) (λ i then. make context.inherited q then >>= λ j. cell_made (cell.joined sign.Group i j))
         (λ h. pattern_refused p (mentions q ++ more) why old apart h)
         (λ i mid h k. let one : IsMadeOf files number context p (mentions q ++ more) i old mid = pattern_is files number context p (mentions q ++ more) i old mid apart h in
-          pattern_refused q more why mid one.left (only_first (make context.inherited q mid) (λ j. cell_made (cell.joined sign.Group i j)) why (λ j then n. cell_never (cell.joined sign.Group i j) then why n) k)) is
+        pattern_refused q more why mid one.left (only_first (make context.inherited q mid) (λ j. cell_made (cell.joined sign.Group i j)) why (λ j then n. cell_never (cell.joined sign.Group i j) then why n) k)) is
     pattern_refused (written.interleave p q) more why old supplied is =
         let apart : Supplied (mentions p ++ (mentions q ++ more)) old = supplied_as ((mentions p ++ mentions q) ++ more) (mentions p ++ (mentions q ++ more)) old (append_assoc (mentions p) (mentions q) more) supplied in
         one_of_two (mentions p) (mentions q) why (make context.inherited p old) (λ i then. make context.inherited q then >>= λ j. cell_made (cell.joined sign.Interleave i j))
         (λ h. pattern_refused p (mentions q ++ more) why old apart h)
         (λ i mid h k. let one : IsMadeOf files number context p (mentions q ++ more) i old mid = pattern_is files number context p (mentions q ++ more) i old mid apart h in
-          pattern_refused q more why mid one.left (only_first (make context.inherited q mid) (λ j. cell_made (cell.joined sign.Interleave i j)) why (λ j then n. cell_never (cell.joined sign.Interleave i j) then why n) k)) is
+        pattern_refused q more why mid one.left (only_first (make context.inherited q mid) (λ j. cell_made (cell.joined sign.Interleave i j)) why (λ j then n. cell_never (cell.joined sign.Interleave i j) then why n) k)) is
 
     item_refused : (item : WrittenItem) (more : List Mention) (why : Cause) (old : Making) → Supplied (mentions_of_item item ++ more) old → make_item context.inherited item old ≡ refused why → Refused (mentions_of_item item) why
     item_refused (written.define name combine p) more why old supplied is = pattern_refused p more why old supplied (only_first (make context.inherited p old) (λ i. made (record { name = name; combine = combine; body = i } ∷ [])) why (λ i mid h. never_refused (record { name = name; combine = combine; body = i } ∷ []) mid why h) is)
@@ -285,21 +285,21 @@ module _ (files : FileMap) (uri : List ℕ) where
     no_grammar = none;
   }
   broken_in context surface why reached says (nothing_replaced {reference = reference} {replacements = replacements} {inner = inner} {surface = other} {items = items} {clauses = clauses} {name = name} among opens some gathers anew undefined) = inl (record {
-      context = context;
-      reference = reference;
-      replacements = replacements;
-      mentioned = record { reached = reached; surface = surface; says = says; mentioned = among };
-      inner = inner;
-      surface = other;
-      opens = opens;
-      items = items;
-      items_are = some;
-      clauses = clauses;
-      gathered = gathers;
-      name = name;
-      anew = anew;
-      undefined = undefined;
-    })
+    context = context;
+    reference = reference;
+    replacements = replacements;
+    mentioned = record { reached = reached; surface = surface; says = says; mentioned = among };
+    inner = inner;
+    surface = other;
+    opens = opens;
+    items = items;
+    items_are = some;
+    clauses = clauses;
+    gathered = gathers;
+    name = name;
+    anew = anew;
+    undefined = undefined;
+  })
 
   abbrev AllMentioned : List Waiting → Type 0
   AllMentioned waiting = AllByRecursion (λ (w : Waiting). Mentions files uri w.context w.mention) waiting

@@ -1,15 +1,18 @@
 -- Laws of composing what was loaded: what is made is the schema in one piece.
-use Rattle.std.specs.Prelude.{◌≡◌, ◌≢◌, ℕ, List, Option, Some, reverse}
+use Rattle.std.specs.Prelude.{◌≡◌, ◌≢◌, ℕ, List, Option, Some, Result, Ok, Err, map, reverse}
 use Rattle.nx_base.specs.declared.cause.Cause.{Cause}
 use Rattle.nx_host.specs.Files.{FileMap}
+use Rattle.rng_simplify.specs.declared.compose.Whole.{Whole}
+use Rattle.rng_simplify.specs.declared.fault.SchemaFault.{SchemaFault}
 use Rattle.rng_simplify.specs.declared.load.Loaded.{Loaded}
 use Rattle.rng_simplify.specs.Broken.{IsBroken}
-use Rattle.rng_simplify.specs.Cells.{Cell}
+use Rattle.rng_simplify.specs.Cells.{Cell, cell_of}
 use Rattle.rng_simplify.specs.Composed.{Composed}
 use Rattle.rng_simplify.specs.Composing.{ComposesSchema}
 use Rattle.rng_simplify.specs.Denoting.{Denotes}
 use Rattle.rng_simplify.specs.Loading.{AllLoaded}
 use Rattle.rng_simplify.specs.Making.{Making, made, refused, no_piece, whole_made}
+use Rattle.rng_simplify.specs.Simplified.{IfTold, Answers}
 use Rattle.rng_simplify.specs.Standing.{AreWellFormed}
 
 -- each file that is mentioned has its piece
@@ -36,3 +39,15 @@ MadeIsComposed = (files : FileMap) (uri : List ℕ) (loaded : List Loaded) → A
 -- files that are refused make no piece
 abbrev pub RefusedIsBroken : Type 0
 RefusedIsBroken = (files : FileMap) (uri : List ℕ) (loaded : List Loaded) → AllLoaded (Some files) uri (reverse loaded) → (why : Cause) → whole_made loaded ≡ refused why → IsBroken files uri why
+
+-- the nodes of a schema in one piece, as cells
+abbrev pub cells_of : Whole → List Cell
+cells_of whole = map cell_of whole.nodes.items
+
+-- What composing answers, where the files told this and the count of faults went from `before` to `after`.
+abbrev pub GivesWhole : Option FileMap → List ℕ → ℕ → ℕ → Result Whole SchemaFault → Type 0
+GivesWhole told uri before after (Ok whole) =
+    AreWellFormed (cells_of whole) whole.root
+    × IfTold told (λ files. (number : ℕ → ℕ) → IsOnePiece files uri number (cells_of whole) whole.root)
+    × (after ≡ before)
+GivesWhole told uri before after (Err fault) = Answers told uri before after (Err fault)

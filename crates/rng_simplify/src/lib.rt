@@ -27,3 +27,4 @@ mod stop;
 mod tests;
 mod text;
 pub mod types;
+mod whole;

@@ -2,15 +2,15 @@
 
 use crate::build::Builder;
 use crate::class::{check_attribute_class, check_element_class};
-use crate::compose::{Whole, compose};
+use crate::compose::Whole;
 use crate::fault::SchemaFault;
 use crate::form::{Forms, forms_of};
 use crate::limit::check_size;
-use crate::load::load;
 use crate::node::Node;
 use crate::order::order;
 use crate::resolve::{Resolved, Scope, resolve};
 use crate::types::{NodeType, type_of};
+use crate::whole::whole_schema;
 use nx_host::files::Files;
 use rng_core::grammar::Grammar;
 use std::alloc::Global;
@@ -18,8 +18,7 @@ use std::alloc::Global;
 /// The grammar that the file of the URI defines, with those that it leads to. They are fetched depth first, in the order of
 /// their references, an outer file before those that it refers to, and a file that is named twice is fetched twice.
 pub fn simplify<F: Files>(alloc: Global, uri: &str, files: &mut F) -> Result<Grammar, SchemaFault> {
-    let loaded = load(alloc, uri, files)?;
-    let whole = compose(alloc, loaded.as_slice())?;
+    let whole = whole_schema(alloc, uri, files)?;
     grammar_of(alloc, &whole)
 }
 

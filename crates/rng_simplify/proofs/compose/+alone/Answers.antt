@@ -29,6 +29,7 @@ pub grammar_alone-returns-in-Interleave : goal.grammar_alone-returns-in-Interlea
 grammar_alone-returns-in-Interleave t c =
     let seen : row_of sign.Interleave c.as_slice-in-Interleave.result.now ≡ pattern_of c.args.pattern.now = ap (row_of sign.Interleave) c.as_slice-in-Interleave.ensures.value ∙ sym (interleave_is c.in-Interleave.patterns) ∙ ap pattern_of (sym c.in-Interleave.is) in
     subst (λ p. MatchOption c.grammar_in_row-in-Interleave.result (grammar_items (a_pattern p) ≡ None) (λ items. grammar_items (a_pattern p) ≡ Some (items_in items.now))) seen (c.grammar_in_row-in-Interleave.ensures sign.Interleave)
+
 pub grammar_in_row-returns-in_default : goal.grammar_in_row-returns-in_default
 grammar_in_row-returns-in_default t c by = nothing_is_none by c.args.patterns.now c.in_default.ensures.cases
 

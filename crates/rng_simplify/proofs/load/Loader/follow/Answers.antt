@@ -10,7 +10,7 @@ returns-in_default g c uri under =
     let told = g.F.Files.told c.args.files.now in
     let loaded = c.loop-turn.self.loaded.items in (
       completed_all told uri loaded
-        (subst (λ links. IsUnderWay told uri links loaded) (none_reversed c.loop-turn.self.chain.items (omega (arith, c.in_default.ensures.cases.0, c.loop-turn.self.chain.ok.0))) (c.loop-turn.invariant.under_way uri under)),
+          (subst (λ links. IsUnderWay told uri links loaded) (none_reversed c.loop-turn.self.chain.items (omega (arith, c.in_default.ensures.cases.0, c.loop-turn.self.chain.ok.0))) (c.loop-turn.invariant.under_way uri under)),
       c.loop-turn.invariant.faults,
     )
 

@@ -11,8 +11,8 @@ returns-then-eq c =
       c.in_ok-uri.uri,
       c.in_ok-uri.ensures.0,
       elim c.then-eq.branch [
-        then-eq-via-then-eq w ↦ leads_to_itself c.in_ok-uri.uri c.args.base.now links (compared ∙ w.if-eq.true)
-      | then-eq-via-else-eq+then-leads_from w ↦ leads_back c.in_ok-uri.uri c.args.base.now links (sym w.leads_from.ensures ∙ w.if-leads_from.true)
+        | then-eq-via-then-eq w ↦ leads_to_itself c.in_ok-uri.uri c.args.base.now links (compared ∙ w.if-eq.true)
+        | then-eq-via-else-eq+then-leads_from w ↦ leads_back c.in_ok-uri.uri c.args.base.now links (sym w.leads_from.ensures ∙ w.if-leads_from.true)
       ],
     )
 
