@@ -16,4 +16,5 @@ pub mod Walking
 pub mod Denoted
 pub mod OnePiece
 pub mod Refusing
+pub mod Written
 pub mod Wholes

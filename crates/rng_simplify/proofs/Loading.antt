@@ -2,6 +2,7 @@
 use Rattle.std.proofs.Common.{◌≡◌, refl, sym, ap, ◌∙◌, subst, ℕ, zero, suc, ◌<◌, List, [], ◌∷◌, ◌++◌, length, Option, Some, None, Result, Ok, Err, Bool, true, false, Vec, Global, arith, ◌⊎◌, inl, inr}
 use Rattle.std.specs.Prelude.{Contains, IsUtf8, reverse, map}
 use Rattle.std.proofs.lemmas.List.{append_assoc, append-nil, reverse-append, reverse-reverse}
+use Rattle.std.proofs.lemmas.Str.{IsUtf8-nil}
 use Rattle.nx_base.specs.declared.cause.Cause.{Cause}
 use Rattle.nx_base.specs.declared.cause.Cause.TheVariants as cause
 use Rattle.nx_host.specs.Files.{FileMap}
@@ -76,8 +77,8 @@ module _ (told : Option FileMap) (uri : List ℕ) where
   mentioned_in context surface reached says mention among = told_both told (λ files. Reached files uri context) (λ files. Says files context.uri surface) (λ files. Mentions files uri context mention) (λ files r s. record { reached = r; surface = surface; says = s; mentioned = among }) reached says
 
   -- loading begins
-  pub begun : (surface : Surface) (links : List Link) (loaded : List Loaded) → IfTold told (λ files. Says files uri (surface_of surface)) → IsAdded uri [] surface [] links [] loaded → IsUnderWay told uri (reverse links) loaded
-  begun surface links loaded says added =
+  pub begun : (surface : Surface) (links : List Link) (loaded : List Loaded) → HasUtf8Texts (surface_of surface) → IfTold told (λ files. Says files uri (surface_of surface)) → IsAdded uri [] surface [] links [] loaded → IsUnderWay told uri (reverse links) loaded
+  begun surface links loaded texts says added =
       let first : Link = record { uri = uri; waiting = added.waiting } in
       let file : Loaded = record { inherited = []; surface = surface } in
       let all : List Waiting = waiting_in (top uri) (mentions_of (surface_of surface)) in
@@ -90,7 +91,7 @@ module _ (told : Option FileMap) (uri : List ℕ) where
       record {
         waiting = all;
         chain = subst (λ ls. IsChain told uri ls all) (sym added.links_are) (further_link (top uri) (mentions_of (surface_of surface)) is_link no_link (sym (append-nil all)));
-        completed = λ rest read. subst (λ fs. AllLoaded told uri (fs ++ rest)) (sym added.loaded_are) (record { inherits = refl; says = says; others_read = read });
+        completed = λ rest read. subst (λ fs. AllLoaded told uri (fs ++ rest)) (sym added.loaded_are) (record { texts = (IsUtf8-nil, texts); inherits = refl; says = says; others_read = read });
       }
 
   -- all files are loaded
@@ -203,8 +204,8 @@ module _ (told : Option FileMap) (uri : List ℕ) where
     not_opened other before after fault joins no_loop h = refused_at told uri (referred next.context (reference_of next.mention) other) before after fault (inner_reached other joins no_loop) h
 
     -- it is opened, and loading goes on
-    pub opened : (other : List ℕ) (surface : Surface) (links new_links : List Link) (new_loaded : List Loaded) → Joins link.uri kept.text other → (Contains (link.uri ∷ uris_of outer) other → ⊥) → IfTold told (λ files. Says files other (surface_of surface)) → reverse links ≡ link ∷ outer → IsAdded other kept.inherited surface links new_links loaded new_loaded → IsUnderWay told uri (reverse new_links) new_loaded
-    opened other surface links new_links new_loaded joins no_loop says links_are added =
+    pub opened : (other : List ℕ) (surface : Surface) (links new_links : List Link) (new_loaded : List Loaded) → IsUtf8 kept.inherited → HasUtf8Texts (surface_of surface) → Joins link.uri kept.text other → (Contains (link.uri ∷ uris_of outer) other → ⊥) → IfTold told (λ files. Says files other (surface_of surface)) → reverse links ≡ link ∷ outer → IsAdded other kept.inherited surface links new_links loaded new_loaded → IsUnderWay told uri (reverse new_links) new_loaded
+    opened other surface links new_links new_loaded is_text texts joins no_loop says links_are added =
         let inner : Context = referred next.context (reference_of next.mention) other in
         let inherited : kept.inherited ≡ inner.inherited = ap (λ (k : Kept). k.inherited) (sym next.kept_is) in
         let first : Link = record { uri = other; waiting = added.waiting } in
@@ -221,6 +222,7 @@ module _ (told : Option FileMap) (uri : List ℕ) where
         } in
         let chain : IsChain told uri (first ∷ link ∷ outer) (waiting_in inner all ++ rests) = further_link inner all is_first (further_link next.context next.more is_link next.chain refl) refl in
         let is_read : IsRead told (record { context = next.context; mention = next.mention }) inner file = record {
+          texts = (is_text, texts);
           inherits = inherited;
           opens = told_with told (λ files. Says files other (surface_of surface)) (λ files. Opens files next.context (reference_of next.mention) inner (surface_of surface)) (λ files s. record {
             uri = other;

@@ -86,7 +86,7 @@ held_else old new xs ys same less owns = record {
 }
 
 -- a cell is the last one or one before it
-old_or_last : (cells : List Cell) (c : Cell) (k : ℕ) (d : Cell) → IsCell (cells ++ c ∷ []) k d → IsCell cells k d ⊎ ((k ≡ length cells) × (c ≡ d))
+pub old_or_last : (cells : List Cell) (c : Cell) (k : ℕ) (d : Cell) → IsCell (cells ++ c ∷ []) k d → IsCell cells k d ⊎ ((k ≡ length cells) × (c ≡ d))
 old_or_last [] c zero d at = inr (refl, let e : c ≡ d = cc in e)
 old_or_last [] c (suc k) d at = let never : ⊥ = cc in absurd never
 old_or_last (x ∷ cells) c zero d at = inl at

@@ -13,7 +13,7 @@ use Rattle.rng_simplify.specs.declared.load.Loaded.{Loaded}
 use Rattle.rng_simplify.specs.declared.mention.Mention.{Mention as Kept}
 use Rattle.rng_simplify.specs.Following.{uris_of, IsUnderWay, IsTextLink, AreTextLinks, IsAdded, OpensFile, NextUri, GoesOn, Follows}
 use Rattle.rng_simplify.specs.Loading.{ReadsFile, AllLoaded, Loads}
-use Rattle.rng_simplify.specs.Mentioning.{AreTexts}
+use Rattle.rng_simplify.specs.Mentioning.{AreTextMentions}
 use Rattle.rng_simplify.specs.Simplified.{IfTold, Answers}
 use Rattle.rng_simplify.proofs.Loading.{IsNextMention, next_mention, not_next, not_opened, opened, begun, first_refused, completed_all}
 use Rattle.rng_simplify.proofs.Texts.{surface_texts}
@@ -28,22 +28,22 @@ module _ (told : Option FileMap) (uri : List ℕ) (old link : Link) (kept : Kept
   leads_nowhere count fault same taken under h = not_next told uri old link kept outer loaded (next_mention told uri old link kept outer loaded same taken under) count fault h
 
   -- it leads to a file, which is read or refused
-  pub leads_to : {A : Type 0} → (other : List ℕ) (before after : ℕ) (links new_links : List Link) (new_loaded : List Loaded) (result : Result A SchemaFault) → old.uri ≡ link.uri → reverse old.waiting.items ≡ kept ∷ reverse link.waiting.items → IsUnderWay told uri (old ∷ outer) loaded → NextUri (uris_of outer) link.uri kept.text (Ok other) → reverse links ≡ link ∷ outer → OpensFile told other kept.inherited before after links new_links loaded new_loaded result → GoesOn told uri before after (reverse new_links) new_loaded result
-  leads_to other before after links new_links new_loaded (Ok done) same taken under next links_are opens =
-      opened told uri old link kept outer loaded (next_mention told uri old link kept outer loaded same taken under) other opens.0 links new_links new_loaded next.0 next.2 opens.1 links_are opens.3
-  leads_to other before after links new_links new_loaded (Err fault) same taken under next links_are opens =
+  pub leads_to : {A : Type 0} → (other : List ℕ) (before after : ℕ) (links new_links : List Link) (new_loaded : List Loaded) (result : Result A SchemaFault) → IsUtf8 kept.inherited → old.uri ≡ link.uri → reverse old.waiting.items ≡ kept ∷ reverse link.waiting.items → IsUnderWay told uri (old ∷ outer) loaded → NextUri (uris_of outer) link.uri kept.text (Ok other) → reverse links ≡ link ∷ outer → OpensFile told other kept.inherited before after links new_links loaded new_loaded result → GoesOn told uri before after (reverse new_links) new_loaded result
+  leads_to other before after links new_links new_loaded (Ok done) is_text same taken under next links_are opens =
+      opened told uri old link kept outer loaded (next_mention told uri old link kept outer loaded same taken under) other opens.0 links new_links new_loaded is_text opens.2 next.0 next.2 opens.1 links_are opens.3
+  leads_to other before after links new_links new_loaded (Err fault) is_text same taken under next links_are opens =
       not_opened told uri old link kept outer loaded (next_mention told uri old link kept outer loaded same taken under) other before after fault next.0 next.2 opens
 
 -- the texts of a file that was read are UTF-8, and so are those of the chain
-pub opened_texts : {A : Type 0} → (told : Option FileMap) (other inherited : List ℕ) (before after : ℕ) (links new_links : List Link) (loaded new_loaded : List Loaded) (result : Result A SchemaFault) → IsUtf8 other → AreTextLinks (reverse links) → OpensFile told other inherited before after links new_links loaded new_loaded result → IfOk result (λ _. AreTextLinks (reverse new_links))
-opened_texts told other inherited before after links new_links loaded new_loaded (Ok done) is_text texts opens =
+pub opened_texts : {A : Type 0} → (told : Option FileMap) (other inherited : List ℕ) (before after : ℕ) (links new_links : List Link) (loaded new_loaded : List Loaded) (result : Result A SchemaFault) → IsUtf8 inherited → IsUtf8 other → AreTextLinks (reverse links) → OpensFile told other inherited before after links new_links loaded new_loaded result → IfOk result (λ _. AreTextLinks (reverse new_links))
+opened_texts told other inherited before after links new_links loaded new_loaded (Ok done) namespace_is_text is_text texts opens =
     let added : IsAdded other inherited opens.0 links new_links loaded new_loaded = opens.3 in
-    subst (λ ls. AreTextLinks ls) (sym added.links_are) ((is_text, subst (λ ms. AreTexts ms) (sym added.waiting_are) (surface_texts inherited (surface_of opens.0) opens.2)), texts)
-opened_texts told other inherited before after links new_links loaded new_loaded (Err fault) is_text texts opens = tt
+    subst (λ ls. AreTextLinks ls) (sym added.links_are) ((is_text, subst (λ ms. AreTextMentions ms) (sym added.waiting_are) (surface_texts inherited namespace_is_text (surface_of opens.0) opens.2)), texts)
+opened_texts told other inherited before after links new_links loaded new_loaded (Err fault) namespace_is_text is_text texts opens = tt
 
 -- the file with which loading begins is refused, or loading goes on
 pub begins : {A : Type 0} → (told : Option FileMap) (uri : List ℕ) (before after : ℕ) (links : List Link) (loaded : List Loaded) (result : Result A SchemaFault) → OpensFile told uri [] before after [] links [] loaded result → GoesOn told uri before after (reverse links) loaded result
-begins told uri before after links loaded (Ok done) opens = begun told uri opens.0 links loaded opens.1 opens.3
+begins told uri before after links loaded (Ok done) opens = begun told uri opens.0 links loaded opens.2 opens.1 opens.3
 begins told uri before after links loaded (Err fault) opens = first_refused told uri before after fault opens
 
 pub begins_from : {A : Type 0} → (told : Option FileMap) (uri first inherited : List ℕ) (before after : ℕ) (none links : List Link) (nothing loaded : List Loaded) (result : Result A SchemaFault) → first ≡ uri → inherited ≡ [] → none ≡ [] → nothing ≡ [] → OpensFile told first inherited before after none links nothing loaded result → GoesOn told uri before after (reverse links) loaded result

@@ -16,6 +16,7 @@ use Rattle.rng_simplify.specs.Simplified.{IfTold, Answers}
 use Rattle.rng_simplify.proofs.OnePiece.{made_is_composed}
 use Rattle.rng_simplify.proofs.Refusing.{refused_is_broken}
 use Rattle.rng_simplify.proofs.Walking.{made_is_well_formed}
+use Rattle.rng_simplify.proofs.Written.{made_is_text}
 
 module _ (uri : List ℕ) (loaded : List Loaded) where
   broken_if : (told : Option FileMap) → AllLoaded told uri (reverse loaded) → (why : Cause) → whole_made loaded ≡ refused why → IfTold told (λ files. IsBroken files uri why)
@@ -28,7 +29,7 @@ module _ (uri : List ℕ) (loaded : List Loaded) where
 
   -- what composing answers
   pub gives_whole : (told : Option FileMap) (count : ℕ) (result : Result Whole SchemaFault) → AllLoaded told uri (reverse loaded) → MakesWhole loaded result → GivesWhole told uri count count result
-  gives_whole told count (Ok whole) all makes = (made_is_well_formed told uri loaded all whole.root _ makes.1, composed_if told all whole makes, refl)
+  gives_whole told count (Ok whole) all makes = (made_is_well_formed told uri loaded all whole.root _ makes.1, made_is_text told uri loaded all whole.root _ makes.1, composed_if told all whole makes, refl)
   gives_whole told count (Err (Unreadable why)) all makes = (broken_if told all why makes, refl)
   gives_whole told count (Err NoMemory) all makes = refl
   gives_whole told count (Err fault) all makes = absurd makes

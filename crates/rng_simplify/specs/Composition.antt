@@ -7,6 +7,7 @@ use Rattle.rng_simplify.specs.declared.fault.SchemaFault.{SchemaFault}
 use Rattle.rng_simplify.specs.declared.load.Loaded.{Loaded}
 use Rattle.rng_simplify.specs.Broken.{IsBroken}
 use Rattle.rng_simplify.specs.Cells.{Cell, cell_of}
+use Rattle.rng_simplify.specs.CellTexts.{AreTexts}
 use Rattle.rng_simplify.specs.Composed.{Composed}
 use Rattle.rng_simplify.specs.Composing.{ComposesSchema}
 use Rattle.rng_simplify.specs.Denoting.{Denotes}
@@ -23,7 +24,11 @@ NoPieceIsMissing = (told : Option FileMap) (uri : List ℕ) (loaded : List Loade
 abbrev pub MadeIsWellFormed : Type 0
 MadeIsWellFormed = (told : Option FileMap) (uri : List ℕ) (loaded : List Loaded) → AllLoaded told uri (reverse loaded) → (root : ℕ) (left : Making) → whole_made loaded ≡ made root left → AreWellFormed left.cells root
 
--- and such nodes stand for something
+-- what is written in them is UTF-8
+abbrev pub MadeIsText : Type 0
+MadeIsText = (told : Option FileMap) (uri : List ℕ) (loaded : List Loaded) → AllLoaded told uri (reverse loaded) → (root : ℕ) (left : Making) → whole_made loaded ≡ made root left → AreTexts left.cells
+
+-- and well-formed nodes stand for something
 abbrev pub WellFormedDenotes : Type 0
 WellFormedDenotes = (cells : List Cell) (root : ℕ) → AreWellFormed cells root → (number : ℕ → ℕ) → (whole : Composed) × Denotes cells number root whole
 
@@ -48,6 +53,7 @@ cells_of whole = map cell_of whole.nodes.items
 abbrev pub GivesWhole : Option FileMap → List ℕ → ℕ → ℕ → Result Whole SchemaFault → Type 0
 GivesWhole told uri before after (Ok whole) =
     AreWellFormed (cells_of whole) whole.root
+    × AreTexts (cells_of whole)
     × IfTold told (λ files. (number : ℕ → ℕ) → IsOnePiece files uri number (cells_of whole) whole.root)
     × (after ≡ before)
 GivesWhole told uri before after (Err fault) = Answers told uri before after (Err fault)

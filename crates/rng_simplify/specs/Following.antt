@@ -16,7 +16,7 @@ use Rattle.rng_simplify.specs.declared.load.Loaded.{Loaded}
 use Rattle.rng_simplify.specs.declared.mention.Mention.{Mention as Kept}
 use Rattle.rng_simplify.specs.Composing.{Context, Says}
 use Rattle.rng_simplify.specs.Loading.{Waiting, waiting_in, AreRead, AllLoaded, ReadsFile}
-use Rattle.rng_simplify.specs.Mentioning.{kept_of_all, AreTexts}
+use Rattle.rng_simplify.specs.Mentioning.{kept_of_all, AreTextMentions}
 use Rattle.rng_simplify.specs.References.{Mention, Mentions, mentions_of}
 use Rattle.rng_simplify.specs.Simplified.{IfTold, Answers}
 
@@ -44,7 +44,7 @@ pub record IsUnderWay (told : Option FileMap) (uri : List ℕ) (links : List Lin
 
 -- the URIs and texts of a link are UTF-8
 abbrev pub IsTextLink : Link → Type 0
-IsTextLink link = IsUtf8 link.uri × AreTexts (reverse link.waiting.items)
+IsTextLink link = IsUtf8 link.uri × AreTextMentions (reverse link.waiting.items)
 
 abbrev pub AreTextLinks : List Link → Type 0
 AreTextLinks links = AllByRecursion IsTextLink links

@@ -20,4 +20,5 @@ pub mod Mentioning
 pub mod Loading
 pub mod Following
 pub mod Standing
+pub mod CellTexts
 pub mod Composition

@@ -27,8 +27,13 @@ pub record Waiting : Type 0 where
 abbrev pub waiting_in : Context → List Mention → List Waiting
 waiting_in context all = map (λ (mention : Mention). record { context = context; mention = mention }) all
 
+-- what the file says, and the namespace that it inherits, are UTF-8
+abbrev pub IsTextFile : Loaded → Type 0
+IsTextFile file = IsUtf8 file.inherited × HasUtf8Texts (surface_of file.surface)
+
 -- the file is the one to which the mention leads, as far as files tell; it stands there
 pub record IsRead (told : Option FileMap) (waiting : Waiting) (inner : Context) (file : Loaded) : Type 0 where
+  pub texts : IsTextFile file
   pub inherits : file.inherited ≡ inner.inherited
   pub opens : IfTold told (λ files. Opens files waiting.context (reference_of waiting.mention) inner (surface_of file.surface))
 
@@ -39,6 +44,7 @@ pub data AreRead (told : Option FileMap) : List Waiting → List Loaded → Type
 
 -- the file of this URI, and all that it leads to
 pub record AreLoaded (told : Option FileMap) (uri : List ℕ) (first : Loaded) (others : List Loaded) : Type 0 where
+  pub texts : IsTextFile first
   pub inherits : first.inherited ≡ []
   pub says : IfTold told (λ files. Says files uri (surface_of first.surface))
   pub others_read : AreRead told (waiting_in (top uri) (mentions_of (surface_of first.surface))) others

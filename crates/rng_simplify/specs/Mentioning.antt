@@ -18,6 +18,9 @@ kept_of_all ns all = map (kept_of ns) all
 abbrev pub mentions_of_each : List Pattern → List Mention
 mentions_of_each patterns = flat_map (λ (p : Pattern). mentions (pattern_of p)) patterns
 
--- the texts are UTF-8
-abbrev pub AreTexts : List Kept → Type 0
-AreTexts all = AllByRecursion (λ (mention : Kept). IsUtf8 mention.text) all
+-- the text and the namespace are UTF-8
+abbrev pub IsTextMention : Kept → Type 0
+IsTextMention mention = IsUtf8 mention.text × IsUtf8 mention.inherited
+
+abbrev pub AreTextMentions : List Kept → Type 0
+AreTextMentions all = AllByRecursion IsTextMention all

@@ -1,6 +1,6 @@
 //! Laws of composing. Nothing here runs.
 
-ghost use Rattle.rng_simplify.specs.Composition.{NoPieceIsMissing, MadeIsWellFormed, WellFormedDenotes, MadeIsComposed, RefusedIsBroken};
+ghost use Rattle.rng_simplify.specs.Composition.{NoPieceIsMissing, MadeIsWellFormed, MadeIsText, WellFormedDenotes, MadeIsComposed, RefusedIsBroken};
 ghost use Rattle.rng_simplify.specs.Supplying.{PatternsAreComposed};
 
 /// What is made of a pattern, with pieces for the files that it mentions, is that pattern in one piece.
@@ -16,6 +16,11 @@ pub fn no_piece_is_missing()
 /// No node that is made of files stands in two.
 pub fn made_is_well_formed()
     ensures { MadeIsWellFormed }
+{}
+
+/// What is written in nodes that are made of files is UTF-8.
+pub fn made_is_text()
+    ensures { MadeIsText }
 {}
 
 /// Nodes of which none stands in two, and each behind those that stand in it, stand for something.

@@ -6,6 +6,7 @@ ghost use Rattle.std.specs.Str.{bytes_eq};
 ghost use Rattle.rnc_parse.specs.Reads.{ReadAnswers};
 ghost use Rattle.rng_simplify.specs.declared.load.Link.{Link as TheLink};
 ghost use Rattle.rng_simplify.specs.Loading.{Loads, Unreads, SaysBytes, IsAbsence, Fetches, ReadsFile};
+ghost use Rattle.rng_simplify.specs.Mentioning.{IsTextMention};
 ghost use Rattle.rng_simplify.specs.Following.{IsAdded, IsUnderWay, uris_of, JoinsUri, IsBadText, NextUri, OpensFile, GoesOn, Follows, IsTextLink, AreTextLinks};
 
 use crate::fault::SchemaFault;
@@ -234,7 +235,7 @@ impl Loader {
         files: &mut F,
     ) -> Result<(), SchemaFault>
         requires link { IsTextLink link }
-        requires mention { IsUtf8 mention.text }
+        requires mention { IsTextMention mention }
         requires chain { AreTextLinks (reverse self.old.chain.items) }
         ensures texts { IfOk result (λ _. AreTextLinks (reverse self.new.chain.items)) }
         ensures goes_on { (uri : List ℕ) (before : TheLink) → before.uri ≡ link.uri → reverse before.waiting.items ≡ mention ∷ reverse link.waiting.items

@@ -1,6 +1,7 @@
 use Rattle.std.proofs.Common.{◌≡◌, ◌∙◌, ap, subst, sym, List, ℕ, [], reverse, Ok, Err, IsUtf8}
 use Rattle.std.proofs.lemmas.List.{reverse-reverse}
 use Rattle.std.proofs.lemmas.Result.{err_from_is_err_and}
+use Rattle.std.proofs.lemmas.Str.{IsUtf8-nil}
 use Rattle.rng_simplify.specs.Following.{IsUnderWay, AreTextLinks}
 use Rattle.rng_simplify.specs.Loading.{AllLoaded}
 use Rattle.rng_simplify.proofs.Turns.{begins_from, opened_texts, answers_alike}
@@ -16,7 +17,7 @@ returns-in_err-open g c =
 pub follow-requires : goal.follow-requires
 follow-requires g c =
     let f = g.F.Files in
-    opened_texts (f.told c.args.files.now) c.from_vec-first.result c.new-3.result (f.faults c.args.files.now) (f.faults c.open.new.files) c.new.result.items c.open.new.self.chain.items c.new-2.result.items c.open.new.self.loaded.items (Ok c.in_ok-open.field-0)
+    opened_texts (f.told c.args.files.now) c.from_vec-first.result c.new-3.result (f.faults c.args.files.now) (f.faults c.open.new.files) c.new.result.items c.open.new.self.chain.items c.new-2.result.items c.open.new.self.loaded.items (Ok c.in_ok-open.field-0) (subst (λ ns. IsUtf8 ns) (sym c.new-3.ensures) IsUtf8-nil)
     (subst (λ u. IsUtf8 u) (sym (c.from_vec-first.ensures ∙ c.in_ok-from_slice.ensures.items)) c.as_bytes.ensures.utf8) (subst (λ links. AreTextLinks (reverse links)) (sym c.new.ensures.items) tt) c.in_ok-open.ensures.opened
 
 pub returns-in_err-follow : goal.returns-in_err-follow

@@ -11,10 +11,10 @@ returns-in_err-uri-clause-goes_on g c uri before same taken under =
 
 pub returns-clause-texts : goal.returns-clause-texts
 returns-clause-texts g c =
-    opened_texts (g.F.Files.told c.args.files.now) c.in_ok-uri.uri c.args.mention.inherited (g.F.Files.faults c.args.files.now) (g.F.Files.faults c.open.new.files) c.push.new.self.items c.open.new.self.chain.items c.args.self.now.loaded.items c.open.new.self.loaded.items c.open.result c.in_ok-uri.ensures.1
+    opened_texts (g.F.Files.told c.args.files.now) c.in_ok-uri.uri c.args.mention.inherited (g.F.Files.faults c.args.files.now) (g.F.Files.faults c.open.new.files) c.push.new.self.items c.open.new.self.chain.items c.args.self.now.loaded.items c.open.new.self.loaded.items c.open.result c.requires.mention.1 c.in_ok-uri.ensures.1
     (subst (λ links. AreTextLinks links) (sym (last_first c.args.self.now.chain.items c.push.new.self.items c.args.link c.in_ok-push.ensures.items)) (c.requires.link, c.requires.chain)) c.open.ensures.opened
 
 pub returns-clause-goes_on : goal.returns-clause-goes_on
 returns-clause-goes_on g c uri before same taken under =
-    leads_to (g.F.Files.told c.args.files.now) uri before c.args.link c.args.mention (reverse c.args.self.now.chain.items) c.args.self.now.loaded.items c.in_ok-uri.uri (g.F.Files.faults c.args.files.now) (g.F.Files.faults c.open.new.files) c.push.new.self.items c.open.new.self.chain.items c.open.new.self.loaded.items c.open.result same taken under c.in_ok-uri.ensures
+    leads_to (g.F.Files.told c.args.files.now) uri before c.args.link c.args.mention (reverse c.args.self.now.chain.items) c.args.self.now.loaded.items c.in_ok-uri.uri (g.F.Files.faults c.args.files.now) (g.F.Files.faults c.open.new.files) c.push.new.self.items c.open.new.self.chain.items c.open.new.self.loaded.items c.open.result c.requires.mention.1 same taken under c.in_ok-uri.ensures
     (last_first c.args.self.now.chain.items c.push.new.self.items c.args.link c.in_ok-push.ensures.items) c.open.ensures.opened
