@@ -8,6 +8,7 @@ pub mod Made
 pub mod Joining
 pub mod Texts
 pub mod Loading
+pub mod Unread
 pub mod Chains
 pub mod Turns
 pub mod Owning

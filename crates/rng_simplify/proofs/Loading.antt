@@ -1,6 +1,6 @@
 -- Files that are loaded in turns.
-use Rattle.std.proofs.Common.{◌≡◌, refl, sym, ap, ◌∙◌, subst, ℕ, zero, suc, ◌<◌, List, [], ◌∷◌, ◌++◌, length, Option, Some, None, Result, Ok, Err, Bool, true, false, Vec, Global, arith, ◌⊎◌, inl, inr}
-use Rattle.std.specs.Prelude.{Contains, IsUtf8, reverse, map}
+use Rattle.std.proofs.Common.{◌≡◌, refl, sym, ap, ◌∙◌, subst, ℕ, suc, List, [], ◌∷◌, ◌++◌, Option, Some, None, Result, Ok, Err, Vec, Global, arith}
+use Rattle.std.specs.Prelude.{Contains, IsUtf8, reverse}
 use Rattle.std.proofs.lemmas.List.{append_assoc, append-nil, reverse-append, reverse-reverse}
 use Rattle.std.proofs.lemmas.Str.{IsUtf8-nil}
 use Rattle.nx_base.specs.declared.cause.Cause.{Cause}
@@ -18,8 +18,8 @@ use Rattle.rng_simplify.specs.declared.load.Loaded.{Loaded}
 use Rattle.rng_simplify.specs.declared.mention.Mention.{Mention as Kept}
 use Rattle.rng_simplify.specs.Broken.{IsAbsent, IsNoText, HasBadUri, IsRefused, HasIncludeLoop}
 use Rattle.rng_simplify.specs.Composing.{Context, top, referred, Says, Opens}
-use Rattle.rng_simplify.specs.Following.{uris_of, IsLink, IsChain, no_link, further_link, IsUnderWay, IsTextLink, AreTextLinks, IsAdded, OpensFile, NextUri}
-use Rattle.rng_simplify.specs.Loading.{Waiting, waiting_in, IsRead, AreRead, all_read, one_read, AreLoaded, AllLoaded, IsNoTextAt, IsOfReading, IsRefusedText, Unreads, SaysBytes, Fetches, ReadsFile}
+use Rattle.rng_simplify.specs.Following.{uris_of, IsLink, IsChain, no_link, further_link, IsUnderWay, IsAdded, NextUri}
+use Rattle.rng_simplify.specs.Loading.{Waiting, waiting_in, IsRead, AreRead, all_read, one_read, AllLoaded, IsNoTextAt, IsOfReading, IsRefusedText, Unreads, SaysBytes, Fetches, ReadsFile}
 use Rattle.rng_simplify.specs.Mentioning.{kept_of, kept_of_all}
 use Rattle.rng_simplify.specs.References.{Mention, Mentions, Reached, the_first, a_further, reference_of, mentions_of}
 use Rattle.rng_simplify.specs.Simplified.{IfTold, Answers}

@@ -1,15 +1,12 @@
 -- What composing makes of a file is the schema in one piece.
-use Rattle.std.proofs.Common.{◌≡◌, refl, sym, ap, ◌∙◌, subst, ℕ, Bool, true, false, List, [], ◌∷◌, ◌++◌, length, slice_get, Option, Some, None}
+use Rattle.std.proofs.Common.{◌≡◌, refl, sym, ap, subst, ℕ, Bool, true, false, List, [], ◌∷◌, ◌++◌, length, Some}
 use Rattle.std.proofs.lemmas.List.{append_assoc}
-use Rattle.std.specs.Prelude.{not}
-use Rattle.nx_base.specs.declared.cause.Cause.{Cause}
 use Rattle.nx_host.specs.Files.{FileMap}
 use Rattle.rnc_parse.specs.declared.surface.TypeName.{TypeName}
 use Rattle.rnc_parse.specs.declared.surface.Param.{Param}
 use Rattle.rnc_parse.specs.declared.surface.FileReference.{FileReference}
 use Rattle.rnc_parse.specs.Written.{WrittenPattern, WrittenItem, WrittenItems, WrittenReplacement, WrittenReplacements, WrittenSurface}
 use Rattle.rnc_parse.specs.Written as written
-use Rattle.rng_core.specs.Names.{Class}
 use Rattle.rng_simplify.specs.declared.node.Clause.{Clause}
 use Rattle.rng_simplify.specs.declared.node.Sign.{Sign}
 use Rattle.rng_simplify.specs.declared.node.Sign.TheVariants as sign
@@ -20,8 +17,8 @@ use Rattle.rng_simplify.specs.Composed.{Composed, Clauses, end_of_clauses, claus
 use Rattle.rng_simplify.specs.Composed as composed
 use Rattle.rng_simplify.specs.Composing.{Context, Opens, grammar_items, Composes, ComposesFile, Gathers, by_element, by_attribute, by_list, by_ref, by_parent_ref, by_empty, by_text, by_not_allowed, by_value, by_type, by_type_but, by_external, by_grammar, by_optional, by_zero_or_more, by_one_or_more, by_mixed, by_choice, by_group, by_interleave, of_pattern as file_of_pattern, of_grammar as file_of_grammar, GathersAnew, no_item, definition, division, inclusion, none_anew, definition_anew, division_anew}
 use Rattle.rng_simplify.specs.Denoting.{IsCell, Denotes, DenoteAll, is_element, is_attribute, is_list, is_ref, is_parent_ref, is_empty, is_text, is_not_allowed, is_value, is_type, is_grammar, is_one_or_more, is_joined, composed_by, none_denoted, next_denoted}
-use Rattle.rng_simplify.specs.Making.{Making, Outcome, made, refused, no_piece, ◌>>=◌, FilePiece, of_pattern, of_grammar, cell_made, or_empty_made, next_piece, as_pattern, as_grammar, next_pattern, next_grammar, make, make_item, make_items, make_replacement, make_anew, replaced_if, defines_all, with_new, is_defined}
-use Rattle.rng_simplify.specs.References.{Mention, an_external, an_include, reference_of, mentions, mentions_of_items, mentions_anew}
+use Rattle.rng_simplify.specs.Making.{Making, Outcome, made, refused, no_piece, ◌>>=◌, FilePiece, of_pattern, of_grammar, cell_made, or_empty_made, next_piece, as_pattern, as_grammar, next_grammar, make, make_item, make_items, make_replacement, make_anew, replaced_if, defines_all, with_new}
+use Rattle.rng_simplify.specs.References.{Mention, an_external, an_include, mentions, mentions_of_items, mentions_anew}
 use Rattle.rnc_parse.specs.declared.surface.Defined.{Defined}
 use Rattle.rnc_parse.specs.declared.surface.Combine.{Combine}
 use Rattle.rng_simplify.proofs.Replacing.{both_denoted, each_defined, replaced_alike, then_again_clauses}

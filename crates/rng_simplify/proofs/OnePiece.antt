@@ -1,6 +1,6 @@
 -- What composing makes of the files that were loaded is the schema in one piece.
-use Rattle.std.proofs.Common.{◌≡◌, refl, sym, ap, ◌∙◌, subst, ℕ, zero, suc, ◌<◌, ◌≤◌, List, [], ◌∷◌, ◌++◌, length, drop, Option, Some, None, arith}
-use Rattle.std.specs.Prelude.{Contains, reverse}
+use Rattle.std.proofs.Common.{◌≡◌, refl, sym, ap, ◌∙◌, subst, ℕ, ◌≤◌, List, [], ◌∷◌, ◌++◌, length, drop, Some, None, arith}
+use Rattle.std.specs.Prelude.{reverse}
 use Rattle.std.proofs.lemmas.List.{append-nil, reverse-reverse}
 use Rattle.nx_host.specs.Files.{FileMap}
 use Rattle.rnc_parse.specs.Views.{surface_of}
@@ -12,16 +12,16 @@ use Rattle.rng_simplify.specs.Cells.{Cell}
 use Rattle.rng_simplify.specs.Cells as cell
 use Rattle.rng_simplify.specs.Composed.{Composed, Clauses}
 use Rattle.rng_simplify.specs.Composed as composed
-use Rattle.rng_simplify.specs.Composing.{Context, top, Opens, grammar_items, Composes, ComposesFile, Gathers, by_grammar, of_pattern as file_of_pattern, of_grammar as file_of_grammar}
+use Rattle.rng_simplify.specs.Composing.{Context, top, Opens, grammar_items, ComposesFile, Gathers, of_pattern as file_of_pattern}
 use Rattle.rng_simplify.specs.Composition.{IsOnePiece, MadeIsComposed}
-use Rattle.rng_simplify.specs.Denoting.{IsCell, Denotes, DenoteAll, is_grammar}
-use Rattle.rng_simplify.specs.Loading.{Waiting, waiting_in, IsRead, AreRead, all_read, one_read, AreLoaded, AllLoaded}
-use Rattle.rng_simplify.specs.Making.{Making, Outcome, made, refused, no_piece, ◌>>=◌, FilePiece, of_pattern, of_grammar, cell_made, next_piece, as_pattern, next_pattern, make, make_items, make_file, lone_made, file_made, files_made, nothing_made, whole_made}
+use Rattle.rng_simplify.specs.Denoting.{Denotes, DenoteAll, is_grammar}
+use Rattle.rng_simplify.specs.Loading.{Waiting, waiting_in, AreRead, all_read, one_read, AreLoaded, AllLoaded}
+use Rattle.rng_simplify.specs.Making.{Making, Outcome, made, ◌>>=◌, FilePiece, of_pattern, of_grammar, next_piece, as_pattern, next_pattern, make, make_items, make_file, lone_made, file_made, files_made, nothing_made, whole_made}
 use Rattle.rng_simplify.specs.References.{Mention, reference_of, mentions, mentions_of, mentions_of_items}
 use Rattle.rng_simplify.specs.Supplying.{Grows, Supply, a_pattern_piece, a_grammar_piece, Supplies, nothing_more, one_further, IsMadeOf}
-use Rattle.rng_simplify.proofs.Growing.{grows_not, denote_all_on, last_cell, one_more}
-use Rattle.rng_simplify.proofs.Made.{Both, both, value_or, now_or, is_made, supply_on, file_from, pattern_is, items_is, ItemsMade}
-use Rattle.rng_simplify.proofs.Pieces.{Keeps, Runs, file_runs}
+use Rattle.rng_simplify.proofs.Growing.{denote_all_on, last_cell, one_more}
+use Rattle.rng_simplify.proofs.Made.{both, value_or, now_or, supply_on, file_from, pattern_is, items_is, ItemsMade}
+use Rattle.rng_simplify.proofs.Pieces.{Keeps, file_runs}
 use Rattle.rng_simplify.proofs.Owning.{piece_nodes}
 use Rattle.rng_simplify.proofs.Walking.{file_last}
 

@@ -1,27 +1,12 @@
 -- What composing makes has each node in one place at most, and it finds a piece for each file that is mentioned.
-use Rattle.std.proofs.Common.{◌≡◌, refl, sym, ap, ◌∙◌, subst, ℕ, zero, suc, ◌+◌, ◌<◌, ◌≤◌, eqb, eq-eqb, Bool, true, false, cond, List, [], ◌∷◌, ◌++◌, length, drop, slice_get, Option, Some, None, arith, ◌⊎◌, inl, inr}
-use Rattle.std.specs.Prelude.{Contains, flat_map, filter, map}
-use Rattle.std.proofs.lemmas.List.{append_assoc, drop-drop, map-append}
+use Rattle.std.proofs.Common.{◌≡◌, refl, sym, ap, ◌∙◌, subst, ℕ, zero, suc, ◌+◌, ◌<◌, ◌≤◌, eqb, eq-eqb, Bool, true, false, List, [], ◌∷◌, ◌++◌, length, arith, ◌⊎◌, inl, inr}
+use Rattle.std.specs.Prelude.{Contains, flat_map}
 use Rattle.std.proofs.lemmas.Grind.{flat_map-append}
 use Rattle.std.proofs.lemmas.Bool.{eqb-true}
-use Rattle.nx_base.specs.declared.cause.Cause.{Cause}
-use Rattle.rnc_parse.specs.declared.surface.FileReference.{FileReference}
-use Rattle.rnc_parse.specs.declared.surface.Defined.{Defined}
-use Rattle.rnc_parse.specs.declared.surface.Combine.{Combine}
-use Rattle.rnc_parse.specs.Written.{WrittenPattern, WrittenItem, WrittenItems, WrittenReplacement, WrittenReplacements, WrittenSurface}
-use Rattle.rnc_parse.specs.Written as written
-use Rattle.rng_simplify.specs.declared.node.Clause.{Clause}
-use Rattle.rng_simplify.specs.declared.node.Sign.{Sign}
-use Rattle.rng_simplify.specs.declared.node.Sign.TheVariants as sign
-use Rattle.rng_simplify.specs.Classes.{class_in}
 use Rattle.rng_simplify.specs.Cells.{Cell}
-use Rattle.rng_simplify.specs.Cells as cell
 use Rattle.rng_simplify.specs.Denoting.{IsCell}
-use Rattle.rng_simplify.specs.Making.{Making, Outcome, made, refused, no_piece, ◌>>=◌, FilePiece, of_pattern, of_grammar, cell_made, or_empty_made, next_piece, as_pattern, as_grammar, next_pattern, next_grammar, make, make_item, make_items, make_replacement, make_anew, replaced_if, defines_all, with_new, is_defined, make_file, lone_made}
-use Rattle.rng_simplify.specs.References.{mentions, mentions_of, mentions_of_item, mentions_of_items, mentions_of_replacement, mentions_anew}
+use Rattle.rng_simplify.specs.Making.{Making, FilePiece, of_pattern, of_grammar}
 use Rattle.rng_simplify.specs.Standing.{inner_nodes, bodies_of}
-use Rattle.rng_simplify.specs.Supplying.{Grows}
-use Rattle.rng_simplify.proofs.Growing.{grows_not, grows_on, one_more}
 
 -- ---- counting
 

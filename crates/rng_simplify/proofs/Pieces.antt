@@ -1,9 +1,7 @@
 -- Composing takes one piece for each file that is mentioned, and each node that it makes has one place at most.
-use Rattle.std.proofs.Common.{◌≡◌, refl, sym, ap, ◌∙◌, subst, ℕ, zero, suc, ◌+◌, ◌<◌, ◌≤◌, eqb, Bool, true, false, cond, List, [], ◌∷◌, ◌++◌, length, drop, length-drop, slice_get, Option, Some, None, arith, ◌⊎◌, inl, inr}
-use Rattle.std.specs.Prelude.{Contains, flat_map, filter, map, not}
-use Rattle.std.proofs.lemmas.List.{append_assoc, append-nil, drop-drop, map-append, length-append}
-use Rattle.nx_base.specs.declared.cause.Cause.{Cause}
-use Rattle.nx_base.specs.declared.cause.Cause.TheVariants.{NotGrammar}
+use Rattle.std.proofs.Common.{◌≡◌, refl, sym, ap, ◌∙◌, subst, ℕ, suc, ◌+◌, ◌≤◌, Bool, true, false, cond, List, [], ◌∷◌, ◌++◌, length, drop, length-drop, arith}
+use Rattle.std.specs.Prelude.{flat_map, filter, not}
+use Rattle.std.proofs.lemmas.List.{append_assoc, drop-drop, length-append}
 use Rattle.rnc_parse.specs.Written.{WrittenPattern, WrittenItem, WrittenItems, WrittenReplacement, WrittenReplacements, WrittenSurface}
 use Rattle.rnc_parse.specs.Written as written
 use Rattle.rng_simplify.specs.declared.node.Clause.{Clause}
@@ -19,7 +17,7 @@ use Rattle.rng_simplify.specs.References.{mentions, mentions_of, mentions_of_ite
 use Rattle.rng_simplify.specs.Standing.{inner_nodes, bodies_of}
 use Rattle.rng_simplify.specs.Supplying.{Grows}
 use Rattle.rng_simplify.proofs.Growing.{grows_not, grows_on, one_more}
-use Rattle.rng_simplify.proofs.Owning.{count, count-append, piece_nodes, uses, Owns, held_else, cell_owns}
+use Rattle.rng_simplify.proofs.Owning.{count, count-append, piece_nodes, Owns, held_else, cell_owns}
 
 -- what is given for it is held by what is made, and so many pieces are taken
 abbrev pub Keeps : {A : Type 0} → List ℕ → (A → List ℕ) → ℕ → Making → Outcome A → Type 0

@@ -1,13 +1,12 @@
 -- Why composing makes nothing of files.
-use Rattle.std.proofs.Common.{◌≡◌, refl, sym, ap, ◌∙◌, subst, ℕ, zero, suc, ◌<◌, Bool, true, false, List, [], ◌∷◌, ◌++◌, length, Option, Some, None, arith, ◌⊎◌, inl, inr}
+use Rattle.std.proofs.Common.{◌≡◌, refl, sym, ap, ◌∙◌, subst, ℕ, suc, Bool, true, false, List, [], ◌∷◌, ◌++◌, length, Some, None, arith, ◌⊎◌, inl, inr}
 use Rattle.std.specs.Prelude.{Contains, reverse, ◌&&◌}
-use Rattle.std.specs.List.{AllByRecursion, list_all}
+use Rattle.std.specs.List.{AllByRecursion}
 use Rattle.std.proofs.lemmas.List.{append_assoc, append-nil, reverse-reverse}
 use Rattle.std.proofs.lemmas.List.Elements.{Contains-append_left, Contains-append_right}
 use Rattle.nx_base.specs.declared.cause.Cause.{Cause}
 use Rattle.nx_base.specs.declared.cause.Cause.TheVariants as cause
 use Rattle.nx_host.specs.Files.{FileMap}
-use Rattle.rnc_parse.specs.declared.surface.Combine.{Combine}
 use Rattle.rnc_parse.specs.declared.surface.Defined.{Defined}
 use Rattle.rnc_parse.specs.declared.surface.FileReference.{FileReference}
 use Rattle.rnc_parse.specs.Views.{surface_of}
@@ -15,20 +14,19 @@ use Rattle.rnc_parse.specs.Written.{WrittenPattern, WrittenItem, WrittenItems, W
 use Rattle.rnc_parse.specs.Written as written
 use Rattle.rng_simplify.specs.declared.load.Loaded.{Loaded}
 use Rattle.rng_simplify.specs.declared.node.Clause.{Clause}
-use Rattle.rng_simplify.specs.declared.node.Sign.{Sign}
 use Rattle.rng_simplify.specs.declared.node.Sign.TheVariants as sign
-use Rattle.rng_simplify.specs.Broken.{IncludesOther, ReplacesNothing, PieceIsBroken, IsBroken}
+use Rattle.rng_simplify.specs.Broken.{IsBroken}
 use Rattle.rng_simplify.specs.Classes.{class_in}
 use Rattle.rng_simplify.specs.Cells.{Cell}
 use Rattle.rng_simplify.specs.Cells as cell
-use Rattle.rng_simplify.specs.Composed.{Composed, Clauses, end_of_clauses, clause_then, then_clauses, names_of, defines}
-use Rattle.rng_simplify.specs.Composing.{Context, top, referred, Says, Opens, grammar_items, Gathers, GathersAnew, none_anew, definition_anew, division_anew}
+use Rattle.rng_simplify.specs.Composed.{Clauses, end_of_clauses, clause_then, then_clauses, names_of, defines}
+use Rattle.rng_simplify.specs.Composing.{Context, top, Says, Opens, grammar_items, Gathers, GathersAnew, none_anew, definition_anew, division_anew}
 use Rattle.rng_simplify.specs.Composition.{RefusedIsBroken}
 use Rattle.rng_simplify.specs.Denoting.{DenoteAll, none_denoted, next_denoted}
-use Rattle.rng_simplify.specs.Loading.{Waiting, waiting_in, IsRead, AreRead, all_read, one_read, AreLoaded, AllLoaded}
+use Rattle.rng_simplify.specs.Loading.{Waiting, waiting_in, AreRead, all_read, one_read, AreLoaded, AllLoaded}
 use Rattle.rng_simplify.specs.Making.{Making, Outcome, made, refused, no_piece, ◌>>=◌, FilePiece, of_pattern, of_grammar, cell_made, or_empty_made, next_piece, as_pattern, as_grammar, next_pattern, next_grammar, make, make_item, make_items, make_replacement, make_anew, replaced_if, defines_all, with_new, is_defined, make_file, lone_made, file_made, files_made, nothing_made, whole_made}
-use Rattle.rng_simplify.specs.References.{Mention, an_external, an_include, reference_of, mentions, mentions_of, mentions_of_item, mentions_of_items, mentions_of_replacement, mentions_anew, names_of_replacement, names_anew, Reached, the_first, a_further, Mentions}
-use Rattle.rng_simplify.specs.Supplying.{Supply, a_pattern_piece, a_grammar_piece, Supplies, nothing_more, one_further, IsMadeOf}
+use Rattle.rng_simplify.specs.References.{Mention, an_include, reference_of, mentions, mentions_of, mentions_of_item, mentions_of_items, mentions_of_replacement, mentions_anew, names_anew, Reached, the_first, a_further, Mentions}
+use Rattle.rng_simplify.specs.Supplying.{a_pattern_piece, a_grammar_piece, Supplies, one_further, IsMadeOf}
 use Rattle.rng_simplify.proofs.Growing.{one_more, denote_all_on}
 use Rattle.rng_simplify.proofs.Made.{supplies_on, pattern_is, items_is, anew_is, ItemsMade, AnewMade, GrammarMade, included_is}
 use Rattle.rng_simplify.proofs.OnePiece.{SuppliesAll, supplied_first, walk_made}
@@ -83,9 +81,9 @@ names_apart (clause_then name combine p more) b = ap (λ ns. name ∷ ns) (names
 
 -- what is gathered in braces has the names that are defined there
 names_gathered : {files : FileMap} → (context : Context) (replacements : WrittenReplacements) (all : Clauses) → GathersAnew files context replacements all → names_of all ≡ names_anew replacements
-names_gathered context replacements all none_anew = refl
-names_gathered context replacements all (definition_anew {name = name} {replacements = more} {clauses = clauses} composes gathers) = ap (λ ns. name ∷ ns) (names_gathered context more clauses gathers)
-names_gathered context replacements all (division_anew {inside = inside} {replacements = more} {first = first} {clauses = clauses} inner gathers is) =
+names_gathered context _ all none_anew = refl
+names_gathered context _ all (definition_anew {name = name} {replacements = more} {clauses = clauses} composes gathers) = ap (λ ns. name ∷ ns) (names_gathered context more clauses gathers)
+names_gathered context _ all (division_anew {inside = inside} {replacements = more} {first = first} {clauses = clauses} inner gathers is) =
     ap names_of is ∙ names_apart first clauses ∙ ap (λ ns. ns ++ names_of clauses) (names_gathered context inside first inner) ∙ ap (λ ns. names_anew inside ++ ns) (names_gathered context more clauses gathers)
 
 -- ---- what is refused among mentions
@@ -161,7 +159,7 @@ module _ (files : FileMap) (number : ℕ → ℕ) (context : Context) where
 
   grammar_refused : (reference : FileReference) (replacements : WrittenReplacements) (more : List Mention) (why : Cause) (cells : List Cell) (pieces : List FilePiece) → Supplies files number context cells (an_include reference replacements ∷ more) pieces → (next_piece cells pieces >>= as_grammar) ≡ refused why → Refused (an_include reference replacements ∷ []) why
   grammar_refused reference replacements more why cells pieces (one_further (a_pattern_piece opens none composes denotes) left) is = subst (λ w. Refused (an_include reference replacements ∷ []) w) (let e : cause.NotGrammar ≡ why = cc in e) (other_included (0, omega arith, refl) opens none)
-  grammar_refused reference replacements more why cells pieces (one_further (a_grammar_piece opens some gathers denotes) left) is = let never : ⊥ = cc in absurd never
+  grammar_refused reference _ more why cells pieces (one_further (a_grammar_piece opens some gathers denotes) left) is = let never : ⊥ = cc in absurd never
 
   replaced_refused : (reference : FileReference) (replacements : WrittenReplacements) (more : List Mention) (why : Cause) (old mid new : Making) (before anew : List Clause) → GrammarMade files number context reference (mentions_anew replacements ++ more) before old mid → make_anew context.inherited replacements mid ≡ made anew new → replaced_if (defines_all before anew) (with_new before anew) new ≡ refused why → Refused (an_include reference replacements ∷ []) why
   replaced_refused reference replacements more why old mid new before anew file made_anew is =

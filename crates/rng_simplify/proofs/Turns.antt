@@ -1,21 +1,17 @@
 -- Turns of loading.
-use Rattle.std.proofs.Common.{◌≡◌, refl, sym, ap, ◌∙◌, subst, ℕ, List, [], ◌∷◌, ◌++◌, length, arith, Option, Some, None, Result, Ok, Err, IfOk}
+use Rattle.std.proofs.Common.{◌≡◌, refl, sym, ap, ◌∙◌, subst, ℕ, List, [], ◌∷◌, ◌++◌, length, arith, Option, Result, Ok, Err, IfOk}
 use Rattle.std.specs.Prelude.{IsUtf8, reverse}
-use Rattle.std.specs.List.{AllByRecursion}
 use Rattle.std.proofs.lemmas.List.{reverse-append}
 use Rattle.nx_host.specs.Files.{FileMap}
-use Rattle.rnc_parse.specs.declared.surface.Surface.{Surface}
-use Rattle.rnc_parse.specs.Texts.{HasUtf8Texts}
 use Rattle.rnc_parse.specs.Views.{surface_of}
 use Rattle.rng_simplify.specs.declared.fault.SchemaFault.{SchemaFault}
 use Rattle.rng_simplify.specs.declared.load.Link.{Link}
 use Rattle.rng_simplify.specs.declared.load.Loaded.{Loaded}
 use Rattle.rng_simplify.specs.declared.mention.Mention.{Mention as Kept}
-use Rattle.rng_simplify.specs.Following.{uris_of, IsUnderWay, IsTextLink, AreTextLinks, IsAdded, OpensFile, NextUri, GoesOn, Follows}
-use Rattle.rng_simplify.specs.Loading.{ReadsFile, AllLoaded, Loads}
+use Rattle.rng_simplify.specs.Following.{uris_of, IsUnderWay, AreTextLinks, IsAdded, OpensFile, NextUri, GoesOn}
 use Rattle.rng_simplify.specs.Mentioning.{AreTextMentions}
-use Rattle.rng_simplify.specs.Simplified.{IfTold, Answers}
-use Rattle.rng_simplify.proofs.Loading.{IsNextMention, next_mention, not_next, not_opened, opened, begun, first_refused, completed_all}
+use Rattle.rng_simplify.specs.Simplified.{Answers}
+use Rattle.rng_simplify.proofs.Loading.{next_mention, not_next, not_opened, opened, begun, first_refused}
 use Rattle.rng_simplify.proofs.Texts.{surface_texts}
 
 -- the last one comes first

@@ -1,27 +1,22 @@
 -- What composing makes of files, each behind those that it mentions.
-use Rattle.std.proofs.Common.{◌≡◌, refl, sym, ap, ◌∙◌, subst, eqb, Bool, true, false, cond, ℕ, zero, suc, ◌+◌, ◌<◌, ◌≤◌, List, [], ◌∷◌, ◌++◌, length, drop, length-drop, slice_get, Option, Some, None, arith, ◌⊎◌, inl, inr}
+use Rattle.std.proofs.Common.{◌≡◌, refl, sym, ap, ◌∙◌, subst, eqb, Bool, true, false, ℕ, zero, suc, ◌+◌, ◌<◌, ◌≤◌, List, [], ◌∷◌, ◌++◌, length, drop, length-drop, Option, arith, ◌⊎◌, inl, inr}
 use Rattle.std.specs.Prelude.{Contains, flat_map, reverse, ◌==◌}
 use Rattle.std.specs.List.{IsDistinct, AllByRecursion}
 use Rattle.std.proofs.lemmas.Bool.{eqb-true, eqb-false}
-use Rattle.std.proofs.lemmas.List.{append_assoc, reverse-append, reverse-reverse, length-append, length-map}
-use Rattle.nx_base.specs.declared.cause.Cause.{Cause}
+use Rattle.std.proofs.lemmas.List.{reverse-append, reverse-reverse, length-append, length-map}
 use Rattle.nx_host.specs.Files.{FileMap}
 use Rattle.rnc_parse.specs.Views.{surface_of}
-use Rattle.rnc_parse.specs.Written.{WrittenSurface}
 use Rattle.rng_simplify.specs.declared.load.Loaded.{Loaded}
 use Rattle.rng_simplify.specs.Cells.{Cell}
 use Rattle.rng_simplify.specs.Composing.{Context, top}
 use Rattle.rng_simplify.specs.Composition.{NoPieceIsMissing, MadeIsWellFormed}
 use Rattle.rng_simplify.specs.Denoting.{IsCell}
 use Rattle.rng_simplify.specs.Standing.{inner_nodes, AreWellFormed}
-use Rattle.rng_simplify.specs.Loading.{Waiting, waiting_in, IsRead, AreRead, all_read, one_read, AreLoaded, AllLoaded}
+use Rattle.rng_simplify.specs.Loading.{Waiting, waiting_in, AreRead, all_read, one_read, AllLoaded}
 use Rattle.rng_simplify.specs.Making.{Making, Outcome, made, refused, no_piece, ◌>>=◌, FilePiece, make_file, file_made, files_made, next_pattern, nothing_made, whole_made}
 use Rattle.rng_simplify.specs.References.{Mention, mentions_of}
-use Rattle.rng_simplify.specs.Supplying.{Grows}
-use Rattle.rng_simplify.proofs.Rows.{then_again}
-use Rattle.rng_simplify.proofs.Made.{Both, both}
-use Rattle.rng_simplify.proofs.Owning.{one_if, count, count-append, counted, self_counted, le_or_gt, piece_nodes, uses, Owns, held_else}
-use Rattle.rng_simplify.proofs.Pieces.{Keeps, Runs, file_runs, next_pattern_runs, one}
+use Rattle.rng_simplify.proofs.Owning.{one_if, count, count-append, counted, self_counted, le_or_gt, piece_nodes, Owns, held_else}
+use Rattle.rng_simplify.proofs.Pieces.{Keeps, file_runs, next_pattern_runs, one}
 
 -- ---- files in order
 

@@ -2,17 +2,16 @@
 use Rattle.std.proofs.Common.{◌≡◌, refl, ℕ, List, Option, Some, None, Result, Ok, Err}
 use Rattle.std.specs.Prelude.{reverse}
 use Rattle.nx_base.specs.declared.cause.Cause.{Cause}
-use Rattle.nx_base.specs.declared.cause.Cause.TheVariants as cause
 use Rattle.nx_host.specs.Files.{FileMap}
 use Rattle.rng_simplify.specs.declared.compose.Whole.{Whole}
 use Rattle.rng_simplify.specs.declared.fault.SchemaFault.{SchemaFault}
-use Rattle.rng_simplify.specs.declared.fault.SchemaFault.TheVariants.{Absent, NotUtf8, BadUri, Failed, NoMemory, Unreadable}
+use Rattle.rng_simplify.specs.declared.fault.SchemaFault.TheVariants.{NoMemory, Unreadable}
 use Rattle.rng_simplify.specs.declared.load.Loaded.{Loaded}
 use Rattle.rng_simplify.specs.Broken.{IsBroken}
 use Rattle.rng_simplify.specs.Composition.{IsOnePiece, GivesWhole, cells_of}
 use Rattle.rng_simplify.specs.Loading.{AllLoaded}
-use Rattle.rng_simplify.specs.Making.{MakesWhole, whole_made, made, refused}
-use Rattle.rng_simplify.specs.Simplified.{IfTold, Answers}
+use Rattle.rng_simplify.specs.Making.{MakesWhole, whole_made, refused}
+use Rattle.rng_simplify.specs.Simplified.{IfTold}
 use Rattle.rng_simplify.proofs.OnePiece.{made_is_composed}
 use Rattle.rng_simplify.proofs.Refusing.{refused_is_broken}
 use Rattle.rng_simplify.proofs.Walking.{made_is_well_formed}

@@ -1,11 +1,9 @@
 -- What is written in the nodes that composing makes is UTF-8.
-use Rattle.std.proofs.Common.{◌≡◌, refl, sym, ap, ◌∙◌, subst, Bool, true, false, ℕ, zero, suc, List, [], ◌∷◌, ◌++◌, length, Option, Some, None, IsTrue, ◌⊎◌, inl, inr}
+use Rattle.std.proofs.Common.{◌≡◌, sym, ap, ◌∙◌, subst, Bool, true, false, ℕ, List, [], ◌∷◌, ◌++◌, length, Option, IsTrue, ◌⊎◌, inl, inr}
 use Rattle.std.specs.Prelude.{IsUtf8, reverse}
 use Rattle.std.specs.Str.{is_utf8}
-use Rattle.std.specs.List.{AllByRecursion}
 use Rattle.std.proofs.lemmas.List.{reverse-reverse}
 use Rattle.std.proofs.lemmas.Str.{is_utf8-from_IsUtf8}
-use Rattle.nx_base.specs.declared.cause.Cause.{Cause}
 use Rattle.nx_host.specs.Files.{FileMap}
 use Rattle.rnc_parse.specs.declared.surface.Namespace.{Namespace}
 use Rattle.rnc_parse.specs.declared.surface.Namespace.TheVariants as namespace
@@ -13,11 +11,9 @@ use Rattle.rnc_parse.specs.Texts.{NamespaceIsText, ClassIsText, PatternIsText, I
 use Rattle.rnc_parse.specs.Views.{surface_of}
 use Rattle.rnc_parse.specs.Written.{WrittenClass, WrittenPattern, WrittenItem, WrittenItems, WrittenReplacement, WrittenReplacements, WrittenSurface}
 use Rattle.rnc_parse.specs.Written as written
-use Rattle.rng_core.specs.Names.{Class}
 use Rattle.rng_core.specs.Soundness.{IsSoundClass, sound_any_name, sound_ns_name, sound_name, sound_either, sound_without}
 use Rattle.rng_simplify.specs.declared.load.Loaded.{Loaded}
 use Rattle.rng_simplify.specs.declared.node.Clause.{Clause}
-use Rattle.rng_simplify.specs.declared.node.Sign.{Sign}
 use Rattle.rng_simplify.specs.declared.node.Sign.TheVariants as sign
 use Rattle.rng_simplify.specs.Classes.{namespace_in, class_in}
 use Rattle.rng_simplify.specs.Cells.{Cell}
@@ -25,7 +21,7 @@ use Rattle.rng_simplify.specs.Cells as cell
 use Rattle.rng_simplify.specs.CellTexts.{IsText, AreTexts}
 use Rattle.rng_simplify.specs.Composition.{MadeIsText}
 use Rattle.rng_simplify.specs.Denoting.{IsCell}
-use Rattle.rng_simplify.specs.Loading.{Waiting, IsTextFile, IsRead, AreRead, all_read, one_read, AreLoaded, AllLoaded}
+use Rattle.rng_simplify.specs.Loading.{Waiting, IsTextFile, AreRead, all_read, one_read, AllLoaded}
 use Rattle.rng_simplify.specs.Making.{Making, Outcome, made, refused, no_piece, ◌>>=◌, FilePiece, of_pattern, of_grammar, cell_made, or_empty_made, next_piece, as_pattern, as_grammar, next_pattern, next_grammar, make, make_item, make_items, make_replacement, make_anew, replaced_if, defines_all, with_new, make_file, lone_made, file_made, files_made, nothing_made, whole_made}
 use Rattle.rng_simplify.proofs.Owning.{old_or_last}
 use Rattle.rng_simplify.proofs.Walking.{file_last}

@@ -1,8 +1,7 @@
 -- The chain of files that leads to the next one, while files are loaded.
-use Rattle.std.specs.Prelude.{◌≡◌, ℕ, List, [], ◌∷◌, ◌++◌, Option, Some, None, Result, Ok, Err, IsUtf8, reverse, map, Contains, Vec}
+use Rattle.std.specs.Prelude.{◌≡◌, ℕ, List, [], ◌∷◌, ◌++◌, Option, Result, Ok, Err, IsUtf8, reverse, map, Contains, Vec}
 use Rattle.std.specs.declared.alloc.Global.{Global}
 use Rattle.std.specs.List.{AllByRecursion}
-use Rattle.nx_base.specs.declared.cause.Cause.{Cause}
 use Rattle.nx_base.specs.declared.cause.Cause.TheVariants.{IncludeLoop}
 use Rattle.nx_host.specs.Files.{FileMap}
 use Rattle.nx_host.specs.Uri.{Joins, IsBadUri}
@@ -10,7 +9,7 @@ use Rattle.rnc_parse.specs.declared.surface.Surface.{Surface}
 use Rattle.rnc_parse.specs.Texts.{HasUtf8Texts}
 use Rattle.rnc_parse.specs.Views.{surface_of}
 use Rattle.rng_simplify.specs.declared.fault.SchemaFault.{SchemaFault}
-use Rattle.rng_simplify.specs.declared.fault.SchemaFault.TheVariants.{Absent, NotUtf8, BadUri, Failed, NoMemory, Unreadable}
+use Rattle.rng_simplify.specs.declared.fault.SchemaFault.TheVariants.{BadUri, NoMemory, Unreadable}
 use Rattle.rng_simplify.specs.declared.load.Link.{Link}
 use Rattle.rng_simplify.specs.declared.load.Loaded.{Loaded}
 use Rattle.rng_simplify.specs.declared.mention.Mention.{Mention as Kept}

@@ -6,6 +6,9 @@ use Rattle.nx_base.specs.declared.cause.Cause.TheVariants as cause
 use Rattle.nx_host.specs.Count.{Rose}
 use Rattle.nx_host.specs.Files.{FileMap}
 use Rattle.nx_host.specs.Utf8.{StopsBeingText}
+use Rattle.rnc_lex.specs.declared.fault.LexFault.TheVariants as lex
+use Rattle.rnc_parse.specs.declared.read.ReadFault.{ReadFault}
+use Rattle.rnc_parse.specs.declared.read.ReadFault.TheVariants as read
 use Rattle.rnc_parse.specs.declared.surface.Surface.{Surface}
 use Rattle.rnc_parse.specs.Reads.{Reads, Refuses}
 use Rattle.rnc_parse.specs.Texts.{HasUtf8Texts}
@@ -86,7 +89,19 @@ pub record SaysText (bytes : List ℕ) (surface : Surface) : Type 0 where
   pub reads : Reads bytes (surface_of surface)
   pub texts : HasUtf8Texts (surface_of surface)
 
--- what the reading of a text may answer
+-- the refusal of a text that isn't read
+abbrev pub unread_as : ReadFault → SchemaFault
+unread_as (read.Lex (lex.BadEscape at)) = Unreadable cause.BadEscape
+unread_as (read.Lex (lex.BadLiteral at)) = Unreadable cause.BadLiteral
+unread_as (read.Lex (lex.BadCharacter at)) = Unreadable cause.BadCharacter
+unread_as (read.Lex lex.NoMemory) = NoMemory
+unread_as (read.TooDeep at) = Unreadable cause.TooDeep
+unread_as (read.Syntax at) = Unreadable cause.Syntax
+unread_as (read.UndeclaredPrefix prefix) = Unreadable cause.UndeclaredPrefix
+unread_as (read.Twice prefix) = Unreadable cause.Twice
+unread_as read.NoMemory = NoMemory
+
+-- it says why the text isn't read
 abbrev pub Unreads : List ℕ → SchemaFault → Type 0
 Unreads text (Unreadable why) = Refuses text why × IsOfReading why
 Unreads text NoMemory = Unit {0}

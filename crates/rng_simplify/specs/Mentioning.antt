@@ -1,5 +1,5 @@
 -- What the program keeps of the files that are mentioned.
-use Rattle.std.specs.Prelude.{◌≡◌, ℕ, List, map, flat_map, IsUtf8}
+use Rattle.std.specs.Prelude.{ℕ, List, map, flat_map, IsUtf8}
 use Rattle.std.specs.List.{AllByRecursion}
 use Rattle.rnc_parse.specs.declared.surface.Pattern.{Pattern}
 use Rattle.rnc_parse.specs.Views.{pattern_of}

@@ -3,9 +3,8 @@
 ghost use Rattle.std.specs.Prelude.{◌≡◌, ◌∷◌, List, ℕ, reverse, Err, IfOk, IsUtf8};
 ghost use Rattle.std.specs.List.{list_any};
 ghost use Rattle.std.specs.Str.{bytes_eq};
-ghost use Rattle.rnc_parse.specs.Reads.{ReadAnswers};
 ghost use Rattle.rng_simplify.specs.declared.load.Link.{Link as TheLink};
-ghost use Rattle.rng_simplify.specs.Loading.{Loads, Unreads, SaysBytes, IsAbsence, Fetches, ReadsFile};
+ghost use Rattle.rng_simplify.specs.Loading.{Loads, unread_as, SaysBytes, IsAbsence, Fetches, ReadsFile};
 ghost use Rattle.rng_simplify.specs.Mentioning.{IsTextMention};
 ghost use Rattle.rng_simplify.specs.Following.{IsAdded, IsUnderWay, uris_of, JoinsUri, IsBadText, NextUri, OpensFile, GoesOn, Follows, IsTextLink, AreTextLinks};
 
@@ -95,7 +94,7 @@ fn not_utf8(uri: &Bytes, bytes: &Bytes) -> SchemaFault
 
 /// The refusal of a file that can't be read.
 fn unread(fault: ReadFault) -> SchemaFault
-    ensures { (text : List ℕ) → ReadAnswers text (Err fault) → Unreads text result }
+    ensures { result ≡ unread_as fault }
 {
     match fault {
         ReadFault::Lex(LexFault::BadEscape(_)) => SchemaFault::Unreadable(Cause::BadEscape),

@@ -1,4 +1,4 @@
-use Rattle.std.proofs.Common.{◌≡◌, ap, sym, ◌∙◌, subst, Some, None, MatchOption, arith, length}
+use Rattle.std.proofs.Common.{◌≡◌, ap, sym, ◌∙◌, subst, Some, None, MatchOption, length}
 use Rattle.std.proofs.lemmas.Bool.{eqb-false}
 use Rattle.rnc_parse.specs.Written as written
 use Rattle.rnc_parse.specs.Written.{a_pattern}

@@ -1,4 +1,4 @@
-use Rattle.std.proofs.Common.{◌≡◌, ◌∙◌, ap, subst, sym, List, ℕ, [], reverse, Ok, Err, IsUtf8}
+use Rattle.std.proofs.Common.{◌≡◌, ◌∙◌, ap, subst, sym, reverse, Ok, Err, IsUtf8}
 use Rattle.std.proofs.lemmas.List.{reverse-reverse}
 use Rattle.std.proofs.lemmas.Result.{err_from_is_err_and}
 use Rattle.std.proofs.lemmas.Str.{IsUtf8-nil}

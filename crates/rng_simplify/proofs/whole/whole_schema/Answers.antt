@@ -1,4 +1,4 @@
-use Rattle.std.proofs.Common.{◌≡◌, ◌≢◌, subst, sym, ap}
+use Rattle.std.proofs.Common.{◌≢◌, subst, sym}
 use Rattle.rng_simplify.specs.Composition.{GivesWhole}
 use Rattle.rng_simplify.specs.Making.{whole_made, no_piece, MakesWhole}
 use Rattle.rng_simplify.proofs.Walking.{no_piece_is_missing}

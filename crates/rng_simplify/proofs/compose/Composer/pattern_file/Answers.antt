@@ -1,4 +1,4 @@
-use Rattle.std.proofs.Common.{◌≡◌, sym, subst}
+use Rattle.std.proofs.Common.{sym, subst}
 use Rattle.rnc_parse.specs.Views.{pattern_of, items_in}
 use Rattle.rng_simplify.specs.Making.{Makes, making_of, piece_of}
 use Rattle.rng_simplify.proofs.Joining.{lone_is, grammar_is}

@@ -1,4 +1,4 @@
-use Rattle.std.proofs.Common.{◌≡◌, subst, sym, arith, ◌∷◌, reverse}
+use Rattle.std.proofs.Common.{subst, sym, arith, ◌∷◌, reverse}
 use Rattle.std.proofs.lemmas.Result.{err_from_is_err_and}
 use Rattle.rng_simplify.specs.Following.{IsUnderWay}
 use Rattle.rng_simplify.proofs.Loading.{completed_all}

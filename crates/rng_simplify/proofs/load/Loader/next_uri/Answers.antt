@@ -1,4 +1,4 @@
-use Rattle.std.proofs.Common.{◌≡◌, sym, ap, ◌∙◌, true, false, List, ℕ, reverse}
+use Rattle.std.proofs.Common.{◌≡◌, sym, ap, ◌∙◌, reverse}
 use Rattle.std.specs.Str.{bytes_eq}
 use Rattle.rng_simplify.proofs.Chains.{leads_to_itself, leads_back, leads_on}
 use Rattle.rng_simplify.proofs.load.Loader.next_uri.Goals as goal
