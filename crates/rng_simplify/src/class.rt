@@ -1,0 +1,226 @@
+//! Name classes as a file gives them, and those that no schema may have (ISO/IEC 19757-2, sections 4.8 and 4.16).
+
+ghost use Rattle.std.specs.Prelude.{◌≡◌, ◌||◌, IfOk};
+ghost use Rattle.rng_core.specs.Names.{either, without};
+ghost use Rattle.rng_core.specs.Meaning.{class_of};
+ghost use Rattle.rnc_parse.specs.Views.{class_of as written_class_of};
+ghost use Rattle.rng_simplify.specs.Classes.{class_in as class_in_file, has_any_name as has_any_name_in, has_ns_name as has_ns_name_in, may_not_lose as may_not_lose_from, has_bad_except as has_bad_except_in, names_namespace as names_namespace_in, names_xmlns as names_xmlns_in};
+ghost use Rattle.rng_simplify.specs.Seeing.{written_classes, JudgesElementClass, JudgesAttributeClass};
+
+use crate::fault::SchemaFault;
+use crate::mention::namespace_in;
+use nx_base::cause::Cause;
+use nx_base::memory::NoMemory;
+use nx_base::name::Name;
+use nx_base::sequence::{Bytes, TryCopy};
+use rnc_parse::surface::NameClass as WrittenClass;
+use rng_core::name_class::NameClass;
+use std::alloc::Global;
+
+/// The namespace of the prefix `xmlns`, in which no name is.
+const XMLNS: &str = "http://www.w3.org/2000/xmlns/";
+
+/// The same without its last `/`, as the standard has it for attributes.
+const XMLNS_WITHOUT_SLASH: &str = "http://www.w3.org/2000/xmlns";
+
+/// The class of a file that inherits this namespace.
+#[cycle(class_in)]
+pub(crate) fn class_in(
+    alloc: Global,
+    inherited: &Bytes,
+    class: &WrittenClass,
+) -> Result<NameClass, NoMemory>
+    ensures { IfOk result (λ built. class_of built ≡ class_in_file inherited.now (written_class_of class.now)) }
+{
+    match class {
+        WrittenClass::AnyName => Ok(NameClass::AnyName),
+        WrittenClass::NsName(ns) => Ok(NameClass::NsName(namespace_in(inherited, ns)?)),
+        WrittenClass::Name(ns, local) => Ok(NameClass::Name(Name {
+            ns: namespace_in(inherited, ns)?,
+            local: local.copy()?,
+        })),
+        WrittenClass::Choice(classes) => choice_in(alloc, inherited, classes.as_slice()),
+        WrittenClass::Except(class, except) => {
+            let class = class_in(alloc, inherited, class)?;
+            let except = class_in(alloc, inherited, except)?;
+            except_of(alloc, class, except)
+        }
+    }
+}
+
+/// The choice of classes, which nests to the left. A choice of none is one that no schema may have.
+#[cycle(class_in)]
+fn choice_in(
+    alloc: Global,
+    inherited: &Bytes,
+    classes: &[WrittenClass],
+) -> Result<NameClass, NoMemory>
+    ensures { IfOk result (λ built. class_of built ≡ class_in_file inherited.now (written_classes classes.now)) }
+{
+    let Some((first, others)) = classes.split_first() else {
+        return except_of(alloc, NameClass::AnyName, NameClass::AnyName);
+    };
+    let mut choice = class_in(alloc, inherited, first)?;
+    for other in others {
+        let other = class_in(alloc, inherited, other)?;
+        choice = choice_of(alloc, choice, other)?;
+    }
+    Ok(choice)
+}
+
+/// The names of either class.
+fn choice_of(alloc: Global, first: NameClass, second: NameClass) -> Result<NameClass, NoMemory>
+    ensures { IfOk result (λ built. class_of built ≡ either (class_of first) (class_of second)) }
+{
+    let first = Box::new(alloc, first)?;
+    Ok(NameClass::Choice(first, Box::new(alloc, second)?))
+}
+
+/// The names of the first class that aren't of the second.
+fn except_of(alloc: Global, class: NameClass, except: NameClass) -> Result<NameClass, NoMemory>
+    ensures { IfOk result (λ built. class_of built ≡ without (class_of class) (class_of except)) }
+{
+    let class = Box::new(alloc, class)?;
+    Ok(NameClass::Except(class, Box::new(alloc, except)?))
+}
+
+/// Whether all names stand in the class as a wildcard.
+fn has_any_name(class: &NameClass) -> bool
+    ensures { result ≡ has_any_name_in (class_of class.now) }
+{
+    let mut rest = class;
+    loop {
+        match rest {
+            NameClass::AnyName => return true,
+            NameClass::NsName(_) | NameClass::Name(_) => return false,
+            NameClass::Except(all, taken) => return has_any_name(all) || has_any_name(taken),
+            NameClass::Choice(front, last) => {
+                if has_any_name(last) {
+                    return true;
+                }
+                rest = front;
+            }
+        }
+    }
+}
+
+/// Whether all names of a namespace do.
+fn has_ns_name(class: &NameClass) -> bool
+    ensures { result ≡ has_ns_name_in (class_of class.now) }
+{
+    let mut rest = class;
+    loop {
+        match rest {
+            NameClass::NsName(_) => return true,
+            NameClass::AnyName | NameClass::Name(_) => return false,
+            NameClass::Except(all, taken) => return has_ns_name(all) || has_ns_name(taken),
+            NameClass::Choice(front, last) => {
+                if has_ns_name(last) {
+                    return true;
+                }
+                rest = front;
+            }
+        }
+    }
+}
+
+/// Whether the second class may not be taken from the first.
+fn may_not_lose(class: &NameClass, except: &NameClass) -> bool
+    ensures { result ≡ may_not_lose_from (class_of class.now) (class_of except.now) }
+{
+    match class {
+        NameClass::AnyName => has_any_name(except),
+        NameClass::NsName(_) => has_any_name(except) || has_ns_name(except),
+        NameClass::Name(_) | NameClass::Choice(_, _) | NameClass::Except(_, _) => true,
+    }
+}
+
+/// Whether a wildcard is taken from a wildcard in the class.
+fn has_bad_except(class: &NameClass) -> bool
+    ensures { result ≡ has_bad_except_in (class_of class.now) }
+{
+    let mut rest = class;
+    loop {
+        match rest {
+            NameClass::AnyName | NameClass::NsName(_) | NameClass::Name(_) => return false,
+            NameClass::Except(all, taken) => {
+                return may_not_lose(all, taken) || has_bad_except(all) || has_bad_except(taken);
+            }
+            NameClass::Choice(front, last) => {
+                if has_bad_except(last) {
+                    return true;
+                }
+                rest = front;
+            }
+        }
+    }
+}
+
+/// Whether the namespace is written in the class, alone or in a name.
+fn names_namespace(class: &NameClass, ns: &str) -> bool
+    ensures { result ≡ names_namespace_in ns.now (class_of class.now) }
+{
+    let mut rest = class;
+    loop {
+        match rest {
+            NameClass::AnyName => return false,
+            NameClass::NsName(of) => return of.as_slice() == ns.as_bytes(),
+            NameClass::Name(name) => return name.ns.as_slice() == ns.as_bytes(),
+            NameClass::Except(all, taken) => {
+                return names_namespace(all, ns) || names_namespace(taken, ns);
+            }
+            NameClass::Choice(front, last) => {
+                if names_namespace(last, ns) {
+                    return true;
+                }
+                rest = front;
+            }
+        }
+    }
+}
+
+/// Whether the name `xmlns` in no namespace is written in the class.
+fn names_xmlns(class: &NameClass) -> bool
+    ensures { result ≡ names_xmlns_in (class_of class.now) }
+{
+    let mut rest = class;
+    loop {
+        match rest {
+            NameClass::AnyName | NameClass::NsName(_) => return false,
+            NameClass::Name(name) => {
+                return name.ns.is_empty() && name.local.as_slice() == b"xmlns".as_slice();
+            }
+            NameClass::Except(all, taken) => return names_xmlns(all) || names_xmlns(taken),
+            NameClass::Choice(front, last) => {
+                if names_xmlns(last) {
+                    return true;
+                }
+                rest = front;
+            }
+        }
+    }
+}
+
+/// Refuses a class that an element may not have.
+pub(crate) fn check_element_class(class: &NameClass) -> Result<(), SchemaFault>
+    ensures { JudgesElementClass (class_of class.now) result }
+{
+    if has_bad_except(class) {
+        return Err(SchemaFault::Unreadable(Cause::BadExcept));
+    }
+    if names_namespace(class, XMLNS) {
+        return Err(SchemaFault::Unreadable(Cause::XmlnsName));
+    }
+    Ok(())
+}
+
+/// Refuses a class that an attribute may not have.
+pub(crate) fn check_attribute_class(class: &NameClass) -> Result<(), SchemaFault>
+    ensures { JudgesAttributeClass (class_of class.now) result }
+{
+    check_element_class(class)?;
+    if names_namespace(class, XMLNS_WITHOUT_SLASH) || names_xmlns(class) {
+        return Err(SchemaFault::Unreadable(Cause::XmlnsName));
+    }
+    Ok(())
+}

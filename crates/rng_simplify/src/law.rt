@@ -1,0 +1,39 @@
+//! Laws of composing. Nothing here runs.
+
+ghost use Rattle.rng_simplify.specs.Composition.{NoPieceIsMissing, MadeIsWellFormed, MadeIsText, WellFormedDenotes, MadeIsComposed, RefusedIsBroken};
+ghost use Rattle.rng_simplify.specs.Supplying.{PatternsAreComposed};
+
+/// What is made of a pattern, with pieces for the files that it mentions, is that pattern in one piece.
+pub fn patterns_are_composed()
+    ensures { PatternsAreComposed }
+{}
+
+/// Composing finds a piece for each file that is mentioned, where all files were loaded.
+pub fn no_piece_is_missing()
+    ensures { NoPieceIsMissing }
+{}
+
+/// No node that is made of files stands in two.
+pub fn made_is_well_formed()
+    ensures { MadeIsWellFormed }
+{}
+
+/// What is written in nodes that are made of files is UTF-8.
+pub fn made_is_text()
+    ensures { MadeIsText }
+{}
+
+/// Nodes of which none stands in two, and each behind those that stand in it, stand for something.
+pub fn well_formed_denotes()
+    ensures { WellFormedDenotes }
+{}
+
+/// What is made of files is the schema in one piece.
+pub fn made_is_composed()
+    ensures { MadeIsComposed }
+{}
+
+/// Files of which nothing is made make no grammar, for the cause that is told.
+pub fn refused_is_broken()
+    ensures { RefusedIsBroken }
+{}

@@ -1,0 +1,273 @@
+//! Files fetched and read: the first one, and all that are reached from it, depth first in the order of the references.
+
+ghost use Rattle.std.specs.Prelude.{◌≡◌, ◌∷◌, List, ℕ, reverse, Err, IfOk, IsUtf8};
+ghost use Rattle.std.specs.List.{list_any};
+ghost use Rattle.std.specs.Str.{bytes_eq};
+ghost use Rattle.rng_simplify.specs.declared.load.Link.{Link as TheLink};
+ghost use Rattle.rng_simplify.specs.Loading.{Loads, unread_as, SaysBytes, IsAbsence, Fetches, ReadsFile};
+ghost use Rattle.rng_simplify.specs.Mentioning.{IsTextMention};
+ghost use Rattle.rng_simplify.specs.Following.{IsAdded, IsUnderWay, uris_of, JoinsUri, IsBadText, NextUri, OpensFile, GoesOn, Follows, IsTextLink, AreTextLinks};
+
+use crate::fault::SchemaFault;
+use crate::mention::{Mention, mentions_of};
+use crate::text::text_of;
+use nx_base::cause::Cause;
+use nx_base::memory::NoMemory;
+use nx_base::sequence::{Bytes, TryCopy};
+use nx_host::files::{FileFault, Files};
+use nx_host::uri::{self, UriFault};
+use nx_host::utf8::text_front;
+use rnc_lex::fault::LexFault;
+use rnc_parse::read::{ReadFault, read};
+use rnc_parse::surface::Surface;
+use std::alloc::Global;
+
+/// A file that was read.
+#[derive(Drop)]
+pub(crate) struct Loaded {
+    /// The namespace that it inherits.
+    pub(crate) inherited: Bytes,
+    pub(crate) surface: Surface,
+}
+
+/// A file of the chain that leads to the one that is read next.
+#[derive(Drop)]
+struct Link {
+    uri: Bytes,
+    /// What it mentions and isn't read yet, the next one last.
+    waiting: Vec<Mention>,
+}
+
+/// Files that are read, in order, and the chain of those that aren't done.
+#[derive(Drop)]
+struct Loader {
+    alloc: Global,
+    chain: Vec<Link>,
+    loaded: Vec<Loaded>,
+}
+
+/// The file and all that it leads to. They are read in the order in which they are mentioned, an outer file before those that
+/// it mentions; the answer has them the other way round, the first one last.
+pub(crate) fn load<F: Files>(
+    alloc: Global,
+    uri: &str,
+    files: &mut F,
+) -> Result<Vec<Loaded>, SchemaFault>
+    ensures { Loads (F.told files.old) uri.now (F.faults files.old) (F.faults files.new) result }
+{
+    let mut loader = Loader {
+        alloc,
+        chain: Vec::new(alloc),
+        loaded: Vec::new(alloc),
+    };
+    let first = Bytes::from_vec(Vec::from_slice(alloc, uri.as_bytes())?);
+    loader.open(first, Bytes::new(alloc), files)?;
+    loader.follow(files)?;
+    let Loader { mut loaded, .. } = loader;
+    loaded.reverse();
+    Ok(loaded)
+}
+
+/// What the bytes of a file say.
+fn surface_of(alloc: Global, uri: &Bytes, bytes: &Bytes) -> Result<Surface, SchemaFault>
+    ensures { SaysBytes uri.now bytes.now result }
+{
+    match str::from_utf8(bytes.as_slice()) {
+        Ok(text) => match read(alloc, text) {
+            Ok(surface) => Ok(surface),
+            Err(fault) => Err(unread(fault)),
+        },
+        Err(_) => Err(not_utf8(uri, bytes)),
+    }
+}
+
+/// The refusal of a file that isn't UTF-8.
+fn not_utf8(uri: &Bytes, bytes: &Bytes) -> SchemaFault
+    requires { IsUtf8 bytes.now → ⊥ }
+    ensures { SaysBytes uri.now bytes.now (Err result) }
+{
+    match uri.copy() {
+        Ok(uri) => SchemaFault::NotUtf8(uri, text_front(bytes.as_slice())),
+        Err(_) => SchemaFault::NoMemory,
+    }
+}
+
+/// The refusal of a file that can't be read.
+fn unread(fault: ReadFault) -> SchemaFault
+    ensures { result ≡ unread_as fault }
+{
+    match fault {
+        ReadFault::Lex(LexFault::BadEscape(_)) => SchemaFault::Unreadable(Cause::BadEscape),
+        ReadFault::Lex(LexFault::BadLiteral(_)) => SchemaFault::Unreadable(Cause::BadLiteral),
+        ReadFault::Lex(LexFault::BadCharacter(_)) => SchemaFault::Unreadable(Cause::BadCharacter),
+        ReadFault::Lex(LexFault::NoMemory) => SchemaFault::NoMemory,
+        ReadFault::TooDeep(_) => SchemaFault::Unreadable(Cause::TooDeep),
+        ReadFault::Syntax(_) => SchemaFault::Unreadable(Cause::Syntax),
+        ReadFault::UndeclaredPrefix(_) => SchemaFault::Unreadable(Cause::UndeclaredPrefix),
+        ReadFault::Twice(_) => SchemaFault::Unreadable(Cause::Twice),
+        ReadFault::NoMemory => SchemaFault::NoMemory,
+    }
+}
+
+/// The bytes under a URI.
+fn fetched<F: Files>(alloc: Global, uri: &Bytes, files: &mut F) -> Result<Bytes, SchemaFault>
+    requires { IsUtf8 uri.now }
+    ensures found { Fetches (F.told files.old) uri.now (F.faults files.old) (F.faults files.new) result }
+    ensures map { F.told files.new ≡ F.told files.old }
+{
+    match files.fetch(alloc, text_of(uri)) {
+        Ok(Some(bytes)) => Ok(bytes),
+        Ok(None) => Err(absent(uri)),
+        Err(FileFault::Failed) => Err(SchemaFault::Failed),
+        Err(FileFault::NoMemory) => Err(SchemaFault::NoMemory),
+    }
+}
+
+/// The refusal of a URI with nothing under it.
+fn absent(uri: &Bytes) -> SchemaFault
+    ensures { IsAbsence uri.now result }
+{
+    match uri.copy() {
+        Ok(uri) => SchemaFault::Absent(uri),
+        Err(_) => SchemaFault::NoMemory,
+    }
+}
+
+/// What the file of a URI says.
+fn file_at<F: Files>(alloc: Global, uri: &Bytes, files: &mut F) -> Result<Surface, SchemaFault>
+    requires { IsUtf8 uri.now }
+    ensures file { ReadsFile (F.told files.old) uri.now (F.faults files.old) (F.faults files.new) result }
+    ensures map { F.told files.new ≡ F.told files.old }
+{
+    let bytes = fetched(alloc, uri, files)?;
+    surface_of(alloc, uri, &bytes)
+}
+
+/// The URI that the text denotes in the file of that URI.
+fn joined(alloc: Global, base: &Bytes, text: &Bytes) -> Result<Bytes, SchemaFault>
+    requires base_is_text { IsUtf8 base.now }
+    requires text_is_text { IsUtf8 text.now }
+    ensures { JoinsUri base.now text.now result }
+{
+    match uri::join(alloc, text_of(base), text_of(text)) {
+        Ok(uri) => Ok(uri),
+        Err(UriFault::Bad) => Err(bad_uri(text)),
+        Err(UriFault::NoMemory) => Err(SchemaFault::NoMemory),
+    }
+}
+
+/// The refusal of a text that is no URI.
+fn bad_uri(text: &Bytes) -> SchemaFault
+    ensures { IsBadText text.now result }
+{
+    match text.copy() {
+        Ok(text) => SchemaFault::BadUri(text),
+        Err(_) => SchemaFault::NoMemory,
+    }
+}
+
+impl Loader {
+    /// Fetches and reads a file, and adds it to the chain.
+    fn open<F: Files>(
+        &mut self,
+        uri: Bytes,
+        inherited: Bytes,
+        files: &mut F,
+    ) -> Result<(), SchemaFault>
+        requires { IsUtf8 uri }
+        ensures opened { OpensFile (F.told files.old) uri inherited (F.faults files.old) (F.faults files.new) self.old.chain.items self.new.chain.items self.old.loaded.items self.new.loaded.items result }
+        ensures map { F.told files.new ≡ F.told files.old }
+    {
+        let surface = file_at(self.alloc, &uri, files)?;
+        self.add(uri, inherited, surface)?;
+        Ok(())
+    }
+
+    /// Adds a file that was read.
+    fn add(&mut self, uri: Bytes, inherited: Bytes, surface: Surface) -> Result<(), NoMemory>
+        ensures { IfOk result (λ _. IsAdded uri inherited surface self.old.chain.items self.new.chain.items self.old.loaded.items self.new.loaded.items) }
+    {
+        let waiting = mentions_of(self.alloc, &inherited, &surface)?;
+        self.loaded.push(Loaded { inherited, surface })?;
+        self.chain.push(Link { uri, waiting })?;
+        Ok(())
+    }
+
+    /// Reads what the files of the chain mention, and what that leads to. Each turn reads a file or ends one, and a file
+    /// takes memory.
+    fn follow<F: Files>(&mut self, files: &mut F) -> Result<(), SchemaFault>
+        requires { AreTextLinks (reverse self.old.chain.items) }
+        ensures { (uri : List ℕ) → IsUnderWay (F.told files.old) uri (reverse self.old.chain.items) self.old.loaded.items
+            → Follows (F.told files.old) uri (F.faults files.old) (F.faults files.new) self.new.loaded.items result }
+    {
+        for _turn in 0..u64::MAX {
+            let Some(link) = self.chain.pop() else {
+                return Ok(());
+            };
+            self.go_on(link, files)?;
+        }
+        Err(SchemaFault::NoMemory)
+    }
+
+    /// Reads the next file that this one mentions, or ends it.
+    fn go_on<F: Files>(&mut self, link: Link, files: &mut F) -> Result<(), SchemaFault>
+        requires link { IsTextLink link }
+        requires chain { AreTextLinks (reverse self.old.chain.items) }
+        ensures texts { IfOk result (λ _. AreTextLinks (reverse self.new.chain.items)) }
+        ensures goes_on { (uri : List ℕ) → IsUnderWay (F.told files.old) uri (link ∷ reverse self.old.chain.items) self.old.loaded.items
+            → GoesOn (F.told files.old) uri (F.faults files.old) (F.faults files.new) (reverse self.new.chain.items) self.new.loaded.items result }
+        ensures faults { IfOk result (λ _. F.faults files.new ≡ F.faults files.old) }
+        ensures map { F.told files.new ≡ F.told files.old }
+    {
+        let Link { uri, mut waiting } = link;
+        match waiting.pop() {
+            Some(mention) => self.open_mention(Link { uri, waiting }, mention, files),
+            None => Ok(()),
+        }
+    }
+
+    /// Reads a file that this one mentions.
+    fn open_mention<F: Files>(
+        &mut self,
+        link: Link,
+        mention: Mention,
+        files: &mut F,
+    ) -> Result<(), SchemaFault>
+        requires link { IsTextLink link }
+        requires mention { IsTextMention mention }
+        requires chain { AreTextLinks (reverse self.old.chain.items) }
+        ensures texts { IfOk result (λ _. AreTextLinks (reverse self.new.chain.items)) }
+        ensures goes_on { (uri : List ℕ) (before : TheLink) → before.uri ≡ link.uri → reverse before.waiting.items ≡ mention ∷ reverse link.waiting.items
+            → IsUnderWay (F.told files.old) uri (before ∷ reverse self.old.chain.items) self.old.loaded.items
+            → GoesOn (F.told files.old) uri (F.faults files.old) (F.faults files.new) (reverse self.new.chain.items) self.new.loaded.items result }
+        ensures faults { IfOk result (λ _. F.faults files.new ≡ F.faults files.old) }
+        ensures map { F.told files.new ≡ F.told files.old }
+    {
+        let uri = self.next_uri(&link.uri, &mention.text)?;
+        self.chain.push(link)?;
+        self.open(uri, mention.inherited, files)
+    }
+
+    /// The URI that the text denotes in the file of that URI, which is the last one behind the chain.
+    fn next_uri(&self, base: &Bytes, text: &Bytes) -> Result<Bytes, SchemaFault>
+        requires base_is_text { IsUtf8 base.now }
+        requires text_is_text { IsUtf8 text.now }
+        ensures { NextUri (uris_of (reverse self.now.chain.items)) base.now text.now result }
+    {
+        let uri = joined(self.alloc, base, text)?;
+        if uri.as_slice() == base.as_slice() || self.leads_from(&uri) {
+            return Err(SchemaFault::Unreadable(Cause::IncludeLoop));
+        }
+        Ok(uri)
+    }
+
+    /// Whether the URI is that of a file of the chain.
+    fn leads_from(&self, uri: &Bytes) -> bool
+        ensures { result ≡ list_any (λ link. bytes_eq uri.now link.uri) (reverse self.now.chain.items) }
+    {
+        self.chain
+            .iter()
+            .rev()
+            .any(|link| uri.as_slice() == link.uri.as_slice())
+    }
+}
