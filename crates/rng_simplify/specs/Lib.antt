@@ -15,3 +15,5 @@ pub mod Denoting
 pub mod Making
 pub mod Keeping
 pub mod Supplying
+pub mod Standing
+pub mod Resolving
