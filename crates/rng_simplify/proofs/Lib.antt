@@ -6,3 +6,7 @@ pub mod Growing
 pub mod Replacing
 pub mod Made
 pub mod Nodes
+pub mod Posts
+pub mod Scopes
+pub mod Signs
+pub mod Gathering

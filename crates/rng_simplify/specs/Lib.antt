@@ -17,3 +17,5 @@ pub mod Keeping
 pub mod Supplying
 pub mod Standing
 pub mod Resolving
+pub mod Scoping
+pub mod Breaking
