@@ -77,6 +77,18 @@ join_more name before clause old new is h bodies signs =
       signs = subst (λ (cs : List Combine). HasSigns cs new) (sym (map-append (λ (c : Clause). c.combine) (clauses_of name before) (clause ∷ []))) signs;
     })
 
+new_number : (names new : Names ℕ) (joins : List Join) (clause : Clause) → KeepsOne names clause.name (length joins) new → (other : Defined) (b : Bool) → same_defined other clause.name ≡ b → kept_for new other ≡ cond b (Some (length joins)) (kept_for names other)
+new_number names new joins clause keeps other b is = keeps other ∙ ap (λ t. cond t (Some (length joins)) (kept_for names other)) is
+
+still : (first : ℕ) (before : List Clause) (joins : List Join) (other : Defined) (clause : Clause) (new : Join) (kept : Option ℕ) → clauses_of other (before ++ clause ∷ []) ≡ clauses_of other before → IsGatheredAs first before joins other kept → IsGatheredAs first (before ++ clause ∷ []) (joins ++ new ∷ []) other kept
+still first before joins other clause new None same none = same ∙ none
+still first before joins other clause new (Some at) same there = (there.0, there.1, stays_behind joins (new ∷ []) at there.0 there.2, subst (λ (cs : List Clause). IsJoinOf cs there.0) (sym same) there.3)
+
+first_join : (before : List Clause) (name : Defined) (clause : Clause) (new : Join) → same_defined name clause.name ≡ true → clauses_of name before ≡ [] → new.bodies.items ≡ clause.body ∷ [] → HasSigns (clause.combine ∷ []) new → IsJoinOf (clauses_of name (before ++ clause ∷ [])) new
+first_join before name clause new is none bodies signs =
+    let one : clause ∷ [] ≡ clauses_of name (before ++ clause ∷ []) = sym (clauses_more name before clause is ∙ ap (λ (cs : List Clause). cs ++ clause ∷ []) none) in
+    subst (λ (cs : List Clause). IsJoinOf cs new) one (record { some = λ h. absurd cc; bodies_are = bodies; signs = signs })
+
 -- ---- one more definition of a name that is there
 
 module _ {first : ℕ} {before : List Clause} {names : Names ℕ} {joins : List Join} where
@@ -119,27 +131,15 @@ module _ {first : ℕ} {before : List Clause} {names : Names ℕ} {joins : List 
 
   -- ---- a first definition of a name
 
-  new_number : {new : Names ℕ} (clause : Clause) → KeepsOne names clause.name (length joins) new → (other : Defined) (b : Bool) → same_defined other clause.name ≡ b → kept_for new other ≡ cond b (Some (length joins)) (kept_for names other)
-  new_number clause keeps other b is = keeps other ∙ ap (λ t. cond t (Some (length joins)) (kept_for names other)) is
-
-  still : (other : Defined) (clause : Clause) (new : Join) (kept : Option ℕ) → clauses_of other (before ++ clause ∷ []) ≡ clauses_of other before → IsGatheredAs first before joins other kept → IsGatheredAs first (before ++ clause ∷ []) (joins ++ new ∷ []) other kept
-  still other clause new None same none = same ∙ none
-  still other clause new (Some at) same there = (there.0, there.1, stays_behind joins (new ∷ []) at there.0 there.2, subst (λ (cs : List Clause). IsJoinOf cs there.0) (sym same) there.3)
-
   nothing_yet : (name : Defined) → IsGathered first before names joins → kept_for names name ≡ None → clauses_of name before ≡ []
   nothing_yet name h kept = subst (λ (k : Option ℕ). IsGatheredAs first before joins name k) kept (h.gathered name)
 
-  first_join : (name : Defined) (clause : Clause) (new : Join) → same_defined name clause.name ≡ true → clauses_of name before ≡ [] → new.bodies.items ≡ clause.body ∷ [] → HasSigns (clause.combine ∷ []) new → IsJoinOf (clauses_of name (before ++ clause ∷ [])) new
-  first_join name clause new is none bodies signs =
-      let one : clause ∷ [] ≡ clauses_of name (before ++ clause ∷ []) = sym (clauses_more name before clause is ∙ ap (λ (cs : List Clause). cs ++ clause ∷ []) none) in
-      subst (λ (cs : List Clause). IsJoinOf cs new) one (record { some = λ h. absurd cc; bodies_are = bodies; signs = signs })
-
-  old_or_new : {new : Names ℕ} (clause : Clause) → IsGathered first before names joins → KeepsOne names clause.name (length joins) new → (name : Defined) (number : ℕ) → kept_for new name ≡ Some number → ((name ≡ clause.name) × (number ≡ length joins)) ⊎ ((kept_for names name ≡ Some number) × (number < length joins))
-  old_or_new clause h keeps name number kept =
+  old_or_new : (new : Names ℕ) (clause : Clause) → IsGathered first before names joins → KeepsOne names clause.name (length joins) new → (name : Defined) (number : ℕ) → kept_for new name ≡ Some number → ((name ≡ clause.name) × (number ≡ length joins)) ⊎ ((kept_for names name ≡ Some number) × (number < length joins))
+  old_or_new new clause h keeps name number kept =
       elim (tested (same_defined name clause.name)) [
-        inl is ↦ inl (same_name name clause.name is, same_Some number (length joins) (sym kept ∙ new_number clause keeps name true is))
+        inl is ↦ inl (same_name name clause.name is, same_Some number (length joins) (sym kept ∙ new_number names new joins clause keeps name true is))
       | inr is ↦
-        let before_is : kept_for names name ≡ Some number = sym (new_number clause keeps name false is) ∙ kept in
+        let before_is : kept_for names name ≡ Some number = sym (new_number names new joins clause keeps name false is) ∙ kept in
         inr (before_is, number_within name number h before_is)
       ]
 
@@ -149,20 +149,20 @@ module _ {first : ℕ} {before : List Clause} {names : Names ℕ} {joins : List 
       record {
         behind = omega (arith, h.behind, longer);
         gathered = λ other. elim (tested (same_defined other clause.name)) [
-          inl is ↦ subst (λ (k : Option ℕ). IsGatheredAs first (before ++ clause ∷ []) (joins ++ new ∷ []) other k) (sym (new_number clause keeps other true is)) (
+          inl is ↦ subst (λ (k : Option ℕ). IsGatheredAs first (before ++ clause ∷ []) (joins ++ new ∷ []) other k) (sym (new_number names after joins clause keeps other true is)) (
             new,
             h.behind,
             last_there joins new,
-            first_join other clause new is (nothing_yet other h (ap (kept_for names) (same_name other clause.name is) ∙ none)) bodies signs,
+            first_join before other clause new is (nothing_yet other h (ap (kept_for names) (same_name other clause.name is) ∙ none)) bodies signs,
           )
-        | inr is ↦ subst (λ (k : Option ℕ). IsGatheredAs first (before ++ clause ∷ []) (joins ++ new ∷ []) other k) (sym (new_number clause keeps other false is)) (still other clause new (kept_for names other) (clauses_same other before clause is) (h.gathered other))
+        | inr is ↦ subst (λ (k : Option ℕ). IsGatheredAs first (before ++ clause ∷ []) (joins ++ new ∷ []) other k) (sym (new_number names after joins clause keeps other false is)) (still first before joins other clause new (kept_for names other) (clauses_same other before clause is) (h.gathered other))
         ];
-        apart = λ name other number kept again. elim (old_or_new clause h keeps name number kept) [
-          inl a ↦ elim (old_or_new clause h keeps other number again) [
+        apart = λ name other number kept again. elim (old_or_new after clause h keeps name number kept) [
+          inl a ↦ elim (old_or_new after clause h keeps other number again) [
             inl b ↦ a.0 ∙ sym b.0
           | inr b ↦ absurd (omega (arith, a.1, b.1))
           ]
-        | inr a ↦ elim (old_or_new clause h keeps other number again) [
+        | inr a ↦ elim (old_or_new after clause h keeps other number again) [
             inl b ↦ absurd (omega (arith, a.1, b.1))
           | inr b ↦ h.apart name other number a.0 b.0
           ]
@@ -172,9 +172,9 @@ module _ {first : ℕ} {before : List Clause} {names : Names ℕ} {joins : List 
           let named = h.each number le before_it in
           (named.0, elim (tested (same_defined named.0 clause.name)) [
             inl is ↦ absurd (none-some number (sym none ∙ sym (ap (kept_for names) (same_name named.0 clause.name is)) ∙ named.1))
-          | inr is ↦ new_number clause keeps named.0 false is ∙ named.1
+          | inr is ↦ new_number names after joins clause keeps named.0 false is ∙ named.1
           ])
-        | inr it ↦ (clause.name, new_number clause keeps clause.name true (same_self clause.name) ∙ ap Some (omega (arith, lt, longer, it)))
+        | inr it ↦ (clause.name, new_number names after joins clause keeps clause.name true (same_self clause.name) ∙ ap Some (omega (arith, lt, longer, it)))
         ];
       }
 

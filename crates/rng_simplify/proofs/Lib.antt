@@ -10,3 +10,4 @@ pub mod Posts
 pub mod Scopes
 pub mod Signs
 pub mod Gathering
+pub mod Numbers

@@ -1,13 +1,14 @@
 -- Nodes that stand in a schema, and the patterns that they stand for.
-use Rattle.std.proofs.Common.{◌≡◌, refl, sym, ap, ◌∙◌, subst, ℕ, zero, suc, ◌+◌, ◌<◌, ◌≤◌, inl, inr, ◌⊎◌, List, [], ◌∷◌, length, map, slice_get, Option, Some, None, Contains, arith}
-use Rattle.std.proofs.lemmas.Option.{same_Some, slice_get_within}
+use Rattle.std.proofs.Common.{◌≡◌, refl, sym, ap, ◌∙◌, subst, ℕ, zero, suc, ◌+◌, ◌<◌, ◌≤◌, inl, inr, ◌⊎◌, List, [], ◌∷◌, length, map, get_or, slice_get, Option, Some, None, Contains, option_map, arith}
+use Rattle.std.proofs.lemmas.Option.{same_Some, slice_get_within, slice_get-map, slice_get_read}
 use Rattle.rnc_parse.specs.declared.surface.TypeName.{TypeName}
 use Rattle.rnc_parse.specs.declared.surface.Param.{Param}
 use Rattle.rng_core.specs.Names.{Class}
 use Rattle.rng_simplify.specs.declared.node.Clause.{Clause}
 use Rattle.rng_simplify.specs.declared.node.Sign.{Sign}
 use Rattle.rng_simplify.specs.declared.node.Sign.TheVariants as sign
-use Rattle.rng_simplify.specs.Cells.{Cell}
+use Rattle.rng_simplify.specs.declared.node.Node.{Node}
+use Rattle.rng_simplify.specs.Cells.{Cell, cell_of}
 use Rattle.rng_simplify.specs.Cells as cell
 use Rattle.rng_simplify.specs.Composed.{Composed, Clauses, end_of_clauses, clause_then, bodies}
 use Rattle.rng_simplify.specs.Composed as composed
@@ -36,9 +37,19 @@ in_more first more x (k, lt, e) = (suc k, omega arith, e)
 pub in_one : {X : Type 0} (first x : X) → Contains (first ∷ []) x → first ≡ x
 in_one first x h = elim (in_cases first [] x h) [ inl e ↦ e | inr none ↦ absurd (in_none none) ]
 
+-- a definition's body is among the bodies
+pub body_among : (clauses : List Clause) (k : ℕ) (clause : Clause) → k < length clauses → clause ≡ get_or clauses k clause → Contains (bodies_of clauses) clause.body
+body_among [] k clause lt is = absurd (omega arith)
+body_among (c ∷ more) zero clause lt is = subst (λ (d : Clause). Contains (bodies_of (c ∷ more)) d.body) (sym is) (in_first c.body (bodies_of more))
+body_among (c ∷ more) (suc k) clause lt is = in_more c.body (bodies_of more) clause.body (body_among more k clause (omega arith) is)
+
+-- a node's cell
+pub cell_there : (nodes : List Node) (i : ℕ) (node : Node) → i < length nodes → node ≡ get_or nodes i node → IsCell (map cell_of nodes) i (cell_of node)
+cell_there nodes i node lt is = slice_get-map cell_of nodes i ∙ ap (option_map cell_of) (slice_get_read nodes (length nodes) i node refl lt is)
+
 -- a number has one cell
-pub one_cell : {cells : List Cell} {i : ℕ} {c d : Cell} → IsCell cells i c → IsCell cells i d → c ≡ d
-one_cell at again = same_Some _ _ (sym at ∙ again)
+pub one_cell : (cells : List Cell) (i : ℕ) (c d : Cell) → IsCell cells i c → IsCell cells i d → c ≡ d
+one_cell cells i c d at again = same_Some c d (sym at ∙ again)
 
 -- ---- what a node stands for, by its cell
 
@@ -81,7 +92,7 @@ cell_denoted (is_joined by at first second) = record { cell = _; is_cell = at; b
 pub denoted_by : {cells : List Cell} {number : ℕ → ℕ} {i : ℕ} {p : Composed} (c : Cell) → IsCell cells i c → Denotes cells number i p → DenotesBy cells number i c p
 denoted_by {cells = cells} {number = number} {i = i} {p = p} c at denotes =
     let h = cell_denoted denotes in
-    subst (λ (d : Cell). DenotesBy cells number i d p) (one_cell h.is_cell at) h.by
+    subst (λ (d : Cell). DenotesBy cells number i d p) (one_cell cells i h.cell c h.is_cell at) h.by
 
 abbrev pub AllDenotedBy : List Cell → (ℕ → ℕ) → List Clause → Clauses → Type 0
 AllDenotedBy cells number [] all = all ≡ end_of_clauses
@@ -155,25 +166,25 @@ by_parts sign.Choice p q = refl
 by_parts sign.Group p q = refl
 by_parts sign.Interleave p q = refl
 
-part_denoted_by : {cells : List Cell} {number : ℕ → ℕ} {i j : ℕ} (c : Cell) (p : Composed) → Contains (cell_parts c) j → DenotesBy cells number i c p → PartIs cells number (parts p) j
-part_denoted_by (cell.element class part) p within h = absurd (in_none within)
-part_denoted_by {cells = cells} {number = number} {j = j} (cell.attribute class part) p within h = subst (λ (r : Composed). PartIs cells number (parts r) j) (sym h.2) (only_part within h.1)
-part_denoted_by {cells = cells} {number = number} {j = j} (cell.listed part) p within h = subst (λ (r : Composed). PartIs cells number (parts r) j) (sym h.2) (only_part within h.1)
-part_denoted_by (cell.ref name) p within h = absurd (in_none within)
-part_denoted_by (cell.parent_ref name) p within h = absurd (in_none within)
-part_denoted_by cell.empty p within h = absurd (in_none within)
-part_denoted_by cell.any_text p within h = absurd (in_none within)
-part_denoted_by cell.not_allowed p within h = absurd (in_none within)
-part_denoted_by (cell.value type text) p within h = absurd (in_none within)
-part_denoted_by {cells = cells} {number = number} {j = j} (cell.typed type params part) p within h = subst (λ (r : Composed). PartIs cells number (parts r) j) (sym h.2) (only_part within h.1)
-part_denoted_by (cell.grammar clauses) p within h = absurd (in_none within)
-part_denoted_by {cells = cells} {number = number} {j = j} (cell.one_or_more part) p within h = subst (λ (r : Composed). PartIs cells number (parts r) j) (sym h.2) (only_part within h.1)
-part_denoted_by {cells = cells} {number = number} {j = j} (cell.joined by first second) p within h =
+part_denoted_by : {cells : List Cell} {number : ℕ → ℕ} {j : ℕ} (i : ℕ) (c : Cell) (p : Composed) → Contains (cell_parts c) j → DenotesBy cells number i c p → PartIs cells number (parts p) j
+part_denoted_by i (cell.element class part) p within h = absurd (in_none within)
+part_denoted_by {cells = cells} {number = number} {j = j} i (cell.attribute class part) p within h = subst (λ (r : Composed). PartIs cells number (parts r) j) (sym h.2) (only_part within h.1)
+part_denoted_by {cells = cells} {number = number} {j = j} i (cell.listed part) p within h = subst (λ (r : Composed). PartIs cells number (parts r) j) (sym h.2) (only_part within h.1)
+part_denoted_by i (cell.ref name) p within h = absurd (in_none within)
+part_denoted_by i (cell.parent_ref name) p within h = absurd (in_none within)
+part_denoted_by i cell.empty p within h = absurd (in_none within)
+part_denoted_by i cell.any_text p within h = absurd (in_none within)
+part_denoted_by i cell.not_allowed p within h = absurd (in_none within)
+part_denoted_by i (cell.value type text) p within h = absurd (in_none within)
+part_denoted_by {cells = cells} {number = number} {j = j} i (cell.typed type params part) p within h = subst (λ (r : Composed). PartIs cells number (parts r) j) (sym h.2) (only_part within h.1)
+part_denoted_by i (cell.grammar clauses) p within h = absurd (in_none within)
+part_denoted_by {cells = cells} {number = number} {j = j} i (cell.one_or_more part) p within h = subst (λ (r : Composed). PartIs cells number (parts r) j) (sym h.2) (only_part within h.1)
+part_denoted_by {cells = cells} {number = number} {j = j} i (cell.joined by first second) p within h =
     subst (λ (ps : List Composed). PartIs cells number ps j) (sym (ap parts h.4 ∙ by_parts by h.0 h.1)) (either_part within h.2 h.3)
 
 -- a node's part stands for a part of what the node stands for
 pub part_denoted : {cells : List Cell} {number : ℕ → ℕ} {i j : ℕ} {c : Cell} {p : Composed} → IsCell cells i c → Contains (cell_parts c) j → Denotes cells number i p → PartIs cells number (parts p) j
-part_denoted {c = c} {p = p} at within denotes = part_denoted_by c p within (denoted_by c at denotes)
+part_denoted {i = i} {c = c} {p = p} at within denotes = part_denoted_by i c p within (denoted_by c at denotes)
 
 -- and a definition's body for a body
 pub body_denoted : {cells : List Cell} {number : ℕ → ℕ} {clauses : List Clause} {all : Clauses} {j : ℕ} → DenoteAll cells number clauses all → Contains (bodies_of clauses) j → PartIs cells number (bodies all) j
@@ -282,10 +293,10 @@ DenotedBy cells number i (composed.element n class p) = (part : ℕ) × IsCell c
 DenotedBy cells number i (composed.grammar all) = (clauses : List Clause) × IsCell cells i (cell.grammar clauses) × DenoteAll cells number clauses all
 DenotedBy cells number i _ = Unit {0}
 
-joined_denoted_by : {cells : List Cell} {number : ℕ → ℕ} {i : ℕ} (by : Sign) (p q : Composed) → DenotedBy cells number i (composed_by by p q)
-joined_denoted_by sign.Choice p q = tt
-joined_denoted_by sign.Group p q = tt
-joined_denoted_by sign.Interleave p q = tt
+joined_denoted_by : (cells : List Cell) (number : ℕ → ℕ) (i : ℕ) (by : Sign) (p q : Composed) → DenotedBy cells number i (composed_by by p q)
+joined_denoted_by cells number i sign.Choice p q = tt
+joined_denoted_by cells number i sign.Group p q = tt
+joined_denoted_by cells number i sign.Interleave p q = tt
 
 denoted_as : {cells : List Cell} {number : ℕ → ℕ} {i : ℕ} {p : Composed} → Denotes cells number i p → DenotedBy cells number i p
 denoted_as (is_element at part) = (_, at, part)
@@ -300,7 +311,7 @@ denoted_as (is_value at) = tt
 denoted_as (is_type at part) = tt
 denoted_as (is_grammar at all) = (_, at, all)
 denoted_as (is_one_or_more at part) = tt
-denoted_as (is_joined {p = p} {q = q} by at first second) = joined_denoted_by by p q
+denoted_as {cells = cells} {number = number} {i = i} (is_joined {p = p} {q = q} by at first second) = joined_denoted_by cells number i by p q
 
 inner_node : {cells : List Cell} {number : ℕ → ℕ} {root : ℕ} {outer inner : Place} → HasNode cells number root outer → IsIn outer inner → HasNode cells number root inner
 inner_node h (part_in within) =

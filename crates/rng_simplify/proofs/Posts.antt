@@ -127,7 +127,7 @@ same_around : {cells : List Cell} {root : ℕ} {outers around : List ℕ} {i j :
 same_around {cells = cells} {root = root} {around = around} {i = i} {j = j} c formed at inner h once =
     let same : i ≡ h.outer = formed.one_outer i h.outer j c h.cell at h.is_cell inner h.inner in
     let stands : Stands cells root h.around i = subst (λ k. Stands cells root h.around k) (sym same) h.stands in
-    let same_cell : c ≡ h.cell = one_cell (subst (λ k. IsCell cells k c) same at) h.is_cell in
+    let same_cell : c ≡ h.cell = one_cell cells h.outer c h.cell (subst (λ k. IsCell cells k c) same at) h.is_cell in
     ap (within c i) (once h.around stands) ∙ ap (λ (d : Cell). within d i h.around) same_cell ∙ ap (λ k. within h.cell k h.around) same ∙ sym h.outers_are
 
 -- a node stands in one place
@@ -182,14 +182,14 @@ abbrev clauses_in : Cell → List Clause
 clauses_in (cell.grammar clauses) = clauses
 clauses_in c = []
 
-pub one_grammar : {cells : List Cell} {i : ℕ} {clauses others : List Clause} → IsCell cells i (cell.grammar clauses) → IsCell cells i (cell.grammar others) → clauses ≡ others
-one_grammar at again = ap clauses_in (one_cell at again)
+pub one_grammar : (cells : List Cell) (i : ℕ) (clauses others : List Clause) → IsCell cells i (cell.grammar clauses) → IsCell cells i (cell.grammar others) → clauses ≡ others
+one_grammar cells i clauses others at again = ap clauses_in (one_cell cells i (cell.grammar clauses) (cell.grammar others) at again)
 
 pub scopes_once : {cells : List Cell} {number : ℕ → ℕ} {outers : List ℕ} {scopes others : List Clauses} → AreScopes cells number outers scopes → AreScopes cells number outers others → scopes ≡ others
 scopes_once no_scopes again = sym (scopes_by again)
-scopes_once {cells = cells} {number = number} (further_scope {all = all} {scopes = scopes} at denoted more) again =
+scopes_once {cells = cells} {number = number} (further_scope {i = i} {clauses = clauses} {all = all} {scopes = scopes} at denoted more) again =
     let h = scopes_by again in
-    let same : all ≡ h.1 = denote_all_one (subst (λ (cs : List Clause). DenoteAll cells number cs all) (one_grammar at h.3) denoted) h.4 in
+    let same : all ≡ h.1 = denote_all_one (subst (λ (cs : List Clause). DenoteAll cells number cs all) (one_grammar cells i clauses h.0 at h.3) denoted) h.4 in
     ap (λ a. a ∷ scopes) same ∙ ap (λ ss. h.1 ∷ ss) (scopes_once more h.5) ∙ sym h.6
 
 -- ---- the place of a node

@@ -90,39 +90,39 @@ pub record KeepsTables (old new : List Table) : Type 0 where
 pub joined_on : {cells : List Cell} {old new : List Join} {grammar : ℕ} {name : Defined} {number : ℕ} → KeepsJoins old new → IsJoined cells old grammar name number → IsJoined cells new grammar name number
 joined_on keeps h = record { clauses = h.clauses; is_grammar = h.is_grammar; is_defined = h.is_defined; join = h.join; there = keeps.stays _ _ h.there; bodies_are = h.bodies_are; combine_is = h.combine_is }
 
-joined_in_on : {cells : List Cell} {old new : List Join} {name : Defined} {number : ℕ} (outers : List ℕ) → KeepsJoins old new → IsJoinedIn cells old outers name number → IsJoinedIn cells new outers name number
-joined_in_on [] keeps h = h
-joined_in_on (grammar ∷ outers) keeps h = joined_on keeps h
+joined_in_on : {old new : List Join} (cells : List Cell) (name : Defined) (number : ℕ) (outers : List ℕ) → KeepsJoins old new → IsJoinedIn cells old outers name number → IsJoinedIn cells new outers name number
+joined_in_on cells name number [] keeps h = h
+joined_in_on cells name number (grammar ∷ outers) keeps h = joined_on keeps h
 
-joined_outside_on : {cells : List Cell} {old new : List Join} {name : Defined} {number : ℕ} (outers : List ℕ) → KeepsJoins old new → IsJoinedOutside cells old outers name number → IsJoinedOutside cells new outers name number
-joined_outside_on [] keeps h = h
-joined_outside_on (inner ∷ outers) keeps h = joined_in_on outers keeps h
+joined_outside_on : {old new : List Join} (cells : List Cell) (name : Defined) (number : ℕ) (outers : List ℕ) → KeepsJoins old new → IsJoinedOutside cells old outers name number → IsJoinedOutside cells new outers name number
+joined_outside_on cells name number [] keeps h = h
+joined_outside_on cells name number (inner ∷ outers) keeps h = joined_in_on cells name number outers keeps h
 
-kept_on : {cells : List Cell} {old new : List Join} {grammar : ℕ} {clauses : List Clause} {name : Defined} (kept : Option ℕ) → KeepsJoins old new → IsKept cells old grammar clauses name kept → IsKept cells new grammar clauses name kept
-kept_on None keeps h = h
-kept_on (Some number) keeps h = joined_on keeps h
+kept_on : {old new : List Join} (cells : List Cell) (grammar : ℕ) (clauses : List Clause) (name : Defined) (kept : Option ℕ) → KeepsJoins old new → IsKept cells old grammar clauses name kept → IsKept cells new grammar clauses name kept
+kept_on cells grammar clauses name None keeps h = h
+kept_on cells grammar clauses name (Some number) keeps h = joined_on keeps h
 
 table_on : {cells : List Cell} {old new : List Join} {grammar : ℕ} {names : Names ℕ} → KeepsJoins old new → IsTable cells old grammar names → IsTable cells new grammar names
-table_on {names = names} keeps h = record { clauses = h.clauses; is_grammar = h.is_grammar; kept = λ name. kept_on (kept_for names name) keeps (h.kept name) }
+table_on {cells = cells} {grammar = grammar} {names = names} keeps h = record { clauses = h.clauses; is_grammar = h.is_grammar; kept = λ name. kept_on cells grammar h.clauses name (kept_for names name) keeps (h.kept name) }
 
 pub scope_on : {cells : List Cell} {old new : List Join} {before after : List Table} {scope : Scope} {outers : List ℕ} → KeepsJoins old new → KeepsTables before after → IsScope cells old before scope outers → IsScope cells new after scope outers
 scope_on joins tables outside = outside
 scope_on joins tables (inside at table more) = inside (tables.stays _ _ at) (table_on joins table) (scope_on joins tables more)
 
-taken_on : {cells : List Cell} {old new : List Join} {outers : List ℕ} {i link : ℕ} (c : Cell) → KeepsJoins old new → IsTaken cells old outers i link c → IsTaken cells new outers i link c
-taken_on (cell.element class part) keeps h = tt
-taken_on (cell.attribute class part) keeps h = tt
-taken_on (cell.listed part) keeps h = tt
-taken_on {outers = outers} (cell.ref name) keeps h = joined_in_on outers keeps h
-taken_on {outers = outers} (cell.parent_ref name) keeps h = joined_outside_on outers keeps h
-taken_on cell.empty keeps h = tt
-taken_on cell.any_text keeps h = tt
-taken_on cell.not_allowed keeps h = tt
-taken_on (cell.value type text) keeps h = tt
-taken_on (cell.typed type params part) keeps h = tt
-taken_on (cell.grammar clauses) keeps h = (joined_on keeps h.0, h.1)
-taken_on (cell.one_or_more part) keeps h = tt
-taken_on (cell.joined sign first second) keeps h = tt
+taken_on : {old new : List Join} (cells : List Cell) (outers : List ℕ) (i link : ℕ) (c : Cell) → KeepsJoins old new → IsTaken cells old outers i link c → IsTaken cells new outers i link c
+taken_on cells outers i link (cell.element class part) keeps h = tt
+taken_on cells outers i link (cell.attribute class part) keeps h = tt
+taken_on cells outers i link (cell.listed part) keeps h = tt
+taken_on cells outers i link (cell.ref name) keeps h = joined_in_on cells (defined.Name name) link outers keeps h
+taken_on cells outers i link (cell.parent_ref name) keeps h = joined_outside_on cells (defined.Name name) link outers keeps h
+taken_on cells outers i link cell.empty keeps h = tt
+taken_on cells outers i link cell.any_text keeps h = tt
+taken_on cells outers i link cell.not_allowed keeps h = tt
+taken_on cells outers i link (cell.value type text) keeps h = tt
+taken_on cells outers i link (cell.typed type params part) keeps h = tt
+taken_on cells outers i link (cell.grammar clauses) keeps h = (joined_on keeps h.0, h.1)
+taken_on cells outers i link (cell.one_or_more part) keeps h = tt
+taken_on cells outers i link (cell.joined sign first second) keeps h = tt
 
 -- ---- one more node
 
@@ -179,9 +179,9 @@ next_posted {cells = cells} {root = root} {i = i} {c = c} {outers = outers} {sco
     ]
 
 -- a node that stands there again is the same
-same_taken : {cells : List Cell} {root i : ℕ} {c : Cell} {outers : List ℕ} {joins : List Join} {links : List ℕ} → AreWellFormed cells root → IsCell cells i c → Stands cells root outers i → IsTaken cells joins outers i (get_or links i 0) c → (others : List ℕ) (k : ℕ) (d : Cell) → k ≡ i → Stands cells root others k → IsCell cells k d → IsTaken cells joins others k (get_or links k 0) d
-same_taken {cells = cells} {root = root} {i = i} {c = c} {outers = outers} {joins = joins} {links = links} formed at stands taken others k d is standing at_k =
-    let same_cell : c ≡ d = one_cell at (subst (λ m. IsCell cells m d) is at_k) in
+same_taken : {cells : List Cell} {root i : ℕ} {c : Cell} {outers : List ℕ} (joins : List Join) (links : List ℕ) → AreWellFormed cells root → IsCell cells i c → Stands cells root outers i → IsTaken cells joins outers i (get_or links i 0) c → (others : List ℕ) (k : ℕ) (d : Cell) → k ≡ i → Stands cells root others k → IsCell cells k d → IsTaken cells joins others k (get_or links k 0) d
+same_taken {cells = cells} {root = root} {i = i} {c = c} {outers = outers} joins links formed at stands taken others k d is standing at_k =
+    let same_cell : c ≡ d = one_cell cells i c d at (subst (λ m. IsCell cells m d) is at_k) in
     let same_outers : outers ≡ others = stands_once formed stands (subst (λ m. Stands cells root others m) is standing) in
     subst (λ m. IsTaken cells joins others m (get_or links m 0) d) (sym is)
     (subst (λ (e : Cell). IsTaken cells joins others i (get_or links i 0) e) same_cell
@@ -197,15 +197,15 @@ next_taken {cells = cells} {root = root} {i = i} {c = c} {outers = outers} {scop
       root_known = known root (given_keeps (inner_nodes c) scope old.scopes root next.some midway.root_known);
       inner_known = λ k j d le standing at_k inner. elim (cases_eq k i) [
         inl is ↦
-          let same : d ≡ c = one_cell (subst (λ m. IsCell cells m d) is at_k) at in
+          let same : d ≡ c = one_cell cells i d c (subst (λ m. IsCell cells m d) is at_k) at in
           let among : Contains (inner_nodes c) j = subst (λ (e : Cell). Contains (inner_nodes e) j) same inner in
           let below = formed.inner_below i j c at among in
           known j (given_some (inner_nodes c) scope old.scopes j next.some among (omega (arith, below, slice_get_within cells i c at, midway.all_scopes)))
       | inr other ↦ known j (given_keeps (inner_nodes c) scope old.scopes j next.some (midway.inner_known k j d (omega (arith, le, other)) standing at_k inner))
       ];
       taken = λ others k d le standing at_k. elim (cases_eq k i) [
-        inl is ↦ same_taken formed at stands next.taken others k d is standing at_k
-      | inr other ↦ subst (λ link. IsTaken cells new.joins others k link d) (sym (next.other_links k other)) (taken_on d next.joins (midway.taken others k d (omega (arith, le, other)) standing at_k))
+        inl is ↦ same_taken new.joins new.links formed at stands next.taken others k d is standing at_k
+      | inr other ↦ subst (λ link. IsTaken cells new.joins others k link d) (sym (next.other_links k other)) (taken_on cells others k (get_or old.links k 0) d next.joins (midway.taken others k d (omega (arith, le, other)) standing at_k))
       ];
       each_join = next.each_join;
     }
@@ -253,16 +253,16 @@ abbrev pub IsUndefinedOutside : List Cell → List ℕ → List ℕ → Type 0
 IsUndefinedOutside cells [] name = Unit {0}
 IsUndefinedOutside cells (inner ∷ outers) name = IsUndefinedIn cells outers name
 
-grammar_lacks : {cells : List Cell} {number : ℕ → ℕ} {grammar : ℕ} {clauses others : List Clause} {all : Clauses} (name : Defined) → IsCell cells grammar (cell.grammar clauses) → DenoteAll cells number clauses all → IsCell cells grammar (cell.grammar others) → clauses_of name others ≡ [] → defines name all ≡ false
-grammar_lacks name at denoted again none = defined_none name denoted (ap (clauses_of name) (one_grammar at again) ∙ none)
+grammar_lacks : {cells : List Cell} {number : ℕ → ℕ} {clauses : List Clause} {all : Clauses} (grammar : ℕ) (others : List Clause) (name : Defined) → IsCell cells grammar (cell.grammar clauses) → DenoteAll cells number clauses all → IsCell cells grammar (cell.grammar others) → clauses_of name others ≡ [] → defines name all ≡ false
+grammar_lacks {cells = cells} {clauses = clauses} grammar others name at denoted again none = defined_none name denoted (ap (clauses_of name) (one_grammar cells grammar clauses others at again) ∙ none)
 
 undefined_here : {cells : List Cell} {number : ℕ → ℕ} {outers : List ℕ} {scopes : List Clauses} (name : List ℕ) → AreScopes cells number outers scopes → IsUndefinedIn cells outers name → IsUndefined scopes (composed.ref name)
 undefined_here name standing.no_scopes h = tt
-undefined_here name (standing.further_scope at denoted more) h = grammar_lacks (defined.Name name) at denoted h.1 h.2
+undefined_here name (standing.further_scope {i = grammar} at denoted more) h = grammar_lacks grammar h.0 (defined.Name name) at denoted h.1 h.2
 
 undefined_around : {cells : List Cell} {number : ℕ → ℕ} {outers : List ℕ} {scopes : List Clauses} (name : List ℕ) (inner : Clauses) → AreScopes cells number outers scopes → IsUndefinedIn cells outers name → IsUndefined (inner ∷ scopes) (composed.parent_ref name)
 undefined_around name inner standing.no_scopes h = tt
-undefined_around name inner (standing.further_scope at denoted more) h = grammar_lacks (defined.Name name) at denoted h.1 h.2
+undefined_around name inner (standing.further_scope {i = grammar} at denoted more) h = grammar_lacks grammar h.0 (defined.Name name) at denoted h.1 h.2
 
 undefined_outside : {cells : List Cell} {number : ℕ → ℕ} {outers : List ℕ} {scopes : List Clauses} (name : List ℕ) → AreScopes cells number outers scopes → IsUndefinedOutside cells outers name → IsUndefined scopes (composed.parent_ref name)
 undefined_outside name standing.no_scopes h = tt
@@ -305,39 +305,50 @@ abbrev FindsOutside : List Cell → List Join → List ℕ → List ℕ → Opti
 FindsOutside cells joins outers name (Some number) = IsJoinedOutside cells joins outers (defined.Name name) number
 FindsOutside cells joins outers name None = IsUndefinedOutside cells outers name
 
-finds_kept : {cells : List Cell} {joins : List Join} {grammar : ℕ} {clauses : List Clause} {outers : List ℕ} (name : List ℕ) (kept : Option ℕ) → IsCell cells grammar (cell.grammar clauses) → IsKept cells joins grammar clauses (defined.Name name) kept → FindsIn cells joins (grammar ∷ outers) name kept
-finds_kept name (Some number) at h = h
-finds_kept {clauses = clauses} name None at h = (clauses, at, h)
+finds_kept : (cells : List Cell) (joins : List Join) (grammar : ℕ) (clauses : List Clause) (outers : List ℕ) (name : List ℕ) (kept : Option ℕ) → IsCell cells grammar (cell.grammar clauses) → IsKept cells joins grammar clauses (defined.Name name) kept → FindsIn cells joins (grammar ∷ outers) name kept
+finds_kept cells joins grammar clauses outers name (Some number) at h = h
+finds_kept cells joins grammar clauses outers name None at h = (clauses, at, h)
 
 pub finds_in : {cells : List Cell} {joins : List Join} {tables : List Table} {scope : Scope} {outers : List ℕ} (name : List ℕ) → IsScope cells joins tables scope outers → FindsIn cells joins outers name (join_in tables scope name)
 finds_in name outside = tt
 finds_in {cells = cells} {joins = joins} name (inside {grammar = grammar} {table = table} {outers = outers} at is_table more) =
     subst (λ (found : Option Table). FindsIn cells joins (grammar ∷ outers) name (join_of_table name found)) (sym at)
-    (finds_kept name (kept_named table.joins name) is_table.is_grammar (is_table.kept (defined.Name name)))
+    (finds_kept cells joins grammar is_table.clauses outers name (kept_named table.joins name) is_table.is_grammar (is_table.kept (defined.Name name)))
 
-finds_around : {cells : List Cell} {joins : List Join} {outers : List ℕ} (inner : ℕ) (name : List ℕ) (found : Option ℕ) → FindsIn cells joins outers name found → FindsOutside cells joins (inner ∷ outers) name found
-finds_around inner name (Some number) h = h
-finds_around inner name None h = h
+finds_around : (cells : List Cell) (joins : List Join) (outers : List ℕ) (inner : ℕ) (name : List ℕ) (found : Option ℕ) → FindsIn cells joins outers name found → FindsOutside cells joins (inner ∷ outers) name found
+finds_around cells joins outers inner name (Some number) h = h
+finds_around cells joins outers inner name None h = h
 
 pub finds_outside : {cells : List Cell} {joins : List Join} {tables : List Table} {scope : Scope} {outers : List ℕ} (name : List ℕ) → IsScope cells joins tables scope outers → FindsOutside cells joins outers name (join_in tables (outer_in tables scope) name)
 finds_outside name outside = tt
 finds_outside {cells = cells} {joins = joins} {tables = tables} name (inside {grammar = grammar} {table = table} {outers = outers} at is_table more) =
     subst (λ (found : Option Table). FindsOutside cells joins (grammar ∷ outers) name (join_in tables (outer_of found) name)) (sym at)
-    (finds_around grammar name (join_in tables table.outer name) (finds_in name more))
+    (finds_around cells joins outers grammar name (join_in tables table.outer name) (finds_in name more))
 
 -- ---- one more node, by its cell
 
+keeps_all_joins : (joins : List Join) → KeepsJoins joins joins
+keeps_all_joins joins = record { stays = λ number join h. h }
+
+keeps_all_tables : (tables : List Table) → KeepsTables tables tables
+keeps_all_tables tables = record { stays = λ k table h. h }
+
+keeps_first : (old new : List Join) → KeepsFirst (length old) old new → KeepsJoins old new
+keeps_first old new kept = record { stays = λ number join h. kept number (slice_get_within old number join h) ∙ h }
+
+gathered_kept : (cells : List Cell) (i : ℕ) (joins : List Join) (clauses : List Clause) (first : ℕ) (name : Defined) (kept : Option ℕ) → IsCell cells i (cell.grammar clauses) → IsGatheredAs first clauses joins name kept → IsKept cells joins i clauses name kept
+gathered_kept cells i joins clauses first name None at h = h
+gathered_kept cells i joins clauses first name (Some number) at h =
+    record { clauses = clauses; is_grammar = at; is_defined = h.3.some; join = h.0; there = h.2; bodies_are = h.3.bodies_are; combine_is = h.3.signs.combine_is }
+
+no_clash_as : (joins : List Join) (clauses : List Clause) (first : ℕ) (name : Defined) (kept : Option ℕ) → IsGatheredAs first clauses joins name kept → clash (combines_of (clauses_of name clauses)) ≡ false
+no_clash_as joins clauses first name None h = ap (λ (cs : List Clause). clash (combines_of cs)) h
+no_clash_as joins clauses first name (Some number) h = h.3.signs.no_clash
+
+old_join : {cells : List Cell} {root : ℕ} {old new : List Join} {number : ℕ} → KeepsJoins old new → IsOfGrammar cells root old number → IsOfGrammar cells root new number
+old_join keeps h = record { grammar = h.grammar; name = h.name; stands = h.stands; joined = joined_on keeps h.joined }
+
 module _ {cells : List Cell} {root i : ℕ} where
-  -- nothing new
-  abbrev Same : Findings → Cell → List ℕ → Scope → Findings → Type 0
-  Same old c outers scope new = IsNext cells root i c outers scope old new
-
-  keeps_all_joins : (joins : List Join) → KeepsJoins joins joins
-  keeps_all_joins joins = record { stays = λ number join h. h }
-
-  keeps_all_tables : (tables : List Table) → KeepsTables tables tables
-  keeps_all_tables tables = record { stays = λ k table h. h }
-
   -- a node that is neither a reference nor a grammar
   plain_taken : {old new : Findings} {scope : Scope} (c : Cell) → ((outers : List ℕ) → within c i outers ≡ outers) → ((joins : List Join) (outers : List ℕ) (link : ℕ) → IsTaken cells joins outers i link c) → AreWellFormed cells root → IsMidway cells root (i + 1) old → IsCell cells i c → IsPosted cells root old scope i → scope ≢ Nowhere → new ≡ with_given (inner_nodes c) scope old → IsMidway cells root i new
   plain_taken {old = old} {scope = scope} c same nothing formed midway at posted some is =
@@ -369,45 +380,30 @@ module _ {cells : List Cell} {root i : ℕ} where
         each_join = midway.each_join;
       })
 
-  ref_taken : {A : Type 0} {old new : Findings} {scope : Scope} (name : List ℕ) → AreWellFormed cells root → IsMidway cells root (i + 1) old → IsCell cells i (cell.ref name) → (posted : IsPosted cells root old scope i) → scope ≢ Nowhere → (found : Option ℕ) → FindsIn cells old.joins posted.outers name found → (result : Result A SchemaFault) → Links i found old new result → OkOrRefused cells root (λ done. IsMidway cells root i new) result
-  ref_taken name formed midway at posted some (Some number) finds (Ok done) is =
+  ref_taken : {A : Type 0} {old : Findings} {scope : Scope} (new : Findings) (name : List ℕ) → AreWellFormed cells root → IsMidway cells root (i + 1) old → IsCell cells i (cell.ref name) → (posted : IsPosted cells root old scope i) → scope ≢ Nowhere → (found : Option ℕ) → FindsIn cells old.joins posted.outers name found → (result : Result A SchemaFault) → Links i found old new result → OkOrRefused cells root (λ done. IsMidway cells root i new) result
+  ref_taken new name formed midway at posted some (Some number) finds (Ok done) is =
       subst (λ (f : Findings). IsMidway cells root i f) (sym is) (linked (cell.ref name) number (λ outers. refl) refl formed midway at posted some finds)
-  ref_taken name formed midway at posted some (Some number) finds (Err fault) is = absurd is
-  ref_taken name formed midway at posted some None finds (Ok done) is = absurd is
-  ref_taken name formed midway at posted some None finds (Err (Unreadable cause.NoDefinition)) is = ref_refused at posted.stands finds
-  ref_taken name formed midway at posted some None finds (Err fault) is = absurd is
+  ref_taken new name formed midway at posted some (Some number) finds (Err fault) is = absurd is
+  ref_taken new name formed midway at posted some None finds (Ok done) is = absurd is
+  ref_taken new name formed midway at posted some None finds (Err (Unreadable cause.NoDefinition)) is = ref_refused at posted.stands finds
+  ref_taken new name formed midway at posted some None finds (Err fault) is = absurd is
 
-  parent_ref_taken : {A : Type 0} {old new : Findings} {scope : Scope} (name : List ℕ) → AreWellFormed cells root → IsMidway cells root (i + 1) old → IsCell cells i (cell.parent_ref name) → (posted : IsPosted cells root old scope i) → scope ≢ Nowhere → (found : Option ℕ) → FindsOutside cells old.joins posted.outers name found → (result : Result A SchemaFault) → Links i found old new result → OkOrRefused cells root (λ done. IsMidway cells root i new) result
-  parent_ref_taken name formed midway at posted some (Some number) finds (Ok done) is =
+  parent_ref_taken : {A : Type 0} {old : Findings} {scope : Scope} (new : Findings) (name : List ℕ) → AreWellFormed cells root → IsMidway cells root (i + 1) old → IsCell cells i (cell.parent_ref name) → (posted : IsPosted cells root old scope i) → scope ≢ Nowhere → (found : Option ℕ) → FindsOutside cells old.joins posted.outers name found → (result : Result A SchemaFault) → Links i found old new result → OkOrRefused cells root (λ done. IsMidway cells root i new) result
+  parent_ref_taken new name formed midway at posted some (Some number) finds (Ok done) is =
       subst (λ (f : Findings). IsMidway cells root i f) (sym is) (linked (cell.parent_ref name) number (λ outers. refl) refl formed midway at posted some finds)
-  parent_ref_taken name formed midway at posted some (Some number) finds (Err fault) is = absurd is
-  parent_ref_taken name formed midway at posted some None finds (Ok done) is = absurd is
-  parent_ref_taken name formed midway at posted some None finds (Err (Unreadable cause.NoDefinition)) is = parent_ref_refused at posted.stands finds
-  parent_ref_taken name formed midway at posted some None finds (Err fault) is = absurd is
+  parent_ref_taken new name formed midway at posted some (Some number) finds (Err fault) is = absurd is
+  parent_ref_taken new name formed midway at posted some None finds (Ok done) is = absurd is
+  parent_ref_taken new name formed midway at posted some None finds (Err (Unreadable cause.NoDefinition)) is = parent_ref_refused at posted.stands finds
+  parent_ref_taken new name formed midway at posted some None finds (Err fault) is = absurd is
 
   -- a grammar
-  keeps_first : {old new : List Join} → KeepsFirst (length old) old new → KeepsJoins old new
-  keeps_first {old = old} kept = record { stays = λ number join h. kept number (slice_get_within old number join h) ∙ h }
-
-  gathered_kept : {joins : List Join} {clauses : List Clause} {first : ℕ} {name : Defined} (kept : Option ℕ) → IsCell cells i (cell.grammar clauses) → IsGatheredAs first clauses joins name kept → IsKept cells joins i clauses name kept
-  gathered_kept None at h = h
-  gathered_kept {clauses = clauses} (Some number) at h =
-      record { clauses = clauses; is_grammar = at; is_defined = h.3.some; join = h.0; there = h.2; bodies_are = h.3.bodies_are; combine_is = h.3.signs.combine_is }
-
-  no_clash_as : {joins : List Join} {clauses : List Clause} {first : ℕ} {name : Defined} (kept : Option ℕ) → IsGatheredAs first clauses joins name kept → clash (combines_of (clauses_of name clauses)) ≡ false
-  no_clash_as None h = ap (λ cs. clash (combines_of cs)) h
-  no_clash_as (Some number) h = h.3.signs.no_clash
-
-  old_join : {old new : List Join} {number : ℕ} → KeepsJoins old new → IsOfGrammar cells root old number → IsOfGrammar cells root new number
-  old_join keeps h = record { grammar = h.grammar; name = h.name; stands = h.stands; joined = joined_on keeps h.joined }
-
   grammar_next : {old new : Findings} {scope : Scope} (clauses : List Clause) → IsMidway cells root (i + 1) old → IsCell cells i (cell.grammar clauses) → (posted : IsPosted cells root old scope i) → HasTable i scope clauses old new → IsNext cells root i (cell.grammar clauses) posted.outers (In (length old.tables)) old new
   grammar_next {old = old} {new = new} {scope = scope} clauses midway at posted h =
       let lt : i < length old.links = omega (arith, slice_get_within cells i (cell.grammar clauses) at, midway.all_links) in
-      let joins = keeps_first h.kept in
+      let joins = keeps_first old.joins new.joins h.kept in
       let table : Table = record { outer = scope; joins = h.names } in
       let tables : KeepsTables old.tables new.tables = record { stays = λ k t there. ap (λ (ts : List Table). slice_get ts k) h.tables_are ∙ stays_behind old.tables (table ∷ []) k t there } in
-      let kept : (name : Defined) → IsKept cells new.joins i clauses name (kept_for h.names name) = λ name. gathered_kept (kept_for h.names name) at (h.gathered.gathered name) in
+      let kept : (name : Defined) → IsKept cells new.joins i clauses name (kept_for h.names name) = λ name. gathered_kept cells i new.joins clauses (length old.joins) name (kept_for h.names name) at (h.gathered.gathered name) in
       record {
         some = λ e. absurd cc;
         scopes_are = h.scopes_are;
@@ -419,7 +415,7 @@ module _ {cells : List Cell} {root i : ℕ} where
         taken = (
           subst (λ link. IsJoined cells new.joins i defined.Start link) (sym (ap (λ (ls : List ℕ). get_or ls i 0) h.links_are ∙ get_or-set_same old.links i h.start 0 lt))
           (subst (λ (k : Option ℕ). IsKept cells new.joins i clauses defined.Start k) h.start_is (kept defined.Start)),
-          λ name. no_clash_as (kept_for h.names name) (h.gathered.gathered name),
+          λ name. no_clash_as new.joins clauses (length old.joins) name (kept_for h.names name) (h.gathered.gathered name),
         );
         each_join = λ number within. elim (cases_lt number (length old.joins)) [
           inl before ↦ old_join joins (midway.each_join number before)
@@ -429,26 +425,26 @@ module _ {cells : List Cell} {root i : ℕ} where
         ];
       }
 
-  grammar_taken : {A : Type 0} {old new : Findings} {scope : Scope} (clauses : List Clause) → AreWellFormed cells root → IsMidway cells root (i + 1) old → IsCell cells i (cell.grammar clauses) → IsPosted cells root old scope i → (result : Result A SchemaFault) → TakesGrammar i scope clauses old new result → OkOrRefused cells root (λ done. IsMidway cells root i new) result
-  grammar_taken clauses formed midway at posted (Ok done) h = next_taken formed midway at posted.stands (grammar_next clauses midway at posted h)
-  grammar_taken clauses formed midway at posted (Err NoMemory) h = tt
-  grammar_taken clauses formed midway at posted (Err (Unreadable cause.NoStart)) h = start_refused at posted.stands h
-  grammar_taken clauses formed midway at posted (Err (Unreadable cause.CombineClash)) h = clash_refused h.0 at posted.stands h.1
-  grammar_taken clauses formed midway at posted (Err other) h = absurd h
+  grammar_taken : {A : Type 0} {old : Findings} {scope : Scope} (new : Findings) (clauses : List Clause) → AreWellFormed cells root → IsMidway cells root (i + 1) old → IsCell cells i (cell.grammar clauses) → IsPosted cells root old scope i → (result : Result A SchemaFault) → TakesGrammar i scope clauses old new result → OkOrRefused cells root (λ done. IsMidway cells root i new) result
+  grammar_taken new clauses formed midway at posted (Ok done) h = next_taken formed midway at posted.stands (grammar_next clauses midway at posted h)
+  grammar_taken new clauses formed midway at posted (Err NoMemory) h = tt
+  grammar_taken new clauses formed midway at posted (Err (Unreadable cause.NoStart)) h = start_refused at posted.stands h
+  grammar_taken new clauses formed midway at posted (Err (Unreadable cause.CombineClash)) h = clash_refused h.0 at posted.stands h.1
+  grammar_taken new clauses formed midway at posted (Err other) h = absurd h
 
   -- any node that stands in the schema
-  pub cell_taken : {A : Type 0} {old new : Findings} {scope : Scope} (c : Cell) → AreWellFormed cells root → IsMidway cells root (i + 1) old → IsCell cells i c → IsPosted cells root old scope i → scope ≢ Nowhere → (result : Result A SchemaFault) → TakesCell i scope c old new result → OkOrRefused cells root (λ done. IsMidway cells root i new) result
-  cell_taken (cell.ref name) formed midway at posted some result h = ref_taken name formed midway at posted some _ (finds_in name posted.is_scope) result h
-  cell_taken (cell.parent_ref name) formed midway at posted some result h = parent_ref_taken name formed midway at posted some _ (finds_outside name posted.is_scope) result h
-  cell_taken (cell.grammar clauses) formed midway at posted some result h = grammar_taken clauses formed midway at posted result h
-  cell_taken (cell.element class part) formed midway at posted some (Ok done) h = plain_taken (cell.element class part) (λ outers. refl) (λ joins outers link. tt) formed midway at posted some h
-  cell_taken (cell.attribute class part) formed midway at posted some (Ok done) h = plain_taken (cell.attribute class part) (λ outers. refl) (λ joins outers link. tt) formed midway at posted some h
-  cell_taken (cell.listed part) formed midway at posted some (Ok done) h = plain_taken (cell.listed part) (λ outers. refl) (λ joins outers link. tt) formed midway at posted some h
-  cell_taken cell.empty formed midway at posted some (Ok done) h = plain_taken cell.empty (λ outers. refl) (λ joins outers link. tt) formed midway at posted some h
-  cell_taken cell.any_text formed midway at posted some (Ok done) h = plain_taken cell.any_text (λ outers. refl) (λ joins outers link. tt) formed midway at posted some h
-  cell_taken cell.not_allowed formed midway at posted some (Ok done) h = plain_taken cell.not_allowed (λ outers. refl) (λ joins outers link. tt) formed midway at posted some h
-  cell_taken (cell.value type text) formed midway at posted some (Ok done) h = plain_taken (cell.value type text) (λ outers. refl) (λ joins outers link. tt) formed midway at posted some h
-  cell_taken (cell.typed type params part) formed midway at posted some (Ok done) h = plain_taken (cell.typed type params part) (λ outers. refl) (λ joins outers link. tt) formed midway at posted some h
-  cell_taken (cell.one_or_more part) formed midway at posted some (Ok done) h = plain_taken (cell.one_or_more part) (λ outers. refl) (λ joins outers link. tt) formed midway at posted some h
-  cell_taken (cell.joined sign first second) formed midway at posted some (Ok done) h = plain_taken (cell.joined sign first second) (λ outers. refl) (λ joins outers link. tt) formed midway at posted some h
-  cell_taken c formed midway at posted some (Err fault) h = absurd h
+  pub cell_taken : {A : Type 0} {old : Findings} {scope : Scope} (new : Findings) (c : Cell) → AreWellFormed cells root → IsMidway cells root (i + 1) old → IsCell cells i c → IsPosted cells root old scope i → scope ≢ Nowhere → (result : Result A SchemaFault) → TakesCell i scope c old new result → OkOrRefused cells root (λ done. IsMidway cells root i new) result
+  cell_taken new (cell.ref name) formed midway at posted some result h = ref_taken new name formed midway at posted some _ (finds_in name posted.is_scope) result h
+  cell_taken new (cell.parent_ref name) formed midway at posted some result h = parent_ref_taken new name formed midway at posted some _ (finds_outside name posted.is_scope) result h
+  cell_taken new (cell.grammar clauses) formed midway at posted some result h = grammar_taken new clauses formed midway at posted result h
+  cell_taken new (cell.element class part) formed midway at posted some (Ok done) h = plain_taken (cell.element class part) (λ outers. refl) (λ joins outers link. tt) formed midway at posted some h
+  cell_taken new (cell.attribute class part) formed midway at posted some (Ok done) h = plain_taken (cell.attribute class part) (λ outers. refl) (λ joins outers link. tt) formed midway at posted some h
+  cell_taken new (cell.listed part) formed midway at posted some (Ok done) h = plain_taken (cell.listed part) (λ outers. refl) (λ joins outers link. tt) formed midway at posted some h
+  cell_taken new cell.empty formed midway at posted some (Ok done) h = plain_taken cell.empty (λ outers. refl) (λ joins outers link. tt) formed midway at posted some h
+  cell_taken new cell.any_text formed midway at posted some (Ok done) h = plain_taken cell.any_text (λ outers. refl) (λ joins outers link. tt) formed midway at posted some h
+  cell_taken new cell.not_allowed formed midway at posted some (Ok done) h = plain_taken cell.not_allowed (λ outers. refl) (λ joins outers link. tt) formed midway at posted some h
+  cell_taken new (cell.value type text) formed midway at posted some (Ok done) h = plain_taken (cell.value type text) (λ outers. refl) (λ joins outers link. tt) formed midway at posted some h
+  cell_taken new (cell.typed type params part) formed midway at posted some (Ok done) h = plain_taken (cell.typed type params part) (λ outers. refl) (λ joins outers link. tt) formed midway at posted some h
+  cell_taken new (cell.one_or_more part) formed midway at posted some (Ok done) h = plain_taken (cell.one_or_more part) (λ outers. refl) (λ joins outers link. tt) formed midway at posted some h
+  cell_taken new (cell.joined sign first second) formed midway at posted some (Ok done) h = plain_taken (cell.joined sign first second) (λ outers. refl) (λ joins outers link. tt) formed midway at posted some h
+  cell_taken new c formed midway at posted some (Err fault) h = absurd h

@@ -1,16 +1,14 @@
 -- How definitions of one name are joined, with one more of them.
-use Rattle.std.proofs.Common.{◌≡◌, ◌≢◌, refl, sym, ap, ◌∙◌, subst, ℕ, zero, suc, ◌+◌, ◌<◌, ◌≤◌, inl, inr, ◌⊎◌, Bool, true, false, cond, List, [], ◌∷◌, ◌++◌, length, Result, Ok, Err, arith, length-append}
+use Rattle.std.proofs.Common.{◌≡◌, ◌≢◌, refl, sym, ap, ◌∙◌, subst, ℕ, zero, suc, ◌+◌, ◌<◌, ◌≤◌, inl, inr, ◌⊎◌, Bool, true, false, cond, List, [], ◌∷◌, ◌++◌, length, Option, Some, None, arith, length-append}
 use Rattle.std.specs.Prelude.{◌&&◌, ◌||◌, nat_lt, filter}
 use Rattle.std.specs.List.{list_any}
 use Rattle.std.proofs.lemmas.List.Folds.{list_any-append}
 use Rattle.std.proofs.lemmas.List.{append-nil}
+use Rattle.std.proofs.lemmas.Bool.{false≢true}
 use Rattle.std.proofs.lemmas.List.Elements.{filter-append}
-use Rattle.nx_base.specs.declared.cause.Cause.{Cause}
-use Rattle.nx_base.specs.declared.cause.Cause.TheVariants as cause
 use Rattle.rnc_parse.specs.declared.surface.Combine.{Combine}
 use Rattle.rnc_parse.specs.declared.surface.Combine.TheVariants as combine
-use Rattle.rng_simplify.specs.declared.fault.SchemaFault.{SchemaFault}
-use Rattle.rng_simplify.specs.declared.fault.SchemaFault.TheVariants.{NoMemory, Unreadable}
+use Rattle.std.proofs.lemmas.Option.{same_Some}
 use Rattle.rng_simplify.specs.declared.resolve.Join.{Join}
 use Rattle.rng_simplify.specs.Broken.{clash, is_alone, is_choice, is_interleave}
 use Rattle.rng_simplify.specs.Forms.{combine_of}
@@ -48,19 +46,16 @@ says_next (combine.Alone ∷ more) c = says_next more c
 says_next (combine.Choice ∷ more) c = refl
 says_next (combine.Interleave ∷ more) c = refl
 
-same_ok : {x y : Combine} → Ok {T = Combine} {E = SchemaFault} x ≡ Ok y → x ≡ y
-same_ok e = cc
-
-ok_says : (before c after : Combine) → both_say before c ≡ Ok after → then_says before c ≡ after
-ok_says combine.Alone combine.Alone after h = same_ok h
-ok_says combine.Alone combine.Choice after h = same_ok h
-ok_says combine.Alone combine.Interleave after h = same_ok h
-ok_says combine.Choice combine.Alone after h = same_ok h
-ok_says combine.Choice combine.Choice after h = same_ok h
+ok_says : (before c after : Combine) → both_say before c ≡ Some after → then_says before c ≡ after
+ok_says combine.Alone combine.Alone after h = same_Some _ _ h
+ok_says combine.Alone combine.Choice after h = same_Some _ _ h
+ok_says combine.Alone combine.Interleave after h = same_Some _ _ h
+ok_says combine.Choice combine.Alone after h = same_Some _ _ h
+ok_says combine.Choice combine.Choice after h = same_Some _ _ h
 ok_says combine.Choice combine.Interleave after h = absurd cc
-ok_says combine.Interleave combine.Alone after h = same_ok h
+ok_says combine.Interleave combine.Alone after h = same_Some _ _ h
 ok_says combine.Interleave combine.Choice after h = absurd cc
-ok_says combine.Interleave combine.Interleave after h = same_ok h
+ok_says combine.Interleave combine.Interleave after h = same_Some _ _ h
 
 -- ---- tests
 
@@ -79,6 +74,10 @@ or_nothing false = refl
 and_right : (a : Bool) → (a && false) ≡ false
 and_right true = refl
 and_right false = refl
+
+and_true : (a : Bool) → (a && true) ≡ a
+and_true true = refl
+and_true false = refl
 
 any_alone_count : (all : List Combine) → nat_lt 0 (length (filter is_alone all)) ≡ list_any is_alone all
 any_alone_count [] = refl
@@ -120,10 +119,6 @@ no_choice m choice interleave combine.Alone h told other = told.0
 no_choice m choice interleave combine.Choice h told other = absurd (other refl)
 no_choice m choice interleave combine.Interleave h told other =
     sym (and_true choice) ∙ ap (λ b. choice && b) (sym told) ∙ (or_false m (choice && interleave) h).1
-  where
-    and_true : (b : Bool) → (b && true) ≡ b
-    and_true true = refl
-    and_true false = refl
 
 -- ---- one more definition
 
@@ -150,50 +145,55 @@ not_clashing all combine.Interleave h alone choice interleave =
     ∙ ap (λ b. clashes b (list_any is_choice all || false) (list_any is_interleave all || true)) (many_more all combine.Interleave refl ∙ parts.0)
     ∙ ap (λ b. (b || false) && (list_any is_interleave all || true)) none
 
-pub signs_added : (all : List Combine) (c : Combine) (old new : Join) → HasSigns all old → both_say old.combine c ≡ Ok new.combine → new.has_alone ≡ (old.has_alone || is_alone c) → (c ≡ combine.Alone → old.has_alone ≡ false) → HasSigns (all ++ c ∷ []) new
+pub signs_added : (all : List Combine) (c : Combine) (old new : Join) → HasSigns all old → both_say old.combine c ≡ Some new.combine → new.has_alone ≡ (old.has_alone || is_alone c) → (old.has_alone && is_alone c) ≡ false → HasSigns (all ++ c ∷ []) new
 signs_added all c old new signs both alone none = record {
   combine_is = sym (ok_says old.combine c new.combine both) ∙ ap (λ b. then_says b c) signs.combine_is ∙ sym (says_next all c);
   alone_is = alone ∙ ap (λ b. b || is_alone c) signs.alone_is ∙ ap (λ b. list_any is_alone all || b) (sym (or_nothing (is_alone c))) ∙ sym (list_any-append is_alone all (c ∷ []));
-  no_clash = not_clashing all c signs.no_clash (λ is. sym signs.alone_is ∙ none is)
+  no_clash = not_clashing all c signs.no_clash (λ is. sym signs.alone_is ∙ sym (and_true old.has_alone) ∙ ap (λ b. old.has_alone && is_alone b) (sym is) ∙ none)
     (λ is said. not_choice old.combine c new.combine both (signs.combine_is ∙ said) is)
     (λ is said. not_interleave old.combine c new.combine both (signs.combine_is ∙ said) is);
 }
   where
-    not_choice : (before c after : Combine) → both_say before c ≡ Ok after → before ≡ combine.Interleave → c ≡ combine.Choice → ⊥
+    not_choice : (before c after : Combine) → both_say before c ≡ Some after → before ≡ combine.Interleave → c ≡ combine.Choice → ⊥
     not_choice before c after both said is =
-        let both' : both_say combine.Interleave combine.Choice ≡ Ok after = ap (λ b. both_say b combine.Choice) (sym said) ∙ ap (both_say before) (sym is) ∙ both in
+        let both' : both_say combine.Interleave combine.Choice ≡ Some after = ap (λ b. both_say b combine.Choice) (sym said) ∙ ap (both_say before) (sym is) ∙ both in
         absurd cc
-    not_interleave : (before c after : Combine) → both_say before c ≡ Ok after → before ≡ combine.Choice → c ≡ combine.Interleave → ⊥
+    not_interleave : (before c after : Combine) → both_say before c ≡ Some after → before ≡ combine.Choice → c ≡ combine.Interleave → ⊥
     not_interleave before c after both said is =
-        let both' : both_say combine.Choice combine.Interleave ≡ Ok after = ap (λ b. both_say b combine.Interleave) (sym said) ∙ ap (both_say before) (sym is) ∙ both in
+        let both' : both_say combine.Choice combine.Interleave ≡ Some after = ap (λ b. both_say b combine.Interleave) (sym said) ∙ ap (both_say before) (sym is) ∙ both in
         absurd cc
 
 -- two say nothing
-pub both_alone_clash : (all : List Combine) (old : Join) → HasSigns all old → old.has_alone ≡ true → clash (all ++ combine.Alone ∷ []) ≡ true
-both_alone_clash all old signs alone =
+alone_clash : (all : List Combine) (old : Join) → HasSigns all old → old.has_alone ≡ true → clash (all ++ combine.Alone ∷ []) ≡ true
+alone_clash all old signs alone =
     clash_next all combine.Alone
     ∙ ap (λ b. clashes b (list_any is_choice all || false) (list_any is_interleave all || false)) (many_alone all ∙ any_alone_count all ∙ sym signs.alone_is ∙ alone)
 
+pub both_alone_clash : (all : List Combine) (c : Combine) (old : Join) → HasSigns all old → (old.has_alone && is_alone c) ≡ true → clash (all ++ c ∷ []) ≡ true
+both_alone_clash all combine.Alone old signs both = alone_clash all old signs (sym (and_true old.has_alone) ∙ both)
+both_alone_clash all combine.Choice old signs both = absurd (false≢true (sym (and_right old.has_alone) ∙ both))
+both_alone_clash all combine.Interleave old signs both = absurd (false≢true (sym (and_right old.has_alone) ∙ both))
+
 -- it is said in two ways
-two_ways_clash : (all : List Combine) (before c : Combine) (fault : SchemaFault) → Tells all before → both_say before c ≡ Err fault → clash (all ++ c ∷ []) ≡ true
-two_ways_clash all before combine.Alone fault h is = absurd cc
-two_ways_clash all combine.Alone combine.Choice fault h is = absurd cc
-two_ways_clash all combine.Alone combine.Interleave fault h is = absurd cc
-two_ways_clash all combine.Choice combine.Choice fault h is = absurd cc
-two_ways_clash all combine.Interleave combine.Interleave fault h is = absurd cc
-two_ways_clash all combine.Choice combine.Interleave fault h is =
+two_ways_clash : (all : List Combine) (before c : Combine) → Tells all before → both_say before c ≡ None → clash (all ++ c ∷ []) ≡ true
+two_ways_clash all before combine.Alone h is = absurd cc
+two_ways_clash all combine.Alone combine.Choice h is = absurd cc
+two_ways_clash all combine.Alone combine.Interleave h is = absurd cc
+two_ways_clash all combine.Choice combine.Choice h is = absurd cc
+two_ways_clash all combine.Interleave combine.Interleave h is = absurd cc
+two_ways_clash all combine.Choice combine.Interleave h is =
     clash_next all combine.Interleave
     ∙ ap (λ b. clashes (many (all ++ combine.Interleave ∷ [])) (b || false) (list_any is_interleave all || true)) h
     ∙ ap (λ b. many (all ++ combine.Interleave ∷ []) || b) (or_right (list_any is_interleave all))
     ∙ or_right (many (all ++ combine.Interleave ∷ []))
-two_ways_clash all combine.Interleave combine.Choice fault h is =
+two_ways_clash all combine.Interleave combine.Choice h is =
     clash_next all combine.Choice
     ∙ ap (λ b. clashes (many (all ++ combine.Choice ∷ [])) b (list_any is_interleave all || false)) (or_right (list_any is_choice all))
     ∙ ap (λ b. many (all ++ combine.Choice ∷ []) || (b || false)) h
     ∙ or_right (many (all ++ combine.Choice ∷ []))
 
-pub both_ways_clash : (all : List Combine) (c : Combine) (old : Join) (fault : SchemaFault) → HasSigns all old → both_say old.combine c ≡ Err fault → clash (all ++ c ∷ []) ≡ true
-both_ways_clash all c old fault signs is = two_ways_clash all (combine_of all) c fault (told all) (ap (λ b. both_say b c) (sym signs.combine_is) ∙ is)
+pub both_ways_clash : (all : List Combine) (c : Combine) (old : Join) → HasSigns all old → both_say old.combine c ≡ None → clash (all ++ c ∷ []) ≡ true
+both_ways_clash all c old signs is = two_ways_clash all (combine_of all) c (told all) (ap (λ b. both_say b c) (sym signs.combine_is) ∙ is)
 
 -- a definition alone
 pub signs_of_one : (c : Combine) (join : Join) → join.combine ≡ c → join.has_alone ≡ is_alone c → HasSigns (c ∷ []) join

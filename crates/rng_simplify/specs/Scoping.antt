@@ -1,6 +1,8 @@
 -- What is known while references are resolved: the nodes behind some number are taken, each with what stands around it.
-use Rattle.std.specs.Prelude.{◌≡◌, ◌≢◌, ℕ, ◌<◌, ◌≤◌, Bool, true, false, List, [], ◌∷◌, ◌++◌, length, set, slice_get, slice_index, slice_index_or, Option, Some, None, Result, Ok, Err, Contains}
+use Rattle.std.specs.Prelude.{◌≡◌, ◌≢◌, ℕ, ◌<◌, ◌≤◌, Bool, true, false, List, [], ◌∷◌, ◌++◌, length, set, replicate, slice_get, slice_index, slice_index_or, Option, Some, None, Result, Ok, Err, Contains, Vec}
 use Rattle.std.specs.List.{list_any}
+use Rattle.std.specs.declared.alloc.Global.{Global}
+use Rattle.rng_core.specs.Names.{Class}
 use Rattle.nx_base.specs.declared.cause.Cause.{Cause}
 use Rattle.nx_base.specs.declared.cause.Cause.TheVariants as cause
 use Rattle.rnc_parse.specs.declared.surface.Defined.{Defined}
@@ -13,7 +15,6 @@ use Rattle.rng_simplify.specs.declared.names.Names.{Names}
 use Rattle.rng_simplify.specs.declared.node.Clause.{Clause}
 use Rattle.rng_simplify.specs.declared.resolve.Join.{Join}
 use Rattle.rng_simplify.specs.declared.resolve.Table.{Table}
-use Rattle.rng_simplify.specs.declared.resolve.Resolved.{Resolved}
 use Rattle.rng_simplify.specs.declared.resolve.Resolver.{Resolver}
 use Rattle.rng_simplify.specs.declared.resolve.Scope.{Scope}
 use Rattle.rng_simplify.specs.declared.resolve.Scope.TheVariants.{Nowhere, Outside, In}
@@ -34,15 +35,15 @@ pub record HasSigns (combines : List Combine) (join : Join) : Type 0 where
   pub alone_is : join.has_alone ≡ list_any is_alone combines
   pub no_clash : clash combines ≡ false
 
--- what two say together
-abbrev pub both_say : Combine → Combine → Result Combine SchemaFault
-both_say before combine.Alone = Ok before
-both_say combine.Alone combine.Choice = Ok combine.Choice
-both_say combine.Alone combine.Interleave = Ok combine.Interleave
-both_say combine.Choice combine.Choice = Ok combine.Choice
-both_say combine.Choice combine.Interleave = Err (Unreadable cause.CombineClash)
-both_say combine.Interleave combine.Choice = Err (Unreadable cause.CombineClash)
-both_say combine.Interleave combine.Interleave = Ok combine.Interleave
+-- what two say together, if they don't say it in two ways
+abbrev pub both_say : Combine → Combine → Option Combine
+both_say before combine.Alone = Some before
+both_say combine.Alone combine.Choice = Some combine.Choice
+both_say combine.Alone combine.Interleave = Some combine.Interleave
+both_say combine.Choice combine.Choice = Some combine.Choice
+both_say combine.Choice combine.Interleave = None
+both_say combine.Interleave combine.Choice = None
+both_say combine.Interleave combine.Interleave = Some combine.Interleave
 
 -- one more definition in a join
 abbrev pub AddsTo : {A : Type 0} → Combine → ℕ → Join → Join → Result A SchemaFault → Type 0
@@ -98,7 +99,11 @@ pub record Findings : Type 0 where
   pub joins : List Join
 
 abbrev pub findings_of : Resolver → Findings
-findings_of resolver = record { tables = resolver.tables.items; scopes = resolver.found.scopes.items; links = resolver.found.links.items; joins = resolver.found.joins.items }
+findings_of resolver = record { tables = resolver.tables.items; scopes = resolver.scopes.items; links = resolver.links.items; joins = resolver.joins.items }
+
+-- nothing is known but that the root stands outside of all grammars
+abbrev pub findings_at_first : ℕ → ℕ → Findings
+findings_at_first count root = record { tables = []; scopes = set (replicate count Nowhere) root Outside; links = replicate count 0; joins = [] }
 
 -- these nodes have this scope
 abbrev pub given : List ℕ → Scope → List Scope → List Scope
@@ -205,3 +210,43 @@ pub record IsMidway (cells : List Cell) (root from : ℕ) (now : Findings) : Typ
   pub inner_known : (i j : ℕ) (c : Cell) → from ≤ i → IsStanding cells root i → IsCell cells i c → Contains (inner_nodes c) j → slice_index_or now.scopes j Nowhere ≢ Nowhere
   pub taken : (outers : List ℕ) (i : ℕ) (c : Cell) → from ≤ i → Stands cells root outers i → IsCell cells i c → IsTaken cells now.joins outers i (slice_index now.links i) c
   pub each_join : (number : ℕ) → number < length now.joins → IsOfGrammar cells root now.joins number
+
+-- ---- the numbers of elements
+
+-- the nodes' links, and the elements' nodes
+pub record Numbering : Type 0 where
+  pub links : List ℕ
+  pub elements : List ℕ
+
+abbrev pub numbering_of : Vec ℕ Global → Vec ℕ Global → Numbering
+numbering_of links elements = record { links = links.items; elements = elements.items }
+
+-- an element has the next number
+abbrev pub with_number : ℕ → Cell → Numbering → Numbering
+with_number i (cell.element class part) now = record { links = set now.links i (length now.elements); elements = now.elements ++ i ∷ [] }
+with_number i c now = now
+
+-- if it stands somewhere
+abbrev pub with_numbered : ℕ → Scope → Cell → Numbering → Numbering
+with_numbered i Nowhere c now = now
+with_numbered i Outside c now = with_number i c now
+with_numbered i (In k) c now = with_number i c now
+
+abbrev pub is_element : Cell → Bool
+is_element (cell.element class part) = true
+is_element c = false
+
+-- an element with a number
+pub record IsElementOf (cells : List Cell) (scopes : List Scope) (links : List ℕ) (number i : ℕ) : Type 0 where
+  pub class : Class
+  pub part : ℕ
+  pub is_element : IsCell cells i (cell.element class part)
+  pub stands : slice_index_or scopes i Nowhere ≢ Nowhere
+  pub linked : slice_index links i ≡ number
+
+-- the elements among the first nodes are numbered, and all other links are as they were
+pub record AreNumbered (cells : List Cell) (scopes : List Scope) (upto : ℕ) (old : List ℕ) (new : Numbering) : Type 0 where
+  pub all_links : length new.links ≡ length old
+  pub other_links : (i : ℕ) (c : Cell) → IsCell cells i c → is_element c ≡ false → slice_index new.links i ≡ slice_index old i
+  pub numbered : (i : ℕ) (class : Class) (part : ℕ) → i < upto → slice_index_or scopes i Nowhere ≢ Nowhere → IsCell cells i (cell.element class part) → slice_get new.elements (slice_index new.links i) ≡ Some i
+  pub each_number : (number i : ℕ) → slice_get new.elements number ≡ Some i → (i < upto) × IsElementOf cells scopes new.links number i

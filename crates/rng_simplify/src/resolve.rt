@@ -3,15 +3,14 @@
 //! A node's parts have smaller numbers than the node, so that one walk from the whole down meets each grammar before what
 //! stands in it. Definitions that were replaced are never met.
 
-ghost use Rattle.std.specs.Prelude.{◌≡◌, ◌≢◌, ℕ, ◌+◌, ◌<◌, List, [], ◌∷◌, length, map, replicate, take, slice_index_or, Some, Contains, IfOk};
-ghost use Rattle.rnc_parse.specs.declared.surface.Combine.{Combine};
+ghost use Rattle.std.specs.Prelude.{◌≡◌, ◌≢◌, ℕ, ◌+◌, ◌<◌, ◌&&◌, ◌||◌, List, [], ◌∷◌, length, map, replicate, Some, Contains, IfOk, OnOk};
 ghost use Rattle.rng_simplify.specs.declared.node.Clause.{Clause};
-ghost use Rattle.rng_simplify.specs.declared.resolve.Scope.TheVariants.{Nowhere};
+ghost use Rattle.rng_simplify.specs.Broken.{is_alone as says_nothing};
 ghost use Rattle.rng_simplify.specs.Breaking.{OkOrRefused};
 ghost use Rattle.rng_simplify.specs.Cells.{cell_of};
 ghost use Rattle.rng_simplify.specs.Keeping.{kept_for};
 ghost use Rattle.rng_simplify.specs.Resolving.{IsResolved};
-ghost use Rattle.rng_simplify.specs.Scoping.{AddsTo, both_say, HasSigns, IsGathered, GathersOne, Gathers, given, with_given, findings_of, outer_in, join_in, Links, TakesGrammar, TakesCell, IsMidway};
+ghost use Rattle.rng_simplify.specs.Scoping.{AddsTo, both_say, HasSigns, IsGathered, GathersOne, Gathers, given, with_given, findings_of, findings_at_first, outer_in, join_in, Links, TakesGrammar, TakesCell, IsMidway, numbering_of, with_number, with_numbered, AreNumbered};
 ghost use Rattle.rng_simplify.specs.Standing.{AreWellFormed, bodies_of, inner_nodes};
 
 use crate::compose::Whole;
@@ -71,7 +70,9 @@ pub(crate) struct Resolved {
 struct Resolver {
     alloc: Global,
     tables: Vec<Table>,
-    found: Resolved,
+    scopes: Vec<Scope>,
+    links: Vec<usize>,
+    joins: Vec<Join>,
 }
 
 /// A list of so many times the same value.
@@ -90,44 +91,114 @@ pub(crate) fn resolve(alloc: Global, whole: &Whole) -> Result<Resolved, SchemaFa
     requires { AreWellFormed (map cell_of whole.now.nodes.items) whole.now.root }
     ensures { OkOrRefused (map cell_of whole.now.nodes.items) whole.now.root (IsResolved (map cell_of whole.now.nodes.items) whole.now.root) result }
 {
-    let count = whole.nodes.len();
-    let mut scopes = filled(alloc, Scope::Nowhere, count)?;
-    scopes[whole.root] = Scope::Outside;
-    let mut resolver = Resolver {
-        alloc,
-        tables: Vec::new(alloc),
-        found: Resolved {
-            scopes,
-            links: filled(alloc, 0, count)?,
-            joins: Vec::new(alloc),
-            elements: Vec::new(alloc),
-        },
-    };
-    let mut rest = count;
-    while rest > 0 {
-        rest -= 1;
-        resolver.node(whole, rest)?;
-    }
-    for i in 0..count {
-        resolver.number(i, &whole.nodes[i])?;
-    }
-    let Resolver { found, .. } = resolver;
-    Ok(found)
+    let mut resolver = Resolver::begin(alloc, whole.nodes.len(), whole.root)?;
+    resolver.walk(whole)?;
+    let Resolver {
+        scopes,
+        links,
+        joins,
+        ..
+    } = resolver;
+    let mut links = links;
+    let elements = numbered(alloc, whole.nodes.as_slice(), scopes.as_slice(), &mut links)?;
+    Ok(Resolved {
+        scopes,
+        links,
+        joins,
+        elements,
+    })
 }
 
-/// How definitions are joined, where some are joined in the one way and another in the other way.
-fn both(before: Combine, combine: Combine) -> Result<Combine, SchemaFault>
+/// The elements that stand somewhere, in order; each is linked to its number.
+fn numbered(
+    alloc: Global,
+    nodes: &[Node],
+    scopes: &[Scope],
+    links: &mut Vec<usize>,
+) -> Result<Vec<usize>, NoMemory>
+    requires within { length scopes.now ≡ length nodes.now }
+    requires known { length links.old.items ≡ length nodes.now }
+    ensures { IfOk result (λ elements. AreNumbered (map cell_of nodes.now) scopes.now (length nodes.now) links.old.items (numbering_of links.new elements)) }
+{
+    let mut elements = Vec::new(alloc);
+    for i in 0..nodes.len() {
+        number(i, &nodes[i], scopes[i], links, &mut elements)?;
+    }
+    Ok(elements)
+}
+
+/// Numbers a node that stands in this scope, if it is an element that stands somewhere.
+fn number(
+    i: usize,
+    node: &Node,
+    scope: Scope,
+    links: &mut Vec<usize>,
+    elements: &mut Vec<usize>,
+) -> Result<(), NoMemory>
+    requires { i < length links.old.items }
+    ensures { OnOk result (numbering_of links.new elements.new ≡ with_numbered i scope (cell_of node.now) (numbering_of links.old elements.old)) }
+{
+    match scope {
+        Scope::Nowhere => Ok(()),
+        Scope::Outside | Scope::In(_) => number_standing(i, node, links, elements),
+    }
+}
+
+/// Numbers a node, if it is an element.
+fn number_standing(
+    i: usize,
+    node: &Node,
+    links: &mut Vec<usize>,
+    elements: &mut Vec<usize>,
+) -> Result<(), NoMemory>
+    requires { i < length links.old.items }
+    ensures { OnOk result (numbering_of links.new elements.new ≡ with_number i (cell_of node.now) (numbering_of links.old elements.old)) }
+{
+    match node {
+        Node::Element(_, _) => {
+            links[i] = elements.len();
+            elements.push(i)?;
+            Ok(())
+        }
+        _ => Ok(()),
+    }
+}
+
+/// How definitions are joined; nothing, where some are joined in the one way and another in the other way.
+fn both(before: Combine, combine: Combine) -> Option<Combine>
     ensures { result ≡ both_say before combine }
 {
     match (before, combine) {
-        (before, Combine::Alone) => Ok(before),
-        (Combine::Alone, combine) => Ok(combine),
-        (Combine::Choice, Combine::Choice) => Ok(Combine::Choice),
-        (Combine::Interleave, Combine::Interleave) => Ok(Combine::Interleave),
-        (Combine::Choice, Combine::Interleave) | (Combine::Interleave, Combine::Choice) => {
-            Err(SchemaFault::Unreadable(Cause::CombineClash))
-        }
+        (before, Combine::Alone) => Some(before),
+        (Combine::Alone, combine) => Some(combine),
+        (Combine::Choice, Combine::Choice) => Some(Combine::Choice),
+        (Combine::Interleave, Combine::Interleave) => Some(Combine::Interleave),
+        (Combine::Choice, Combine::Interleave) | (Combine::Interleave, Combine::Choice) => None,
     }
+}
+
+/// Whether a definition says nothing of how it is joined.
+fn is_alone(combine: Combine) -> bool
+    ensures { result ≡ says_nothing combine }
+{
+    match combine {
+        Combine::Alone => true,
+        Combine::Choice | Combine::Interleave => false,
+    }
+}
+
+/// Whether one of several definitions, or one more, says nothing of how it is joined.
+fn one_alone(has_alone: bool, combine: Combine) -> bool
+    ensures { result ≡ (has_alone || says_nothing combine) }
+{
+    has_alone || is_alone(combine)
+}
+
+/// Whether one of several definitions and one more say nothing of how they are joined.
+fn two_alone(has_alone: bool, combine: Combine) -> bool
+    ensures { result ≡ (has_alone && says_nothing combine) }
+{
+    has_alone && is_alone(combine)
 }
 
 impl Join {
@@ -139,7 +210,7 @@ impl Join {
         bodies.push(body)?;
         Ok(Join {
             combine,
-            has_alone: combine == Combine::Alone,
+            has_alone: is_alone(combine),
             bodies,
         })
     }
@@ -148,15 +219,18 @@ impl Join {
     fn add(&mut self, combine: Combine, body: usize) -> Result<(), SchemaFault>
         ensures { AddsTo combine body self.old self.new result }
     {
-        if combine == Combine::Alone {
-            if self.has_alone {
-                return Err(SchemaFault::Unreadable(Cause::CombineClash));
-            }
-            self.has_alone = true;
+        if two_alone(self.has_alone, combine) {
+            return Err(SchemaFault::Unreadable(Cause::CombineClash));
         }
-        self.combine = both(self.combine, combine)?;
-        self.bodies.push(body)?;
-        Ok(())
+        match both(self.combine, combine) {
+            Some(joined) => {
+                self.combine = joined;
+                self.has_alone = one_alone(self.has_alone, combine);
+                self.bodies.push(body)?;
+                Ok(())
+            }
+            None => Err(SchemaFault::Unreadable(Cause::CombineClash)),
+        }
     }
 }
 
@@ -207,6 +281,37 @@ fn give(scopes: &mut Vec<Scope>, clauses: &[Clause], scope: Scope)
 }
 
 impl Resolver {
+    /// Nothing is known of so many nodes, but that one of them is the whole schema.
+    fn begin(alloc: Global, count: usize, root: usize) -> Result<Resolver, NoMemory>
+        requires { root < count }
+        ensures { IfOk result (λ resolver. findings_of resolver ≡ findings_at_first count root) }
+    {
+        let mut scopes = filled(alloc, Scope::Nowhere, count)?;
+        scopes[root] = Scope::Outside;
+        let links = filled(alloc, 0, count)?;
+        Ok(Resolver {
+            alloc,
+            tables: Vec::new(alloc),
+            scopes,
+            links,
+            joins: Vec::new(alloc),
+        })
+    }
+
+    /// Takes all nodes, from the last one on.
+    fn walk(&mut self, whole: &Whole) -> Result<(), SchemaFault>
+        requires formed { AreWellFormed (map cell_of whole.now.nodes.items) whole.now.root }
+        requires begun { IsMidway (map cell_of whole.now.nodes.items) whole.now.root (length whole.now.nodes.items) (findings_of self.old) }
+        ensures { OkOrRefused (map cell_of whole.now.nodes.items) whole.now.root (λ done. IsMidway (map cell_of whole.now.nodes.items) whole.now.root 0 (findings_of self.new)) result }
+    {
+        let mut rest = whole.nodes.len();
+        while rest > 0 {
+            rest -= 1;
+            self.node(whole, rest)?;
+        }
+        Ok(())
+    }
+
     /// Takes a node with all that is known of what stands around it.
     fn node(&mut self, whole: &Whole, i: usize) -> Result<(), SchemaFault>
         requires within { i < length whole.now.nodes.items }
@@ -214,7 +319,7 @@ impl Resolver {
         requires behind { IsMidway (map cell_of whole.now.nodes.items) whole.now.root (i + 1) (findings_of self.old) }
         ensures { OkOrRefused (map cell_of whole.now.nodes.items) whole.now.root (λ done. IsMidway (map cell_of whole.now.nodes.items) whole.now.root i (findings_of self.new)) result }
     {
-        match self.found.scopes[i] {
+        match self.scopes[i] {
             Scope::Nowhere => Ok(()),
             scope => self.standing(i, scope, &whole.nodes[i]),
         }
@@ -249,18 +354,7 @@ impl Resolver {
         requires { part < length (findings_of self.old).scopes }
         ensures { findings_of self.new ≡ with_given (part ∷ []) scope (findings_of self.old) }
     {
-        self.found.scopes[part] = scope;
-    }
-
-    /// Numbers an element that stands somewhere.
-    fn number(&mut self, i: usize, node: &Node) -> Result<(), SchemaFault> {
-        if let Node::Element(_, _) = node
-            && self.found.scopes[i] != Scope::Nowhere
-        {
-            self.found.links[i] = self.found.elements.len();
-            self.found.elements.push(i)?;
-        }
-        Ok(())
+        self.scopes[part] = scope;
     }
 
     /// The grammar around a grammar.
@@ -296,7 +390,7 @@ impl Resolver {
     {
         match self.join_of(scope, name) {
             Some(join) => {
-                self.found.links[i] = join;
+                self.links[i] = join;
                 Ok(())
             }
             None => Err(SchemaFault::Unreadable(Cause::NoDefinition)),
@@ -310,11 +404,11 @@ impl Resolver {
         ensures { TakesGrammar i outer clauses.now (findings_of self.old) (findings_of self.new) result }
     {
         let scope = Scope::In(self.tables.len());
-        let names = gathered(self.alloc, &mut self.found.joins, clauses)?;
+        let names = gathered(self.alloc, &mut self.joins, clauses)?;
         match names.get(&Defined::Start).copied() {
             Some(start) => {
-                give(&mut self.found.scopes, clauses, scope);
-                self.found.links[i] = start;
+                give(&mut self.scopes, clauses, scope);
+                self.links[i] = start;
                 self.tables.push(Table {
                     outer,
                     joins: names,
