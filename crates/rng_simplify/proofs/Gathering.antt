@@ -1,9 +1,9 @@
 -- Joins of the names that definitions define, with one more definition.
-use Rattle.std.proofs.Common.{◌≡◌, ◌≢◌, refl, sym, ap, ◌∙◌, subst, ℕ, zero, suc, ◌+◌, ◌<◌, ◌≤◌, inl, inr, ◌⊎◌, Bool, true, false, cond, List, [], ◌∷◌, ◌++◌, length, map, set, get_or, slice_get, Option, Some, None, Result, Ok, Err, Contains, arith}
+use Rattle.std.proofs.Common.{◌≡◌, ◌≢◌, refl, sym, ap, ◌∙◌, subst, ℕ, zero, suc, ◌+◌, ◌<◌, ◌≤◌, inl, inr, ◌⊎◌, Bool, true, false, cond, List, [], ◌∷◌, ◌++◌, length, map, set, get_or, take, drop, slice_get, Option, Some, None, Result, Ok, Err, Contains, arith}
 use Rattle.std.specs.Prelude.{filter}
 use Rattle.std.proofs.lemmas.Option.{same_Some, none-some, slice_get_within, slice_get-get_or, get_or_from_slice_get}
 use Rattle.std.proofs.lemmas.Bool.{cases_eq, cases_lt, false≢true}
-use Rattle.std.proofs.lemmas.List.{length-set, get_or-set_same, get_or-set_other, length_push, map-append, append-nil}
+use Rattle.std.proofs.lemmas.List.{length-set, get_or-set_same, get_or-set_other, length_push, map-append, append-nil, take_more, take-append-drop}
 use Rattle.std.proofs.lemmas.List.Elements.{filter-append}
 use Rattle.std.proofs.lemmas.Slice.Eq.{bytes_eq-Decides}
 use Rattle.nx_base.specs.declared.cause.Cause.TheVariants as cause
@@ -22,6 +22,7 @@ use Rattle.rng_simplify.specs.Standing.{bodies_of}
 use Rattle.rng_simplify.specs.Resolving.{clauses_of, combines_of}
 use Rattle.rng_simplify.specs.Scoping.{HasSigns, AddsTo, IsJoinOf, IsGatheredAs, IsGathered, KeepsFirst, GathersOne, Gathers}
 use Rattle.rng_simplify.proofs.Scopes.{stays_behind, last_there}
+use Rattle.rng_simplify.proofs.Signs.{clash_more}
 
 -- ---- names
 
@@ -187,3 +188,46 @@ module _ {first : ℕ} {before : List Clause} {names : Names ℕ} {joins : List 
       ap (λ (cs : List Clause). clash (combines_of cs)) (clauses_more clause.name before clause (same_self clause.name))
       ∙ ap clash (map-append (λ (c : Clause). c.combine) (clauses_of clause.name before) (clause ∷ []))
       ∙ clashes (combines_of (clauses_of clause.name before)) signs
+
+-- ---- one more definition, by the answer
+
+pub gathers_added : {A : Type 0} {first : ℕ} {before : List Clause} {names : Names ℕ} {joins : List Join} (number : ℕ) (clause : Clause) (old new : Join) → IsGathered first before names joins → kept_for names clause.name ≡ Some number → slice_get joins number ≡ Some old → (result : Result A SchemaFault) → AddsTo clause.combine clause.body old new result → GathersOne first before clause joins names (set joins number new) result
+gathers_added {joins = joins} number clause old new h kept at (Ok done) added =
+    let behind = (join_there clause.name number h kept).1 in
+    (one_added number clause old new h kept at added.0 added.1, λ n lt. set_elsewhere joins number n new (omega (arith, behind, lt)))
+gathers_added number clause old new h kept at (Err NoMemory) added = tt
+gathers_added number clause old new h kept at (Err (Unreadable cause.CombineClash)) added = clashing number clause old h kept at added
+gathers_added number clause old new h kept at (Err other) added = absurd added
+
+pub gathers_begun : {first : ℕ} {before : List Clause} {names : Names ℕ} {joins : List Join} (after : Names ℕ) (all : List Join) (clause : Clause) (new : Join) → IsGathered first before names joins → kept_for names clause.name ≡ None → KeepsOne names clause.name (length joins) after → new.bodies.items ≡ clause.body ∷ [] → HasSigns (clause.combine ∷ []) new → all ≡ joins ++ new ∷ [] → IsGathered first (before ++ clause ∷ []) after all × KeepsFirst first joins all
+gathers_begun {first = first} {before = before} {joins = joins} after all clause new h none keeps bodies signs is =
+    (
+      subst (λ (js : List Join). IsGathered first (before ++ clause ∷ []) after js) (sym is) (one_begun clause new h none keeps bodies signs),
+      λ n lt. ap (λ (js : List Join). slice_get js n) is ∙ before_more joins (new ∷ []) n (omega (arith, lt, h.behind)),
+    )
+  where
+    before_more : (old more : List Join) (n : ℕ) → n < length old → slice_get (old ++ more) n ≡ slice_get old n
+    before_more [] more n lt = absurd (omega arith)
+    before_more (x ∷ old) more zero lt = refl
+    before_more (x ∷ old) more (suc n) lt = before_more old more n (omega arith)
+
+-- ---- all definitions
+
+pub gathers_failed : (first : ℕ) (names : Names ℕ) (old mid joins : List Join) (before : List Clause) (clause : Clause) (after clauses : List Clause) (fault : SchemaFault) → clauses ≡ (before ++ clause ∷ []) ++ after → GathersOne {A = Unit {0}} first before clause mid names joins (Err fault) → Gathers clauses old joins (Err fault)
+gathers_failed first names old mid joins before clause after clauses NoMemory is h = tt
+gathers_failed first names old mid joins before clause after clauses (Unreadable cause.CombineClash) is h = (
+  clause.name,
+  ap (λ (cs : List Clause). clash (combines_of (clauses_of clause.name cs))) is
+  ∙ ap (λ (cs : List Clause). clash (combines_of cs)) (filter-append (λ (c : Clause). same_defined clause.name c.name) (before ++ clause ∷ []) after)
+  ∙ ap clash (map-append (λ (c : Clause). c.combine) (clauses_of clause.name (before ++ clause ∷ [])) (clauses_of clause.name after))
+  ∙ clash_more (combines_of (clauses_of clause.name (before ++ clause ∷ []))) (combines_of (clauses_of clause.name after)) h,
+)
+gathers_failed first names old mid joins before clause after clauses fault is h = absurd h
+
+pub up_to_it : (clauses : List Clause) (k : ℕ) (clause : Clause) → k < length clauses → clause ≡ get_or clauses k clause → take (k + 1) clauses ≡ take k clauses ++ clause ∷ []
+up_to_it clauses k clause lt is = take_more clauses k clause lt ∙ ap (λ (c : Clause). take k clauses ++ c ∷ []) (sym is)
+
+-- the definitions up to one, it, and those behind it
+pub around_it : (clauses : List Clause) (k : ℕ) (clause : Clause) → k < length clauses → clause ≡ get_or clauses k clause → clauses ≡ (take k clauses ++ clause ∷ []) ++ drop (k + 1) clauses
+around_it clauses k clause lt is =
+    sym (take-append-drop (k + 1) clauses) ∙ ap (λ (cs : List Clause). cs ++ drop (k + 1) clauses) (up_to_it clauses k clause lt is)

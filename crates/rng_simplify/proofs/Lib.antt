@@ -11,3 +11,4 @@ pub mod Scopes
 pub mod Signs
 pub mod Gathering
 pub mod Numbers
+pub mod Taking

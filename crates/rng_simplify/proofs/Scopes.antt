@@ -40,7 +40,7 @@ length_given [] scope scopes = refl
 length_given (i ∷ more) scope scopes = length_given more scope (set scopes i scope) ∙ length-set scopes i scope
 
 -- a scope is set, and all others are what they were
-set_cases : (scopes : List Scope) (i : ℕ) (scope : Scope) (j : ℕ) → ((get_or (set scopes i scope) j Nowhere ≡ scope) × (i ≡ j)) ⊎ (get_or (set scopes i scope) j Nowhere ≡ get_or scopes j Nowhere)
+pub set_cases : (scopes : List Scope) (i : ℕ) (scope : Scope) (j : ℕ) → ((get_or (set scopes i scope) j Nowhere ≡ scope) × (i ≡ j)) ⊎ (get_or (set scopes i scope) j Nowhere ≡ get_or scopes j Nowhere)
 set_cases scopes i scope j =
     elim (cases_eq j i) [
       inr other ↦ inr (get_or-set_other scopes i j scope Nowhere other)

@@ -203,3 +203,28 @@ signs_of_one c join said alone = record { combine_is = said ∙ sym (one_says c)
     alone_clashes_not combine.Alone = refl
     alone_clashes_not combine.Choice = refl
     alone_clashes_not combine.Interleave = refl
+
+-- ---- more definitions clash no less
+
+many_longer : (n m : ℕ) → nat_lt 1 n ≡ true → nat_lt 1 (n + m) ≡ true
+many_longer n m h = grind arith
+
+and_both : (a b : Bool) → (a && b) ≡ true → (a ≡ true) × (b ≡ true)
+and_both true b h = (refl, h)
+and_both false b h = absurd (false≢true h)
+
+clashes_more : (m m' choice choice' interleave interleave' : Bool) → (m ≡ true → m' ≡ true) → clashes m choice interleave ≡ true → clashes m' (choice || choice') (interleave || interleave') ≡ true
+clashes_more true m' choice choice' interleave interleave' longer h = ap (λ b. clashes b (choice || choice') (interleave || interleave')) (longer refl)
+clashes_more false m' choice choice' interleave interleave' longer h =
+    let parts = and_both choice interleave h in
+    ap (λ b. clashes m' (b || choice') (interleave || interleave')) parts.0
+    ∙ ap (λ b. clashes m' true (b || interleave')) parts.1
+    ∙ or_right m'
+
+pub clash_more : (all more : List Combine) → clash all ≡ true → clash (all ++ more) ≡ true
+clash_more all more h =
+    ap (λ b. clashes (many (all ++ more)) b (list_any is_interleave (all ++ more))) (list_any-append is_choice all more)
+    ∙ ap (λ b. clashes (many (all ++ more)) (list_any is_choice all || list_any is_choice more) b) (list_any-append is_interleave all more)
+    ∙ clashes_more (many all) (many (all ++ more)) (list_any is_choice all) (list_any is_choice more) (list_any is_interleave all) (list_any is_interleave more)
+    (λ long. ap (λ (xs : List Combine). nat_lt 1 (length xs)) (filter-append is_alone all more) ∙ ap (nat_lt 1) (length-append (filter is_alone all) (filter is_alone more)) ∙ many_longer (length (filter is_alone all)) (length (filter is_alone more)) long)
+    h
