@@ -12,3 +12,4 @@ pub mod Signs
 pub mod Gathering
 pub mod Numbers
 pub mod Taking
+pub mod Walks

@@ -19,3 +19,4 @@ pub mod Standing
 pub mod Resolving
 pub mod Scoping
 pub mod Breaking
+pub mod Walking

@@ -28,7 +28,7 @@ fn grammar_of(alloc: Global, whole: &Whole) -> Result<Grammar, SchemaFault> {
     let nodes = whole.nodes.as_slice();
     let found = resolve(alloc, whole)?;
     check_classes(nodes, &found)?;
-    let order = order(alloc, nodes, &found)?;
+    let order = order(alloc, whole, &found)?;
     let forms = forms_of(alloc, nodes, &found, order.as_slice())?;
     let types = types_of(alloc, nodes, &found, &forms)?;
     check_size(nodes, &forms, whole.root, found.elements.as_slice())?;
