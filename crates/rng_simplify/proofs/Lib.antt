@@ -13,3 +13,5 @@ pub mod Gathering
 pub mod Numbers
 pub mod Taking
 pub mod Walks
+pub mod Loops
+pub mod Turns

@@ -32,7 +32,7 @@ same_ends (a ∷ xs) (b ∷ ys) x y h =
     let rest = same_ends xs ys x y tails in
     (ap (λ c. c ∷ xs) heads ∙ ap (λ cs. b ∷ cs) rest.0, rest.1)
 
-some_end : {X : Type 0} (xs : List X) (x : X) → xs ++ x ∷ [] ≡ [] → ⊥
+pub some_end : {X : Type 0} (xs : List X) (x : X) → xs ++ x ∷ [] ≡ [] → ⊥
 some_end [] x h = absurd cc
 some_end (a ∷ xs) x h = absurd cc
 
@@ -55,16 +55,16 @@ past_end (a ∷ xs) (suc k) (suc m) x none some =
 
 -- ---- marks
 
-new_open : New ≡ Open → ⊥
+pub new_open : New ≡ Open → ⊥
 new_open e = absurd cc
 
-new_done : New ≡ Done → ⊥
+pub new_done : New ≡ Done → ⊥
 new_done e = absurd cc
 
 open_done : Open ≡ Done → ⊥
 open_done e = absurd cc
 
-set_mark : (marks : List Mark) (i : ℕ) (mark : Mark) → i < length marks → get_or (set marks i mark) i New ≡ mark
+pub set_mark : (marks : List Mark) (i : ℕ) (mark : Mark) → i < length marks → get_or (set marks i mark) i New ≡ mark
 set_mark marks i mark lt = get_or-set_same marks i mark New lt
 
 other_mark : (marks : List Mark) (i : ℕ) (mark : Mark) (j : ℕ) → j ≢ i → get_or (set marks i mark) j New ≡ get_or marks j New
