@@ -1,6 +1,7 @@
 -- A turn of a walk, by its answer; how it begins, and what is there when it has ended.
-use Rattle.std.proofs.Common.{◌≡◌, ◌≢◌, refl, sym, ap, ◌∙◌, subst, ℕ, zero, suc, ◌+◌, ◌-◌, ◌*◌, ◌<◌, ◌≤◌, inl, inr, ◌⊎◌, Bool, true, false, cond, List, [], ◌∷◌, ◌++◌, length, set, get_or, take, sum_by, slice_get, Option, Some, None, Result, Ok, Err, Contains, arith}
-use Rattle.std.proofs.lemmas.Option.{same_Some, none-some, slice_get_within}
+use Rattle.std.proofs.Common.{◌≡◌, ◌≢◌, refl, sym, ap, ◌∙◌, subst, ℕ, zero, suc, ◌+◌, ◌-◌, ◌*◌, ◌<◌, ◌≤◌, inl, inr, ◌⊎◌, Bool, true, false, cond, List, [], ◌∷◌, ◌++◌, length, map, set, get_or, take, sum_by, slice_get, Option, Some, None, Result, Ok, Err, Contains, arith}
+use Rattle.std.proofs.lemmas.Option.{same_Some, none-some, slice_get_within, slice_get_past, slice_get_read}
+use Rattle.std.proofs.lemmas.List.{length-map}
 use Rattle.std.proofs.lemmas.List.Sums.{sum_by-cons}
 use Rattle.nx_base.specs.declared.cause.Cause.TheVariants as cause
 use Rattle.rng_simplify.specs.declared.fault.SchemaFault.{SchemaFault}
@@ -10,15 +11,19 @@ use Rattle.rng_simplify.specs.declared.order.Mark.TheVariants.{New, Open, Done}
 use Rattle.rng_simplify.specs.declared.order.Step.{Step}
 use Rattle.rng_simplify.specs.declared.resolve.Join.{Join}
 use Rattle.rng_simplify.specs.declared.resolve.Resolved.{Resolved}
+use Rattle.rng_simplify.specs.declared.resolve.Scope.{Scope}
+use Rattle.rng_simplify.specs.declared.resolve.Scope.TheVariants.{Nowhere}
 use Rattle.rng_simplify.specs.Breaking.{IsRefusal, OkOrRefused}
-use Rattle.rng_simplify.specs.Cells.{Cell}
+use Rattle.rng_simplify.specs.declared.node.Node.{Node}
+use Rattle.rng_simplify.specs.Cells.{Cell, cell_of}
 use Rattle.rng_simplify.specs.Cells as cell
 use Rattle.rng_simplify.specs.Standing.{cell_parts, AreWellFormed, IsStanding}
-use Rattle.rng_simplify.specs.Resolving.{IsResolved, link_at, is_linked, cell_leads, join_leads, leads_if, leads, IsMet, IsOrdered}
-use Rattle.rng_simplify.specs.Walking.{Walking, mark_at, step_of, with_step, opened, left, Meets, IsStep, AreSteps, path_of, IsWalk, KeepsMarks, most, left_at, work, IsTurned, IsGone}
-use Rattle.rng_simplify.proofs.Nodes.{in_none, in_first, in_more, in_cases}
+use Rattle.rng_simplify.specs.Resolving.{IsResolved, link_at, is_linked, cell_leads, join_leads, leads_if, leads, IsMet, IsOrdered, scope_at}
+use Rattle.rng_simplify.specs.Walking.{Walking, mark_at, step_of, with_step, opened, left, Meets, IsStep, AreSteps, path_of, IsWalk, KeepsMarks, most, left_at, work, IsTurned, IsGone, IsPassed}
+use Rattle.rng_simplify.proofs.Nodes.{in_none, in_first, in_more, in_cases, cell_there}
 use Rattle.rng_simplify.proofs.Posts.{stands_within}
-use Rattle.rng_simplify.proofs.Loops.{lead_of, lead_met, Chain, last_lead, further_lead, chain_on, loop_refused}
+use Rattle.rng_simplify.proofs.Taking.{scope_read}
+use Rattle.rng_simplify.proofs.Loops.{lead_of, lead_met, Chain, last_lead, further_lead, chain_on, loop_refused, link_within}
 use Rattle.rng_simplify.proofs.Walks.{same_ends, some_end, in_by_place, has_last, next_step, newly_met, met_again, node_left, opened_keeps, left_keeps, work_again, work_newly, work_left, new_open, new_done, set_mark}
 
 -- ---- few are led to
@@ -199,6 +204,9 @@ module _ (cells : List Cell) (root : ℕ) (found : Resolved) where
   pub begun : {A : Type 0} (now new : Walking) (from : ℕ) → AreWellFormed cells root → IsWalk cells root found None now → now.path ≡ [] → IsMet cells root found from → (result : Result A SchemaFault) → Meets from (mark_at now from) now new result → OkOrRefused cells root (λ done. IsBegun from now new) result
   begun now new from formed h rest met result meets = begun_at now new from formed h rest met (mark_at now from) refl result meets
 
+  pub begun_ok : {A : Type 0} (now new : Walking) (from : ℕ) → AreWellFormed cells root → IsWalk cells root found None now → now.path ≡ [] → IsMet cells root found from → (done : A) → Meets {A = A} from (mark_at now from) now new (Ok done) → IsBegun from now new
+  begun_ok now new from formed h rest met done meets = begun now new from formed h rest met (Ok done) meets
+
   -- ---- at rest, what was met is done
 
   by_mark_done : (now : Walking) (i : ℕ) → IsWalk cells root found None now → now.path ≡ [] → mark_at now i ≢ New → (mark : Mark) → mark_at now i ≡ mark → Contains now.order i
@@ -233,3 +241,65 @@ module _ (cells : List Cell) (root : ℕ) (found : Resolved) where
         once = λ k m i at again. absurd (nothing k i at);
         behind = λ k i j at among. absurd (nothing k i at);
       }
+
+-- ---- what a node or a join leads to, as the program finds it
+
+pub leads_linked : (nodes : List Node) (found : Resolved) (x link k : ℕ) (node : Node) → x < length nodes → node ≡ get_or nodes x node → is_linked (cell_of node) ≡ true → link ≡ get_or found.links.items x 0 → (it : ℕ) → it ≡ length nodes + link → slice_get (it ∷ []) k ≡ slice_get (leads (map cell_of nodes) found x) k
+leads_linked nodes found x link k node lt is linked link_is it it_is =
+    ap (λ n. slice_get (n ∷ []) k) (it_is ∙ ap (λ n. n + link) (sym (length-map nodes cell_of)) ∙ ap (λ n. length (map cell_of nodes) + n) link_is)
+    ∙ sym (ap (λ (b : Bool). slice_get (cond b ((length (map cell_of nodes) + link_at found x) ∷ []) (cell_parts (cell_of node))) k) linked)
+    ∙ sym (ap (λ (c : Option Cell). slice_get (leads_if (map cell_of nodes) found x c) k) (cell_there nodes x node lt is))
+
+pub leads_parts : (nodes : List Node) (found : Resolved) (x k : ℕ) (node : Node) → x < length nodes → node ≡ get_or nodes x node → is_linked (cell_of node) ≡ false → slice_get (cell_parts (cell_of node)) k ≡ slice_get (leads (map cell_of nodes) found x) k
+leads_parts nodes found x k node lt is linked =
+    sym (ap (λ (b : Bool). slice_get (cond b ((length (map cell_of nodes) + link_at found x) ∷ []) (cell_parts (cell_of node))) k) linked)
+    ∙ sym (ap (λ (c : Option Cell). slice_get (leads_if (map cell_of nodes) found x c) k) (cell_there nodes x node lt is))
+
+pub leads_bodies : (nodes : List Node) (found : Resolved) (x n k : ℕ) (join : Join) → length nodes ≤ x → n ≡ x - length nodes → n < length found.joins.items → join ≡ get_or found.joins.items n join → slice_get join.bodies.items k ≡ slice_get (leads (map cell_of nodes) found x) k
+leads_bodies nodes found x n k join past n_is lt is =
+    let none : slice_get (map cell_of nodes) x ≡ None = slice_get_past (map cell_of nodes) x (omega (arith, past, length-map nodes cell_of)) in
+    let number : n ≡ x - length (map cell_of nodes) = omega (arith, n_is, length-map nodes cell_of) in
+    sym (
+      ap (λ (c : Option Cell). slice_get (leads_if (map cell_of nodes) found x c) k) none
+      ∙ ap (λ m. slice_get (join_leads (slice_get found.joins.items m)) k) (sym number)
+      ∙ ap (λ (j : Option Join). slice_get (join_leads j) k) (slice_get_read found.joins.items (length found.joins.items) n join refl lt is)
+    )
+
+-- a link of a node that stands in the schema is a join's number
+pub link_fits : (nodes : List Node) (root : ℕ) (found : Resolved) (x : ℕ) (node : Node) → AreWellFormed (map cell_of nodes) root → IsResolved (map cell_of nodes) root found → IsMet (map cell_of nodes) root found x → x < length nodes → node ≡ get_or nodes x node → is_linked (cell_of node) ≡ true → get_or found.links.items x 0 < length found.joins.items
+link_fits nodes root found x node formed resolved (inl (outers, stands)) lt is linked = link_within (map cell_of nodes) root found outers x (cell_of node) resolved stands (cell_there nodes x node lt is) linked
+link_fits nodes root found x node formed resolved (inr (n, within, at)) lt is linked = absurd (omega (arith, at, lt, length-map nodes cell_of))
+
+-- what is met behind the nodes is a join
+pub join_there : (nodes : List Node) (root : ℕ) (found : Resolved) (x : ℕ) → AreWellFormed (map cell_of nodes) root → IsMet (map cell_of nodes) root found x → length nodes ≤ x → x - length nodes < length found.joins.items
+join_there nodes root found x formed (inl (outers, stands)) past =
+    let lt = stands_within formed stands in
+    absurd (omega (arith, lt, past, length-map nodes cell_of))
+join_there nodes root found x formed (inr (n, within, at)) past = omega (arith, at, within, past, length-map nodes cell_of)
+
+-- ---- a node that may stand nowhere
+
+pub scope_there : (nodes : List Node) (root : ℕ) (found : Resolved) (i : ℕ) (scope : Scope) → IsResolved (map cell_of nodes) root found → i < length nodes → scope ≡ get_or found.scopes.items i scope → scope_at found i ≡ scope
+scope_there nodes root found i scope resolved lt is = scope_read found.scopes.items i scope (omega (arith, lt, resolved.all_scopes, length-map nodes cell_of)) is
+
+pub standing_met : (nodes : List Node) (root : ℕ) (found : Resolved) (i : ℕ) (scope : Scope) → IsResolved (map cell_of nodes) root found → i < length nodes → scope ≡ get_or found.scopes.items i scope → scope ≢ Nowhere → IsMet (map cell_of nodes) root found i
+standing_met nodes root found i scope resolved lt is some = inl ((resolved.standing i).0 (λ none. some (sym (scope_there nodes root found i scope resolved lt is) ∙ none)))
+
+pub nowhere_passed : (nodes : List Node) (root : ℕ) (found : Resolved) (i : ℕ) (scope : Scope) (now : Walking) → IsResolved (map cell_of nodes) root found → i < length nodes → scope ≡ get_or found.scopes.items i scope → scope ≡ Nowhere → IsWalk (map cell_of nodes) root found None now → now.path ≡ [] → IsPassed (map cell_of nodes) root found i now now
+nowhere_passed nodes root found i scope now resolved lt is none h rest = record {
+  is_walk = h;
+  at_rest = rest;
+  keeps = λ j some. some;
+  met = λ standing. absurd ((resolved.standing i).1 standing (scope_there nodes root found i scope resolved lt is ∙ none));
+}
+
+pub gone_passed : {A : Type 0} (cells : List Cell) (root : ℕ) (found : Resolved) (i : ℕ) (old new : Walking) (result : Result A SchemaFault) → OkOrRefused cells root (λ done. IsGone cells root found i old new) result → OkOrRefused cells root (λ done. IsPassed cells root found i old new) result
+gone_passed cells root found i old new (Ok done) h = record { is_walk = h.is_walk; at_rest = h.at_rest; keeps = h.keeps; met = λ standing. h.met }
+gone_passed cells root found i old new (Err fault) h = h
+
+-- ---- all nodes and joins
+
+pub nodes_ordered : (nodes : List Node) (root : ℕ) (found : Resolved) (mid now : Walking) → ((i : ℕ) → IsStanding (map cell_of nodes) root i → mark_at mid i ≢ New) → IsWalk (map cell_of nodes) root found None now → now.path ≡ [] → KeepsMarks mid now → ((number : ℕ) → number < length found.joins.items → mark_at now (length nodes + number) ≢ New) → IsOrdered (map cell_of nodes) root found now.order
+nodes_ordered nodes root found mid now nodes_met h rest keeps joins_met =
+    all_ordered (map cell_of nodes) root found now h rest (λ i standing. keeps i (nodes_met i standing))
+    (λ number lt. subst (λ n. mark_at now (n + number) ≢ New) (sym (length-map nodes cell_of)) (joins_met number lt))

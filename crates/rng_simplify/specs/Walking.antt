@@ -12,6 +12,7 @@ use Rattle.rng_simplify.specs.declared.resolve.Join.{Join}
 use Rattle.rng_simplify.specs.declared.resolve.Resolved.{Resolved}
 use Rattle.rng_simplify.specs.Cells.{Cell}
 use Rattle.rng_simplify.specs.Resolving.{leads, IsMet}
+use Rattle.rng_simplify.specs.Standing.{IsStanding}
 
 -- ---- what the walk has done
 
@@ -119,3 +120,10 @@ pub record IsGone (cells : List Cell) (root : ℕ) (found : Resolved) (from : �
   pub at_rest : new.path ≡ []
   pub keeps : KeepsMarks old new
   pub met : mark_at new from ≢ New
+
+-- a node was passed, and all that it leads to is in the order, if it stands in the schema
+pub record IsPassed (cells : List Cell) (root : ℕ) (found : Resolved) (i : ℕ) (old new : Walking) : Type 0 where
+  pub is_walk : IsWalk cells root found None new
+  pub at_rest : new.path ≡ []
+  pub keeps : KeepsMarks old new
+  pub met : IsStanding cells root i → mark_at new i ≢ New

@@ -9,12 +9,12 @@ ghost use Rattle.rng_simplify.specs.Breaking.{OkOrRefused};
 ghost use Rattle.rng_simplify.specs.Cells.{cell_of};
 ghost use Rattle.rng_simplify.specs.Resolving.{IsResolved, IsMet, IsOrdered, leads, is_linked as is_linked_cell};
 ghost use Rattle.rng_simplify.specs.Standing.{AreWellFormed, cell_parts, IsStanding};
-ghost use Rattle.rng_simplify.specs.Walking.{walking_of, mark_at, with_step, left, Meets, IsWalk, KeepsMarks, IsTurned, IsGone};
+ghost use Rattle.rng_simplify.specs.Walking.{walking_of, mark_at, with_step, left, Meets, IsWalk, KeepsMarks, IsTurned, IsGone, IsPassed};
 
 use crate::compose::Whole;
 use crate::fault::SchemaFault;
 use crate::node::Node;
-use crate::resolve::{Resolved, Scope};
+use crate::resolve::{Join, Resolved, Scope};
 use nx_base::cause::Cause;
 use nx_base::memory::NoMemory;
 use std::alloc::Global;
@@ -99,6 +99,14 @@ fn is_linked(node: &Node) -> bool
     }
 }
 
+/// A body of a join by its place.
+fn body(join: &Join, k: usize) -> Option<usize>
+    ensures body_is { result ≡ slice_get join.now.bodies.items k }
+    ensures more { IfSome result (λ _. k + 1 < 2 ^ 64) }
+{
+    join.bodies.get(k).copied()
+}
+
 /// The node of this number among those to which a node or a join leads.
 fn next(whole: &Whole, found: &Resolved, node: usize, k: usize) -> Option<usize>
     requires formed { AreWellFormed (map cell_of whole.now.nodes.items) whole.now.root }
@@ -108,15 +116,15 @@ fn next(whole: &Whole, found: &Resolved, node: usize, k: usize) -> Option<usize>
     ensures next_is { result ≡ slice_get (leads (map cell_of whole.now.nodes.items) found.now node) k }
     ensures more { IfSome result (λ _. k + 1 < 2 ^ 64) }
 {
-    match whole.nodes.get(node) {
-        Some(here) => {
-            if is_linked(here) {
-                only(whole.nodes.len() + found.links[node], k)
-            } else {
-                part(here, k)
-            }
+    if node < whole.nodes.len() {
+        let here = &whole.nodes[node];
+        if is_linked(here) {
+            only(whole.nodes.len() + found.links[node], k)
+        } else {
+            part(here, k)
         }
-        None => found.joins[node - whole.nodes.len()].bodies.get(k).copied(),
+    } else {
+        body(&found.joins[node - whole.nodes.len()], k)
     }
 }
 
@@ -145,12 +153,24 @@ impl Walk {
         ensures { OkOrRefused (map cell_of whole.now.nodes.items) whole.now.root (λ done. IsWalk (map cell_of whole.now.nodes.items) whole.now.root found.now None (walking_of self.new) × ((walking_of self.new).path ≡ []) × ((i : ℕ) → IsStanding (map cell_of whole.now.nodes.items) whole.now.root i → mark_at (walking_of self.new) i ≢ NotMet)) result }
     {
         for i in 0..whole.nodes.len() {
-            match found.scopes[i] {
-                Scope::Nowhere => {}
-                _ => self.go(whole, found, i)?,
-            }
+            self.node(whole, found, i)?;
         }
         Ok(())
+    }
+
+    /// Walks from a node, if it stands in the schema.
+    fn node(&mut self, whole: &Whole, found: &Resolved, i: usize) -> Result<(), SchemaFault>
+        requires within { i < length whole.now.nodes.items }
+        requires formed { AreWellFormed (map cell_of whole.now.nodes.items) whole.now.root }
+        requires resolved { IsResolved (map cell_of whole.now.nodes.items) whole.now.root found.now }
+        requires here { IsWalk (map cell_of whole.now.nodes.items) whole.now.root found.now None (walking_of self.old) }
+        requires at_rest { (walking_of self.old).path ≡ [] }
+        ensures { OkOrRefused (map cell_of whole.now.nodes.items) whole.now.root (λ done. IsPassed (map cell_of whole.now.nodes.items) whole.now.root found.now i (walking_of self.old) (walking_of self.new)) result }
+    {
+        match found.scopes[i] {
+            Scope::Nowhere => Ok(()),
+            _ => self.go(whole, found, i),
+        }
     }
 
     /// Walks from each join.
