@@ -15,3 +15,4 @@ pub mod Taking
 pub mod Walks
 pub mod Loops
 pub mod Turns
+pub mod Good

@@ -269,7 +269,7 @@ undefined_outside name standing.no_scopes h = tt
 undefined_outside name (standing.further_scope {all = all} at denoted more) h = undefined_around name all more h
 
 -- something of a kind stands where a node does
-has_at : {cells : List Cell} {number : ℕ → ℕ} {root : ℕ} {whole : Composed} {outers : List ℕ} {i : ℕ} (kind : List Clauses → Composed → Type 0) → Denotes cells number root whole → Stands cells root outers i → ((scopes : List Clauses) (p : Composed) → AreScopes cells number outers scopes → Denotes cells number i p → kind scopes p) → Has whole kind
+pub has_at : {cells : List Cell} {number : ℕ → ℕ} {root : ℕ} {whole : Composed} {outers : List ℕ} {i : ℕ} (kind : List Clauses → Composed → Type 0) → Denotes cells number root whole → Stands cells root outers i → ((scopes : List Clauses) (p : Composed) → AreScopes cells number outers scopes → Denotes cells number i p → kind scopes p) → Has whole kind
 has_at kind denotes stands is =
     let h = place_of denotes stands in
     record { scopes = h.scopes; pattern = h.pattern; occurs = h.occurs; is = is h.scopes h.pattern h.are_scopes h.denotes }

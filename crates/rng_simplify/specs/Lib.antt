@@ -20,3 +20,4 @@ pub mod Resolving
 pub mod Scoping
 pub mod Breaking
 pub mod Walking
+pub mod Judging
