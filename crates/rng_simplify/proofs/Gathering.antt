@@ -118,13 +118,13 @@ module _ {first : ℕ} {before : List Clause} {names : Names ℕ} {joins : List 
       record {
         behind = omega (arith, h.behind, same_length);
         gathered = λ other. elim (tested (same_defined other clause.name)) [
-          inl is ↦ subst (λ (k : Option ℕ). IsGatheredAs first (before ++ clause ∷ []) (set joins number new) other k) (sym (ap (kept_for names) (same_name other clause.name is) ∙ kept)) (
+          | inl is ↦ subst (λ (k : Option ℕ). IsGatheredAs first (before ++ clause ∷ []) (set joins number new) other k) (sym (ap (kept_for names) (same_name other clause.name is) ∙ kept)) (
             new,
             there.1,
             set_there joins number new (slice_get_within joins number old at),
             join_more other before clause old new is (subst (λ (n : Defined). IsJoinOf (clauses_of n before) old) (sym (same_name other clause.name is)) is_join) bodies (signs (combines_of (clauses_of other before)) (subst (λ (n : Defined). HasSigns (combines_of (clauses_of n before)) old) (sym (same_name other clause.name is)) is_join.signs)),
           )
-        | inr is ↦ elsewhere clause.name other number clause new is h kept (kept_for names other) refl (clauses_same other before clause is) (h.gathered other)
+          | inr is ↦ elsewhere clause.name other number clause new is h kept (kept_for names other) refl (clauses_same other before clause is) (h.gathered other)
         ];
         apart = h.apart;
         each = λ n le lt. h.each n le (omega (arith, lt, same_length));
@@ -138,10 +138,10 @@ module _ {first : ℕ} {before : List Clause} {names : Names ℕ} {joins : List 
   old_or_new : (new : Names ℕ) (clause : Clause) → IsGathered first before names joins → KeepsOne names clause.name (length joins) new → (name : Defined) (number : ℕ) → kept_for new name ≡ Some number → ((name ≡ clause.name) × (number ≡ length joins)) ⊎ ((kept_for names name ≡ Some number) × (number < length joins))
   old_or_new new clause h keeps name number kept =
       elim (tested (same_defined name clause.name)) [
-        inl is ↦ inl (same_name name clause.name is, same_Some number (length joins) (sym kept ∙ new_number names new joins clause keeps name true is))
-      | inr is ↦
-        let before_is : kept_for names name ≡ Some number = sym (new_number names new joins clause keeps name false is) ∙ kept in
-        inr (before_is, number_within name number h before_is)
+        | inl is ↦ inl (same_name name clause.name is, same_Some number (length joins) (sym kept ∙ new_number names new joins clause keeps name true is))
+        | inr is ↦
+            let before_is : kept_for names name ≡ Some number = sym (new_number names new joins clause keeps name false is) ∙ kept in
+            inr (before_is, number_within name number h before_is)
       ]
 
   pub one_begun : {after : Names ℕ} (clause : Clause) (new : Join) → IsGathered first before names joins → kept_for names clause.name ≡ None → KeepsOne names clause.name (length joins) after → new.bodies.items ≡ clause.body ∷ [] → HasSigns (clause.combine ∷ []) new → IsGathered first (before ++ clause ∷ []) after (joins ++ new ∷ [])
@@ -150,32 +150,34 @@ module _ {first : ℕ} {before : List Clause} {names : Names ℕ} {joins : List 
       record {
         behind = omega (arith, h.behind, longer);
         gathered = λ other. elim (tested (same_defined other clause.name)) [
-          inl is ↦ subst (λ (k : Option ℕ). IsGatheredAs first (before ++ clause ∷ []) (joins ++ new ∷ []) other k) (sym (new_number names after joins clause keeps other true is)) (
+          | inl is ↦ subst (λ (k : Option ℕ). IsGatheredAs first (before ++ clause ∷ []) (joins ++ new ∷ []) other k) (sym (new_number names after joins clause keeps other true is)) (
             new,
             h.behind,
             last_there joins new,
             first_join before other clause new is (nothing_yet other h (ap (kept_for names) (same_name other clause.name is) ∙ none)) bodies signs,
           )
-        | inr is ↦ subst (λ (k : Option ℕ). IsGatheredAs first (before ++ clause ∷ []) (joins ++ new ∷ []) other k) (sym (new_number names after joins clause keeps other false is)) (still first before joins other clause new (kept_for names other) (clauses_same other before clause is) (h.gathered other))
+          | inr is ↦ subst (λ (k : Option ℕ). IsGatheredAs first (before ++ clause ∷ []) (joins ++ new ∷ []) other k) (sym (new_number names after joins clause keeps other false is)) (still first before joins other clause new (kept_for names other) (clauses_same other before clause is) (h.gathered other))
         ];
         apart = λ name other number kept again. elim (old_or_new after clause h keeps name number kept) [
-          inl a ↦ elim (old_or_new after clause h keeps other number again) [
-            inl b ↦ a.0 ∙ sym b.0
-          | inr b ↦ absurd (omega (arith, a.1, b.1))
+          | inl a ↦ elim (old_or_new after clause h keeps other number again) [
+            | inl b ↦ a.0 ∙ sym b.0
+            | inr b ↦ absurd (omega (arith, a.1, b.1))
           ]
-        | inr a ↦ elim (old_or_new after clause h keeps other number again) [
-            inl b ↦ absurd (omega (arith, a.1, b.1))
-          | inr b ↦ h.apart name other number a.0 b.0
+          | inr a ↦ elim (old_or_new after clause h keeps other number again) [
+            | inl b ↦ absurd (omega (arith, a.1, b.1))
+            | inr b ↦ h.apart name other number a.0 b.0
           ]
         ];
         each = λ number le lt. elim (cases_lt number (length joins)) [
-          inl before_it ↦
-          let named = h.each number le before_it in
-          (named.0, elim (tested (same_defined named.0 clause.name)) [
-            inl is ↦ absurd (none-some number (sym none ∙ sym (ap (kept_for names) (same_name named.0 clause.name is)) ∙ named.1))
-          | inr is ↦ new_number names after joins clause keeps named.0 false is ∙ named.1
-          ])
-        | inr it ↦ (clause.name, new_number names after joins clause keeps clause.name true (same_self clause.name) ∙ ap Some (omega (arith, lt, longer, it)))
+          | inl before_it ↦
+              let named = h.each number le before_it in (
+                named.0,
+                elim (tested (same_defined named.0 clause.name)) [
+                  | inl is ↦ absurd (none-some number (sym none ∙ sym (ap (kept_for names) (same_name named.0 clause.name is)) ∙ named.1))
+                  | inr is ↦ new_number names after joins clause keeps named.0 false is ∙ named.1
+                ],
+              )
+          | inr it ↦ (clause.name, new_number names after joins clause keeps clause.name true (same_self clause.name) ∙ ap Some (omega (arith, lt, longer, it)))
         ];
       }
 
@@ -200,11 +202,10 @@ gathers_added number clause old new h kept at (Err (Unreadable cause.CombineClas
 gathers_added number clause old new h kept at (Err other) added = absurd added
 
 pub gathers_begun : {first : ℕ} {before : List Clause} {names : Names ℕ} {joins : List Join} (after : Names ℕ) (all : List Join) (clause : Clause) (new : Join) → IsGathered first before names joins → kept_for names clause.name ≡ None → KeepsOne names clause.name (length joins) after → new.bodies.items ≡ clause.body ∷ [] → HasSigns (clause.combine ∷ []) new → all ≡ joins ++ new ∷ [] → IsGathered first (before ++ clause ∷ []) after all × KeepsFirst first joins all
-gathers_begun {first = first} {before = before} {joins = joins} after all clause new h none keeps bodies signs is =
-    (
-      subst (λ (js : List Join). IsGathered first (before ++ clause ∷ []) after js) (sym is) (one_begun clause new h none keeps bodies signs),
-      λ n lt. ap (λ (js : List Join). slice_get js n) is ∙ before_more joins (new ∷ []) n (omega (arith, lt, h.behind)),
-    )
+gathers_begun {first = first} {before = before} {joins = joins} after all clause new h none keeps bodies signs is = (
+  subst (λ (js : List Join). IsGathered first (before ++ clause ∷ []) after js) (sym is) (one_begun clause new h none keeps bodies signs),
+  λ n lt. ap (λ (js : List Join). slice_get js n) is ∙ before_more joins (new ∷ []) n (omega (arith, lt, h.behind)),
+)
   where
     before_more : (old more : List Join) (n : ℕ) → n < length old → slice_get (old ++ more) n ≡ slice_get old n
     before_more [] more n lt = absurd (omega arith)
@@ -218,9 +219,9 @@ gathers_failed first names old mid joins before clause after clauses NoMemory is
 gathers_failed first names old mid joins before clause after clauses (Unreadable cause.CombineClash) is h = (
   clause.name,
   ap (λ (cs : List Clause). clash (combines_of (clauses_of clause.name cs))) is
-  ∙ ap (λ (cs : List Clause). clash (combines_of cs)) (filter-append (λ (c : Clause). same_defined clause.name c.name) (before ++ clause ∷ []) after)
-  ∙ ap clash (map-append (λ (c : Clause). c.combine) (clauses_of clause.name (before ++ clause ∷ [])) (clauses_of clause.name after))
-  ∙ clash_more (combines_of (clauses_of clause.name (before ++ clause ∷ []))) (combines_of (clauses_of clause.name after)) h,
+      ∙ ap (λ (cs : List Clause). clash (combines_of cs)) (filter-append (λ (c : Clause). same_defined clause.name c.name) (before ++ clause ∷ []) after)
+      ∙ ap clash (map-append (λ (c : Clause). c.combine) (clauses_of clause.name (before ++ clause ∷ [])) (clauses_of clause.name after))
+      ∙ clash_more (combines_of (clauses_of clause.name (before ++ clause ∷ []))) (combines_of (clauses_of clause.name after)) h,
 )
 gathers_failed first names old mid joins before clause after clauses fault is h = absurd h
 

@@ -31,23 +31,23 @@ module _ (cells : List Cell) (root i : ℕ) where
   element_excepts : (class : Class) (part : ℕ) → IsStanding cells root i → IsCell cells i (cell.element class part) → has_bad_except class ≡ true → IsRefusal cells root (Unreadable cause.BadExcept)
   element_excepts class part standing at bad number whole denotes =
       has_at HasBadExcept denotes standing.1 (λ scopes p are denoted.
-        subst (λ (r : Composed). HasBadExcept scopes r) (sym (denoted_by (cell.element class part) at denoted).2) bad)
+      subst (λ (r : Composed). HasBadExcept scopes r) (sym (denoted_by (cell.element class part) at denoted).2) bad)
 
   element_declares : (class : Class) (part : ℕ) → IsStanding cells root i → IsCell cells i (cell.element class part) → names_declarations class ≡ true → IsRefusal cells root (Unreadable cause.XmlnsName)
   element_declares class part standing at bad number whole denotes =
       has_at HasXmlnsName denotes standing.1 (λ scopes p are denoted.
-        subst (λ (r : Composed). HasXmlnsName scopes r) (sym (denoted_by (cell.element class part) at denoted).2) bad)
+      subst (λ (r : Composed). HasXmlnsName scopes r) (sym (denoted_by (cell.element class part) at denoted).2) bad)
 
   -- an attribute
   attribute_excepts : (class : Class) (part : ℕ) → IsStanding cells root i → IsCell cells i (cell.attribute class part) → has_bad_except class ≡ true → IsRefusal cells root (Unreadable cause.BadExcept)
   attribute_excepts class part standing at bad number whole denotes =
       has_at HasBadExcept denotes standing.1 (λ scopes p are denoted.
-        subst (λ (r : Composed). HasBadExcept scopes r) (sym (denoted_by (cell.attribute class part) at denoted).2) bad)
+      subst (λ (r : Composed). HasBadExcept scopes r) (sym (denoted_by (cell.attribute class part) at denoted).2) bad)
 
   attribute_declares : (class : Class) (part : ℕ) → IsStanding cells root i → IsCell cells i (cell.attribute class part) → names_declarations_of_attribute class ≡ true → IsRefusal cells root (Unreadable cause.XmlnsName)
   attribute_declares class part standing at bad number whole denotes =
       has_at HasXmlnsName denotes standing.1 (λ scopes p are denoted.
-        subst (λ (r : Composed). HasXmlnsName scopes r) (sym (denoted_by (cell.attribute class part) at denoted).2) bad)
+      subst (λ (r : Composed). HasXmlnsName scopes r) (sym (denoted_by (cell.attribute class part) at denoted).2) bad)
 
   good_at : (c : Cell) → IsCell cells i c → IsGood c → IsGoodAt cells root i
   good_at c at good other standing again = subst IsGood (one_cell cells i c other at again) good
@@ -95,6 +95,6 @@ all_good nodes root upto long good i c standing at = good i (omega (arith, long,
 
 pub good_more : (cells : List Cell) (root upto : ℕ) → ((i : ℕ) → i < upto → IsGoodAt cells root i) → IsGoodAt cells root upto → (i : ℕ) → i < upto + 1 → IsGoodAt cells root i
 good_more cells root upto before this i lt = elim (cases_eq i upto) [
-    inl is ↦ subst (λ k. IsGoodAt cells root k) (sym is) this
+  | inl is ↦ subst (λ k. IsGoodAt cells root k) (sym is) this
   | inr other ↦ before i (omega (arith, lt, other))
-  ]
+]

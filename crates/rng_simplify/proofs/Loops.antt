@@ -19,7 +19,8 @@ use Rattle.rng_simplify.specs.Denoting.{IsCell, Denotes, DenoteAll, none_denoted
 use Rattle.rng_simplify.specs.Places.{Place, place, parts, Occurs, LeadsTo, to_part, to_definition, to_outer_definition, to_start, LeadsOn, in_one_step, in_more_steps}
 use Rattle.rng_simplify.specs.Standing.{cell_parts, bodies_of, AreWellFormed, Stands, a_part, a_definition, IsStanding, AreScopes}
 use Rattle.rng_simplify.specs.Standing as standing
-use Rattle.rng_simplify.specs.Resolving.{clauses_of, IsJoined, IsJoinedIn, IsJoinedOutside, IsResolved, link_at, is_linked, cell_leads, join_leads, leads_if, leads, IsJoinNumber, IsMet}
+use Rattle.rng_simplify.specs.Resolving.{clauses_of, IsJoined, IsJoinedIn, IsJoinedOutside, IsResolved, link_at, cell_leads, join_leads, leads_if, leads, IsJoinNumber}
+use Rattle.rng_simplify.specs.Walking.{IsMet, is_linked}
 use Rattle.rng_simplify.proofs.Nodes.{in_none, in_first, in_more, in_cases, in_one, PartIs, part_denoted, denoted_by, place_of}
 use Rattle.rng_simplify.proofs.Posts.{stands_within, innermost_stands, InnermostStands, scopes_by, one_grammar, IsAt, at_once}
 
@@ -29,8 +30,8 @@ use Rattle.rng_simplify.proofs.Posts.{stands_within, innermost_stands, Innermost
 filtered_among : (b : Bool) (clause : Clause) (more : List Clause) (name : Defined) (j : ℕ) → (Contains (bodies_of (clauses_of name more)) j → Contains (bodies_of more) j) → Contains (bodies_of (cond b (clause ∷ clauses_of name more) (clauses_of name more))) j → Contains (bodies_of (clause ∷ more)) j
 filtered_among true clause more name j further among =
     elim (in_cases clause.body (bodies_of (clauses_of name more)) j among) [
-      inl is ↦ subst (λ k. Contains (bodies_of (clause ∷ more)) k) is (in_first clause.body (bodies_of more))
-    | inr rest ↦ in_more clause.body (bodies_of more) j (further rest)
+      | inl is ↦ subst (λ k. Contains (bodies_of (clause ∷ more)) k) is (in_first clause.body (bodies_of more))
+      | inr rest ↦ in_more clause.body (bodies_of more) j (further rest)
     ]
 filtered_among false clause more name j further among = in_more clause.body (bodies_of more) j (further among)
 
@@ -42,10 +43,10 @@ named_among name (clause ∷ more) j among = filtered_among (same_defined name c
 named_if : {cells : List Cell} {number : ℕ → ℕ} (b : Bool) (name : Defined) (clause : Clause) (more : List Clause) (p : Composed) (rest : Clauses) (j : ℕ) → Denotes cells number clause.body p → (Contains (bodies_of (clauses_of name more)) j → PartIs cells number (bodies (defining name rest)) j) → Contains (bodies_of (cond b (clause ∷ clauses_of name more) (clauses_of name more))) j → PartIs cells number (bodies (cond b (clause_then clause.name clause.combine p (defining name rest)) (defining name rest))) j
 named_if {cells = cells} {number = number} true name clause more p rest j body further among =
     elim (in_cases clause.body (bodies_of (clauses_of name more)) j among) [
-      inl is ↦ record { pattern = p; denotes = subst (λ k. Denotes cells number k p) is body; within = in_first p (bodies (defining name rest)) }
-    | inr others ↦
-      let h = further others in
-      record { pattern = h.pattern; denotes = h.denotes; within = in_more p (bodies (defining name rest)) h.pattern h.within }
+      | inl is ↦ record { pattern = p; denotes = subst (λ k. Denotes cells number k p) is body; within = in_first p (bodies (defining name rest)) }
+      | inr others ↦
+          let h = further others in
+          record { pattern = h.pattern; denotes = h.denotes; within = in_more p (bodies (defining name rest)) h.pattern h.within }
     ]
 named_if false name clause more p rest j body further among = further among
 
@@ -60,6 +61,28 @@ slice_get_there [] n lt = absurd (omega arith)
 slice_get_there (join ∷ joins) zero lt = (join, refl)
 slice_get_there (join ∷ joins) (suc n) lt = slice_get_there joins n (omega arith)
 
+-- what is linked leads to its join alone, all else to its parts
+pub linked_leads : (count link : ℕ) (c : Cell) → is_linked c ≡ true → cell_leads count link c ≡ (count + link) ∷ []
+linked_leads count link (cell.ref name) is = refl
+linked_leads count link (cell.parent_ref name) is = refl
+linked_leads count link (cell.grammar clauses) is = refl
+linked_leads count link c is = absurd (false≢true is)
+
+pub unlinked_leads : (count link : ℕ) (c : Cell) → is_linked c ≡ false → cell_leads count link c ≡ cell_parts c
+unlinked_leads count link (cell.element class part) is = refl
+unlinked_leads count link (cell.attribute class part) is = refl
+unlinked_leads count link (cell.listed part) is = refl
+unlinked_leads count link (cell.ref name) is = absurd (false≢true (sym is))
+unlinked_leads count link (cell.parent_ref name) is = absurd (false≢true (sym is))
+unlinked_leads count link cell.empty is = refl
+unlinked_leads count link cell.any_text is = refl
+unlinked_leads count link cell.not_allowed is = refl
+unlinked_leads count link (cell.value type text) is = refl
+unlinked_leads count link (cell.typed type params part) is = refl
+unlinked_leads count link (cell.grammar clauses) is = absurd (false≢true (sym is))
+unlinked_leads count link (cell.one_or_more part) is = refl
+unlinked_leads count link (cell.joined sign first second) is = refl
+
 -- ---- what is led to
 
 module _ (cells : List Cell) (root : ℕ) (found : Resolved) where
@@ -69,9 +92,9 @@ module _ (cells : List Cell) (root : ℕ) (found : Resolved) where
     by_link : {x : ℕ} {outers : List ℕ} (c : Cell) → Stands cells root outers x → IsCell cells x c → is_linked c ≡ true → Lead x (length cells + link_at found x)
     by_body : {i : ℕ} (number : ℕ) (join : Join) → slice_get found.joins.items number ≡ Some join → Contains join.bodies.items i → Lead (length cells + number) i
 
-  cell_lead : {outers : List ℕ} {x : ℕ} (c : Cell) (b : Bool) (i : ℕ) → is_linked c ≡ b → Stands cells root outers x → IsCell cells x c → Contains (cond b ((length cells + link_at found x) ∷ []) (cell_parts c)) i → Lead x i
-  cell_lead {x = x} c true i is stands at among = subst (λ k. Lead x k) (in_one (length cells + link_at found x) i among) (by_link c stands at is)
-  cell_lead c false i is stands at among = by_part stands at among
+  cell_lead : {outers : List ℕ} {x : ℕ} (c : Cell) (b : Bool) (i : ℕ) → is_linked c ≡ b → Stands cells root outers x → IsCell cells x c → Contains (cell_leads (length cells) (link_at found x) c) i → Lead x i
+  cell_lead {x = x} c true i is stands at among = subst (λ k. Lead x k) (in_one (length cells + link_at found x) i (subst (λ (all : List ℕ). Contains all i) (linked_leads (length cells) (link_at found x) c is) among)) (by_link c stands at is)
+  cell_lead {x = x} c false i is stands at among = by_part stands at (subst (λ (all : List ℕ). Contains all i) (unlinked_leads (length cells) (link_at found x) c is) among)
 
   -- what a join's number leads to
   join_lead : (number i : ℕ) (join : Option Join) → slice_get found.joins.items number ≡ join → Contains (join_leads join) i → Lead (length cells + number) i
@@ -152,9 +175,9 @@ module _ (cells : List Cell) (root : ℕ) (found : Resolved) where
         let same : h.join ≡ join = same_Some h.join join (sym h.there ∙ at) in
         record {
           each = λ i there among is_at.
-          let body = body_at grammar outers by.0 by.1 by.2 (defined.Name name) (link_at found x) around.stands by.3 by.4 by.5 h i there (subst (λ (j : Join). Contains j.bodies.items i) (sym same) among) is_at in
-          subst (λ (from : Place). LeadsTo from there) (ap (λ ss. place ss (composed.ref name)) (sym by.6))
-          (subst (λ (to : Place). LeadsTo (place (by.1 ∷ by.2) (composed.ref name)) to) (sym body.place_is) (to_definition body.within));
+              let body = body_at grammar outers by.0 by.1 by.2 (defined.Name name) (link_at found x) around.stands by.3 by.4 by.5 h i there (subst (λ (j : Join). Contains j.bodies.items i) (sym same) among) is_at in
+              subst (λ (from : Place). LeadsTo from there) (ap (λ ss. place ss (composed.ref name)) (sym by.6))
+              (subst (λ (to : Place). LeadsTo (place (by.1 ∷ by.2) (composed.ref name)) to) (sym body.place_is) (to_definition body.within));
         }
 
     parent_ref_leads : (x : ℕ) (name : List ℕ) (outers : List ℕ) (scopes : List Clauses) → Stands cells root outers x → AreScopes cells number outers scopes → IsJoinedOutside cells found.joins.items outers (defined.Name name) (link_at found x) → (join : Join) → slice_get found.joins.items (link_at found x) ≡ Some join → LeadsToAll (place scopes (composed.parent_ref name)) join
@@ -168,9 +191,9 @@ module _ (cells : List Cell) (root : ℕ) (found : Resolved) where
         let scopes_are : scopes ≡ by.1 ∷ further.1 ∷ further.2 = by.6 ∙ ap (λ ss. by.1 ∷ ss) further.6 in
         record {
           each = λ i there among is_at.
-          let body = body_at grammar outers further.0 further.1 further.2 (defined.Name name) (link_at found x) around.stands further.3 further.4 further.5 h i there (subst (λ (j : Join). Contains j.bodies.items i) (sym same) among) is_at in
-          subst (λ (from : Place). LeadsTo from there) (ap (λ ss. place ss (composed.parent_ref name)) (sym scopes_are))
-          (subst (λ (to : Place). LeadsTo (place (by.1 ∷ further.1 ∷ further.2) (composed.parent_ref name)) to) (sym body.place_is) (to_outer_definition body.within));
+              let body = body_at grammar outers further.0 further.1 further.2 (defined.Name name) (link_at found x) around.stands further.3 further.4 further.5 h i there (subst (λ (j : Join). Contains j.bodies.items i) (sym same) among) is_at in
+              subst (λ (from : Place). LeadsTo from there) (ap (λ ss. place ss (composed.parent_ref name)) (sym scopes_are))
+              (subst (λ (to : Place). LeadsTo (place (by.1 ∷ further.1 ∷ further.2) (composed.parent_ref name)) to) (sym body.place_is) (to_outer_definition body.within));
         }
 
     grammar_leads : (x : ℕ) (clauses : List Clause) (all : Clauses) (outers : List ℕ) (scopes : List Clauses) → Stands cells root outers x → IsCell cells x (cell.grammar clauses) → DenoteAll cells number clauses all → AreScopes cells number outers scopes → IsJoined cells found.joins.items x defined.Start (link_at found x) → (join : Join) → slice_get found.joins.items (link_at found x) ≡ Some join → LeadsToAll (place scopes (composed.grammar all)) join
@@ -178,8 +201,8 @@ module _ (cells : List Cell) (root : ℕ) (found : Resolved) where
         let same : h.join ≡ join = same_Some h.join join (sym h.there ∙ at) in
         record {
           each = λ i there among is_at.
-          let body = body_at x outers clauses all scopes defined.Start (link_at found x) stands at_x denoted are h i there (subst (λ (j : Join). Contains j.bodies.items i) (sym same) among) is_at in
-          subst (λ (to : Place). LeadsTo (place scopes (composed.grammar all)) to) (sym body.place_is) (to_start body.within);
+              let body = body_at x outers clauses all scopes defined.Start (link_at found x) stands at_x denoted are h i there (subst (λ (j : Join). Contains j.bodies.items i) (sym same) among) is_at in
+              subst (λ (to : Place). LeadsTo (place scopes (composed.grammar all)) to) (sym body.place_is) (to_start body.within);
         }
 
     link_leads : (x : ℕ) (here : Place) (c : Cell) → IsAt cells root number x here → IsCell cells x c → is_linked c ≡ true → (join : Join) → slice_get found.joins.items (link_at found x) ≡ Some join → LeadsToAll here join
@@ -260,13 +283,13 @@ module _ (cells : List Cell) (root : ℕ) (found : Resolved) (formed : AreWellFo
     from_place : {x y : ℕ} (here : Place) → IsAt cells root number x here → Chain cells root found x y → ReachesAll here y
     from_place here is_at (last_lead lead) =
         elim (lead_from cells root found formed resolved number here is_at lead) [
-          inl h ↦ arrives h
-        | inr h ↦ λ there at_there. absurd (omega (arith, h.is, stands_within formed at_there.stands))
+          | inl h ↦ arrives h
+          | inr h ↦ λ there at_there. absurd (omega (arith, h.is, stands_within formed at_there.stands))
         ]
     from_place here is_at (further_lead lead more) =
         elim (lead_from cells root found formed resolved number here is_at lead) [
-          inl h ↦ λ there at_there. in_more_steps h.led (from_place h.there h.is_at more there at_there)
-        | inr h ↦ from_join here h.number_of_join h.join h.is h.at h.led more
+          | inl h ↦ λ there at_there. in_more_steps h.led (from_place h.there h.is_at more there at_there)
+          | inr h ↦ from_join here h.number_of_join h.join h.is h.at h.led more
         ]
 
     from_join : {x y : ℕ} (here : Place) (n : ℕ) (join : Join) → x ≡ length cells + n → slice_get found.joins.items n ≡ Some join → LeadsToAll cells root found formed resolved number here join → Chain cells root found x y → ReachesAll here y

@@ -157,8 +157,8 @@ only_part {cells = cells} {number = number} {part = part} {j = j} {q = q} within
 either_part : {cells : List Cell} {number : ℕ → ℕ} {first second j : ℕ} {q r : Composed} → Contains (first ∷ second ∷ []) j → Denotes cells number first q → Denotes cells number second r → PartIs cells number (q ∷ r ∷ []) j
 either_part {cells = cells} {number = number} {first = first} {second = second} {j = j} {q = q} {r = r} within one other =
     elim (in_cases first (second ∷ []) j within) [
-      inl e ↦ record { pattern = q; denotes = subst (λ k. Denotes cells number k q) e one; within = in_first q (r ∷ []) }
-    | inr more ↦ record { pattern = r; denotes = subst (λ k. Denotes cells number k r) (in_one second j more) other; within = in_more q (r ∷ []) r (in_first r []) }
+      | inl e ↦ record { pattern = q; denotes = subst (λ k. Denotes cells number k q) e one; within = in_first q (r ∷ []) }
+      | inr more ↦ record { pattern = r; denotes = subst (λ k. Denotes cells number k r) (in_one second j more) other; within = in_more q (r ∷ []) r (in_first r []) }
     ]
 
 by_parts : (by : Sign) (p q : Composed) → parts (composed_by by p q) ≡ p ∷ q ∷ []
@@ -191,10 +191,10 @@ pub body_denoted : {cells : List Cell} {number : ℕ → ℕ} {clauses : List Cl
 body_denoted none_denoted within = absurd (in_none within)
 body_denoted {cells = cells} {number = number} {j = j} (next_denoted {clause = clause} {more = more} {p = p} {rest = rest} body others) within =
     elim (in_cases clause.body (bodies_of more) j within) [
-      inl e ↦ record { pattern = p; denotes = subst (λ k. Denotes cells number k p) e body; within = in_first p (bodies rest) }
-    | inr further ↦
-      let h = body_denoted others further in
-      record { pattern = h.pattern; denotes = h.denotes; within = in_more p (bodies rest) h.pattern h.within }
+      | inl e ↦ record { pattern = p; denotes = subst (λ k. Denotes cells number k p) e body; within = in_first p (bodies rest) }
+      | inr further ↦
+          let h = body_denoted others further in
+          record { pattern = h.pattern; denotes = h.denotes; within = in_more p (bodies rest) h.pattern h.within }
     ]
 
 -- the place of a node
@@ -251,8 +251,8 @@ only_node {cells = cells} {number = number} {part = part} {p = p} {q = q} within
 either_node : {cells : List Cell} {number : ℕ → ℕ} {first second : ℕ} {p r q : Composed} → Contains (p ∷ r ∷ []) q → Denotes cells number first p → Denotes cells number second r → PartHasNode cells number (first ∷ second ∷ []) q
 either_node {cells = cells} {number = number} {first = first} {second = second} {p = p} {r = r} {q = q} within one other =
     elim (in_cases p (r ∷ []) q within) [
-      inl e ↦ record { node = first; denotes = subst (λ (s : Composed). Denotes cells number first s) e one; within = in_first first (second ∷ []) }
-    | inr more ↦ record { node = second; denotes = subst (λ (s : Composed). Denotes cells number second s) (in_one r q more) other; within = in_more first (second ∷ []) second (in_first second []) }
+      | inl e ↦ record { node = first; denotes = subst (λ (s : Composed). Denotes cells number first s) e one; within = in_first first (second ∷ []) }
+      | inr more ↦ record { node = second; denotes = subst (λ (s : Composed). Denotes cells number second s) (in_one r q more) other; within = in_more first (second ∷ []) second (in_first second []) }
     ]
 
 -- a part of what a node stands for is what a part of its cell stands for
@@ -281,10 +281,10 @@ body_has_node : {cells : List Cell} {number : ℕ → ℕ} {clauses : List Claus
 body_has_node none_denoted within = absurd (in_none within)
 body_has_node {cells = cells} {number = number} {q = q} (next_denoted {clause = clause} {more = more} {p = p} {rest = rest} body others) within =
     elim (in_cases p (bodies rest) q within) [
-      inl e ↦ record { node = clause.body; denotes = subst (λ (r : Composed). Denotes cells number clause.body r) e body; within = in_first clause.body (bodies_of more) }
-    | inr further ↦
-      let h = body_has_node others further in
-      record { node = h.node; denotes = h.denotes; within = in_more clause.body (bodies_of more) h.node h.within }
+      | inl e ↦ record { node = clause.body; denotes = subst (λ (r : Composed). Denotes cells number clause.body r) e body; within = in_first clause.body (bodies_of more) }
+      | inr further ↦
+          let h = body_has_node others further in
+          record { node = h.node; denotes = h.denotes; within = in_more clause.body (bodies_of more) h.node h.within }
     ]
 
 -- what a node stands for, by the pattern

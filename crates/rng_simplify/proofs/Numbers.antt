@@ -19,9 +19,9 @@ behind_cases [] last zero x h = inr (refl, sym (same_Some last x h))
 behind_cases [] last (suc k) x h = absurd (none-some x h)
 behind_cases (y ∷ old) last zero x h = inl h
 behind_cases (y ∷ old) last (suc k) x h = elim (behind_cases old last k x h) [
-    inl before ↦ inl before
+  | inl before ↦ inl before
   | inr it ↦ inr (ap suc it.0, it.1)
-  ]
+]
 
 -- an element and what isn't one are two cells
 other_cell : (cells : List Cell) (i : ℕ) (c d : Cell) → IsCell cells i c → IsCell cells i d → is_element c ≡ true → is_element d ≡ false → ⊥
@@ -34,15 +34,15 @@ module _ {cells : List Cell} {scopes : List Scope} {upto : ℕ} {old : List ℕ}
     all_links = h.all_links;
     other_links = h.other_links;
     numbered = λ i class part lt stands at_i. elim (cases_eq i upto) [
-      inr other ↦ h.numbered i class part (omega (arith, lt, other)) stands at_i
-    | inl is ↦ elim nothing [
-        inl nowhere ↦ absurd (stands (ap (λ k. get_or scopes k Nowhere) is ∙ nowhere))
-      | inr none ↦ absurd (other_cell cells upto (cell.element class part) c (subst (λ k. IsCell cells k (cell.element class part)) is at_i) at refl none)
+      | inr other ↦ h.numbered i class part (omega (arith, lt, other)) stands at_i
+      | inl is ↦ elim nothing [
+        | inl nowhere ↦ absurd (stands (ap (λ k. get_or scopes k Nowhere) is ∙ nowhere))
+        | inr none ↦ absurd (other_cell cells upto (cell.element class part) c (subst (λ k. IsCell cells k (cell.element class part)) is at_i) at refl none)
       ]
     ];
     each_number = λ number i there.
-      let before = h.each_number number i there in
-      (omega (arith, before.0), before.1);
+        let before = h.each_number number i there in
+        (omega (arith, before.0), before.1);
   }
 
   -- one that is
@@ -53,31 +53,34 @@ module _ {cells : List Cell} {scopes : List Scope} {upto : ℕ} {old : List ℕ}
       record {
         all_links = length-set now.links upto (length now.elements) ∙ h.all_links;
         other_links = λ i c at_i none. elim (cases_eq i upto) [
-          inr other ↦ elsewhere i other ∙ h.other_links i c at_i none
-        | inl is ↦ absurd (other_cell cells upto (cell.element class part) c at (subst (λ k. IsCell cells k c) is at_i) refl none)
+          | inr other ↦ elsewhere i other ∙ h.other_links i c at_i none
+          | inl is ↦ absurd (other_cell cells upto (cell.element class part) c at (subst (λ k. IsCell cells k c) is at_i) refl none)
         ];
         numbered = λ i class_i part_i lt_i stands_i at_i. elim (cases_eq i upto) [
-          inr other ↦
-          ap (slice_get (now.elements ++ upto ∷ [])) (elsewhere i other)
-          ∙ stays_behind now.elements (upto ∷ []) (get_or now.links i 0) i (h.numbered i class_i part_i (omega (arith, lt_i, other)) stands_i at_i)
-        | inl is ↦
-          ap (λ k. slice_get (now.elements ++ upto ∷ []) (get_or (set now.links upto (length now.elements)) k 0)) is
-          ∙ ap (slice_get (now.elements ++ upto ∷ [])) here
-          ∙ last_there now.elements upto
-          ∙ ap Some (sym is)
+          | inr other ↦
+              ap (slice_get (now.elements ++ upto ∷ [])) (elsewhere i other)
+              ∙ stays_behind now.elements (upto ∷ []) (get_or now.links i 0) i (h.numbered i class_i part_i (omega (arith, lt_i, other)) stands_i at_i)
+          | inl is ↦
+              ap (λ k. slice_get (now.elements ++ upto ∷ []) (get_or (set now.links upto (length now.elements)) k 0)) is
+              ∙ ap (slice_get (now.elements ++ upto ∷ [])) here
+              ∙ last_there now.elements upto
+              ∙ ap Some (sym is)
         ];
         each_number = λ number i there. elim (behind_cases now.elements upto number i there) [
-          inl before ↦
-          let is = h.each_number number i before in
-          let other : i ≢ upto = omega (arith, is.0) in
-          (omega (arith, is.0), record { class = is.1.class; part = is.1.part; is_element = is.1.is_element; stands = is.1.stands; linked = elsewhere i other ∙ is.1.linked })
-        | inr it ↦ (omega (arith, it.1), record {
-            class = class;
-            part = part;
-            is_element = subst (λ k. IsCell cells k (cell.element class part)) (sym it.1) at;
-            stands = λ none. stands (ap (λ k. get_or scopes k Nowhere) (sym it.1) ∙ none);
-            linked = ap (λ k. get_or (set now.links upto (length now.elements)) k 0) it.1 ∙ here ∙ sym it.0;
-          })
+          | inl before ↦
+              let is = h.each_number number i before in
+              let other : i ≢ upto = omega (arith, is.0) in
+              (omega (arith, is.0), record { class = is.1.class; part = is.1.part; is_element = is.1.is_element; stands = is.1.stands; linked = elsewhere i other ∙ is.1.linked })
+          | inr it ↦ (
+            omega (arith, it.1),
+            record {
+              class = class;
+              part = part;
+              is_element = subst (λ k. IsCell cells k (cell.element class part)) (sym it.1) at;
+              stands = λ none. stands (ap (λ k. get_or scopes k Nowhere) (sym it.1) ∙ none);
+              linked = ap (λ k. get_or (set now.links upto (length now.elements)) k 0) it.1 ∙ here ∙ sym it.0;
+            },
+          )
         ];
       }
 

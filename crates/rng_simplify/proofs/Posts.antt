@@ -136,18 +136,18 @@ stands_once formed the_root again =
     elim (stands_by again) [ inl is ↦ sym is.nothing_around | inr h ↦ absurd (root_alone formed h refl) ]
 stands_once {root = root} formed (a_part {outers = outers} {i = i} {j = j} {c = c} stands at inner) again =
     elim (stands_by again) [
-      inl is ↦ absurd (root_alone formed (record { around = outers; outer = i; cell = c; stands = stands; is_cell = at; inner = part_inner c inner; outers_are = refl }) is.root_is)
-    | inr h ↦ sym (part_within c i outers inner) ∙ same_around c formed at (part_inner c inner) h (λ others other. stands_once formed stands other)
+      | inl is ↦ absurd (root_alone formed (record { around = outers; outer = i; cell = c; stands = stands; is_cell = at; inner = part_inner c inner; outers_are = refl }) is.root_is)
+      | inr h ↦ sym (part_within c i outers inner) ∙ same_around c formed at (part_inner c inner) h (λ others other. stands_once formed stands other)
     ]
 stands_once formed (a_content {outers = outers} {i = i} {j = j} {class = class} stands at) again =
     elim (stands_by again) [
-      inl is ↦ absurd (root_alone formed (record { around = outers; outer = i; cell = cell.element class j; stands = stands; is_cell = at; inner = in_first j []; outers_are = refl }) is.root_is)
-    | inr h ↦ same_around (cell.element class j) formed at (in_first j []) h (λ others other. stands_once formed stands other)
+      | inl is ↦ absurd (root_alone formed (record { around = outers; outer = i; cell = cell.element class j; stands = stands; is_cell = at; inner = in_first j []; outers_are = refl }) is.root_is)
+      | inr h ↦ same_around (cell.element class j) formed at (in_first j []) h (λ others other. stands_once formed stands other)
     ]
 stands_once formed (a_definition {outers = outers} {i = i} {clauses = clauses} stands at inner) again =
     elim (stands_by again) [
-      inl is ↦ absurd (root_alone formed (record { around = outers; outer = i; cell = cell.grammar clauses; stands = stands; is_cell = at; inner = inner; outers_are = refl }) is.root_is)
-    | inr h ↦ same_around (cell.grammar clauses) formed at inner h (λ others other. stands_once formed stands other)
+      | inl is ↦ absurd (root_alone formed (record { around = outers; outer = i; cell = cell.grammar clauses; stands = stands; is_cell = at; inner = inner; outers_are = refl }) is.root_is)
+      | inr h ↦ same_around (cell.grammar clauses) formed at inner h (λ others other. stands_once formed stands other)
     ]
 
 -- ---- the grammars around a node

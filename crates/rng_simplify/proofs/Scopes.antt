@@ -43,10 +43,10 @@ length_given (i ∷ more) scope scopes = length_given more scope (set scopes i s
 pub set_cases : (scopes : List Scope) (i : ℕ) (scope : Scope) (j : ℕ) → ((get_or (set scopes i scope) j Nowhere ≡ scope) × (i ≡ j)) ⊎ (get_or (set scopes i scope) j Nowhere ≡ get_or scopes j Nowhere)
 set_cases scopes i scope j =
     elim (cases_eq j i) [
-      inr other ↦ inr (get_or-set_other scopes i j scope Nowhere other)
-    | inl is ↦ elim (cases_lt i (length scopes)) [
-        inl lt ↦ inl (ap (λ k. get_or (set scopes i scope) k Nowhere) is ∙ get_or-set_same scopes i scope Nowhere lt, sym is)
-      | inr past ↦ inr (ap (λ (xs : List Scope). get_or xs j Nowhere) (set_past scopes i scope past))
+      | inr other ↦ inr (get_or-set_other scopes i j scope Nowhere other)
+      | inl is ↦ elim (cases_lt i (length scopes)) [
+        | inl lt ↦ inl (ap (λ k. get_or (set scopes i scope) k Nowhere) is ∙ get_or-set_same scopes i scope Nowhere lt, sym is)
+        | inr past ↦ inr (ap (λ (xs : List Scope). get_or xs j Nowhere) (set_past scopes i scope past))
       ]
     ]
 
@@ -55,10 +55,10 @@ pub given_cases : (nodes : List ℕ) (scope : Scope) (scopes : List Scope) (j : 
 given_cases [] scope scopes j = inr refl
 given_cases (i ∷ more) scope scopes j =
     elim (given_cases more scope (set scopes i scope) j) [
-      inl h ↦ inl (h.0, in_more i more j h.1)
-    | inr same ↦ elim (set_cases scopes i scope j) [
-        inl h ↦ inl (same ∙ h.0, subst (λ k. Contains (i ∷ more) k) h.1 (in_first i more))
-      | inr other ↦ inr (same ∙ other)
+      | inl h ↦ inl (h.0, in_more i more j h.1)
+      | inr same ↦ elim (set_cases scopes i scope j) [
+        | inl h ↦ inl (same ∙ h.0, subst (λ k. Contains (i ∷ more) k) h.1 (in_first i more))
+        | inr other ↦ inr (same ∙ other)
       ]
     ]
 
@@ -66,8 +66,8 @@ given_cases (i ∷ more) scope scopes j =
 pub given_keeps : (nodes : List ℕ) (scope : Scope) (scopes : List Scope) (j : ℕ) → scope ≢ Nowhere → get_or scopes j Nowhere ≢ Nowhere → get_or (given nodes scope scopes) j Nowhere ≢ Nowhere
 given_keeps nodes scope scopes j some before none =
     elim (given_cases nodes scope scopes j) [
-      inl h ↦ some (sym h.0 ∙ none)
-    | inr same ↦ before (sym same ∙ none)
+      | inl h ↦ some (sym h.0 ∙ none)
+      | inr same ↦ before (sym same ∙ none)
     ]
 
 -- what is given a scope has one
@@ -75,8 +75,8 @@ pub given_some : (nodes : List ℕ) (scope : Scope) (scopes : List Scope) (j : �
 given_some [] scope scopes j some among lt = absurd (in_none among)
 given_some (i ∷ more) scope scopes j some among lt =
     elim (in_cases i more j among) [
-      inl is ↦ given_keeps more scope (set scopes i scope) j some (λ none. some (sym (ap (λ k. get_or (set scopes i scope) k Nowhere) (sym is) ∙ get_or-set_same scopes i scope Nowhere (omega (arith, is, lt))) ∙ none))
-    | inr further ↦ given_some more scope (set scopes i scope) j some further (omega (arith, lt, length-set scopes i scope))
+      | inl is ↦ given_keeps more scope (set scopes i scope) j some (λ none. some (sym (ap (λ k. get_or (set scopes i scope) k Nowhere) (sym is) ∙ get_or-set_same scopes i scope Nowhere (omega (arith, is, lt))) ∙ none))
+      | inr further ↦ given_some more scope (set scopes i scope) j some further (omega (arith, lt, length-set scopes i scope))
     ]
 
 -- ---- what stays known
@@ -130,10 +130,10 @@ taken_on cells outers i link (cell.joined sign first second) keeps h = tt
 pub nowhere_stands : {cells : List Cell} {root i : ℕ} {now : Findings} {outers : List ℕ} → AreWellFormed cells root → IsMidway cells root (i + 1) now → get_or now.scopes i Nowhere ≡ Nowhere → Stands cells root outers i → ⊥
 nowhere_stands {i = i} {now = now} formed midway none stands =
     elim (stands_by stands) [
-      inl is ↦ midway.root_known (ap (λ k. get_or now.scopes k Nowhere) (sym is.root_is) ∙ none)
-    | inr h ↦
-      let less = formed.inner_below h.outer i h.cell h.is_cell h.inner in
-      midway.inner_known h.outer i h.cell (omega (arith, less)) (h.around, h.stands) h.is_cell h.inner none
+      | inl is ↦ midway.root_known (ap (λ k. get_or now.scopes k Nowhere) (sym is.root_is) ∙ none)
+      | inr h ↦
+          let less = formed.inner_below h.outer i h.cell h.is_cell h.inner in
+          midway.inner_known h.outer i h.cell (omega (arith, less)) (h.around, h.stands) h.is_cell h.inner none
     ]
 
 -- so there is nothing to know of it
@@ -146,12 +146,12 @@ nowhere_taken {cells = cells} {root = root} {i = i} {now = now} formed midway no
       posted = midway.posted;
       root_known = midway.root_known;
       inner_known = λ k j c le stands at inner. elim (cases_eq k i) [
-        inl is ↦ absurd (never k stands.0 is stands.1)
-      | inr other ↦ midway.inner_known k j c (omega (arith, le, other)) stands at inner
+        | inl is ↦ absurd (never k stands.0 is stands.1)
+        | inr other ↦ midway.inner_known k j c (omega (arith, le, other)) stands at inner
       ];
       taken = λ outers k c le stands at. elim (cases_eq k i) [
-        inl is ↦ absurd (never k outers is stands)
-      | inr other ↦ midway.taken outers k c (omega (arith, le, other)) stands at
+        | inl is ↦ absurd (never k outers is stands)
+        | inr other ↦ midway.taken outers k c (omega (arith, le, other)) stands at
       ];
       each_join = midway.each_join;
     }
@@ -172,10 +172,10 @@ next_posted : {cells : List Cell} {root i : ℕ} {c : Cell} {outers : List ℕ} 
 next_posted {cells = cells} {root = root} {i = i} {c = c} {outers = outers} {scope = scope} {old = old} {new = new} midway at stands next j some =
     let is : get_or new.scopes j Nowhere ≡ get_or (given (inner_nodes c) scope old.scopes) j Nowhere = ap (λ (xs : List Scope). get_or xs j Nowhere) next.scopes_are in
     elim (given_cases (inner_nodes c) scope old.scopes j) [
-      inl h ↦ subst (λ (s : Scope). IsPosted cells root new s j) (sym (is ∙ h.0)) (record { outers = within c i outers; stands = stands_in c stands at h.1; is_scope = next.is_scope })
-    | inr same ↦
-      let before = midway.posted j (λ none. some (is ∙ same ∙ none)) in
-      subst (λ (s : Scope). IsPosted cells root new s j) (sym (is ∙ same)) (record { outers = before.outers; stands = before.stands; is_scope = scope_on next.joins next.tables before.is_scope })
+      | inl h ↦ subst (λ (s : Scope). IsPosted cells root new s j) (sym (is ∙ h.0)) (record { outers = within c i outers; stands = stands_in c stands at h.1; is_scope = next.is_scope })
+      | inr same ↦
+          let before = midway.posted j (λ none. some (is ∙ same ∙ none)) in
+          subst (λ (s : Scope). IsPosted cells root new s j) (sym (is ∙ same)) (record { outers = before.outers; stands = before.stands; is_scope = scope_on next.joins next.tables before.is_scope })
     ]
 
 -- a node that stands there again is the same
@@ -196,16 +196,16 @@ next_taken {cells = cells} {root = root} {i = i} {c = c} {outers = outers} {scop
       posted = next_posted midway at stands next;
       root_known = known root (given_keeps (inner_nodes c) scope old.scopes root next.some midway.root_known);
       inner_known = λ k j d le standing at_k inner. elim (cases_eq k i) [
-        inl is ↦
-          let same : d ≡ c = one_cell cells i d c (subst (λ m. IsCell cells m d) is at_k) at in
-          let among : Contains (inner_nodes c) j = subst (λ (e : Cell). Contains (inner_nodes e) j) same inner in
-          let below = formed.inner_below i j c at among in
-          known j (given_some (inner_nodes c) scope old.scopes j next.some among (omega (arith, below, slice_get_within cells i c at, midway.all_scopes)))
-      | inr other ↦ known j (given_keeps (inner_nodes c) scope old.scopes j next.some (midway.inner_known k j d (omega (arith, le, other)) standing at_k inner))
+        | inl is ↦
+            let same : d ≡ c = one_cell cells i d c (subst (λ m. IsCell cells m d) is at_k) at in
+            let among : Contains (inner_nodes c) j = subst (λ (e : Cell). Contains (inner_nodes e) j) same inner in
+            let below = formed.inner_below i j c at among in
+            known j (given_some (inner_nodes c) scope old.scopes j next.some among (omega (arith, below, slice_get_within cells i c at, midway.all_scopes)))
+        | inr other ↦ known j (given_keeps (inner_nodes c) scope old.scopes j next.some (midway.inner_known k j d (omega (arith, le, other)) standing at_k inner))
       ];
       taken = λ others k d le standing at_k. elim (cases_eq k i) [
-        inl is ↦ same_taken new.joins new.links formed at stands next.taken others k d is standing at_k
-      | inr other ↦ subst (λ link. IsTaken cells new.joins others k link d) (sym (next.other_links k other)) (taken_on cells others k (get_or old.links k 0) d next.joins (midway.taken others k d (omega (arith, le, other)) standing at_k))
+        | inl is ↦ same_taken new.joins new.links formed at stands next.taken others k d is standing at_k
+        | inr other ↦ subst (λ link. IsTaken cells new.joins others k link d) (sym (next.other_links k other)) (taken_on cells others k (get_or old.links k 0) d next.joins (midway.taken others k d (omega (arith, le, other)) standing at_k))
       ];
       each_join = next.each_join;
     }
@@ -285,14 +285,14 @@ parent_ref_refused {name = name} at stands none number whole denotes =
 pub start_refused : {cells : List Cell} {root : ℕ} {outers : List ℕ} {i : ℕ} {clauses : List Clause} → IsCell cells i (cell.grammar clauses) → Stands cells root outers i → clauses_of defined.Start clauses ≡ [] → IsRefusal cells root (Unreadable cause.NoStart)
 start_refused {clauses = clauses} at stands none number whole denotes =
     has_at HasNoStart denotes stands (λ scopes p are denoted.
-      let grammar = denoted_by (cell.grammar clauses) at denoted in
-      subst (λ (r : Composed). HasNoStart scopes r) (sym grammar.2) (defined_none defined.Start grammar.1 none))
+    let grammar = denoted_by (cell.grammar clauses) at denoted in
+    subst (λ (r : Composed). HasNoStart scopes r) (sym grammar.2) (defined_none defined.Start grammar.1 none))
 
 pub clash_refused : {cells : List Cell} {root : ℕ} {outers : List ℕ} {i : ℕ} {clauses : List Clause} (name : Defined) → IsCell cells i (cell.grammar clauses) → Stands cells root outers i → clash (combines_of (clauses_of name clauses)) ≡ true → IsRefusal cells root (Unreadable cause.CombineClash)
 clash_refused {clauses = clauses} name at stands clashes number whole denotes =
     has_at HasClash denotes stands (λ scopes p are denoted.
-      let grammar = denoted_by (cell.grammar clauses) at denoted in
-      subst (λ (r : Composed). HasClash scopes r) (sym grammar.2) (name, ap clash (combines_denoted name grammar.1) ∙ clashes))
+    let grammar = denoted_by (cell.grammar clauses) at denoted in
+    subst (λ (r : Composed). HasClash scopes r) (sym grammar.2) (name, ap clash (combines_denoted name grammar.1) ∙ clashes))
 
 -- ---- joins by scopes
 
@@ -414,14 +414,14 @@ module _ {cells : List Cell} {root i : ℕ} where
         tables = tables;
         taken = (
           subst (λ link. IsJoined cells new.joins i defined.Start link) (sym (ap (λ (ls : List ℕ). get_or ls i 0) h.links_are ∙ get_or-set_same old.links i h.start 0 lt))
-          (subst (λ (k : Option ℕ). IsKept cells new.joins i clauses defined.Start k) h.start_is (kept defined.Start)),
+              (subst (λ (k : Option ℕ). IsKept cells new.joins i clauses defined.Start k) h.start_is (kept defined.Start)),
           λ name. no_clash_as new.joins clauses (length old.joins) name (kept_for h.names name) (h.gathered.gathered name),
         );
         each_join = λ number within. elim (cases_lt number (length old.joins)) [
-          inl before ↦ old_join joins (midway.each_join number before)
-        | inr behind ↦
-          let name = h.gathered.each number behind within in
-          record { grammar = i; name = name.0; stands = (posted.outers, posted.stands); joined = subst (λ (k : Option ℕ). IsKept cells new.joins i clauses name.0 k) name.1 (kept name.0) }
+          | inl before ↦ old_join joins (midway.each_join number before)
+          | inr behind ↦
+              let name = h.gathered.each number behind within in
+              record { grammar = i; name = name.0; stands = (posted.outers, posted.stands); joined = subst (λ (k : Option ℕ). IsKept cells new.joins i clauses name.0 k) name.1 (kept name.0) }
         ];
       }
 

@@ -150,14 +150,15 @@ signs_added all c old new signs both alone none = record {
   combine_is = sym (ok_says old.combine c new.combine both) ∙ ap (λ b. then_says b c) signs.combine_is ∙ sym (says_next all c);
   alone_is = alone ∙ ap (λ b. b || is_alone c) signs.alone_is ∙ ap (λ b. list_any is_alone all || b) (sym (or_nothing (is_alone c))) ∙ sym (list_any-append is_alone all (c ∷ []));
   no_clash = not_clashing all c signs.no_clash (λ is. sym signs.alone_is ∙ sym (and_true old.has_alone) ∙ ap (λ b. old.has_alone && is_alone b) (sym is) ∙ none)
-    (λ is said. not_choice old.combine c new.combine both (signs.combine_is ∙ said) is)
-    (λ is said. not_interleave old.combine c new.combine both (signs.combine_is ∙ said) is);
+      (λ is said. not_choice old.combine c new.combine both (signs.combine_is ∙ said) is)
+      (λ is said. not_interleave old.combine c new.combine both (signs.combine_is ∙ said) is);
 }
   where
     not_choice : (before c after : Combine) → both_say before c ≡ Some after → before ≡ combine.Interleave → c ≡ combine.Choice → ⊥
     not_choice before c after both said is =
         let both' : both_say combine.Interleave combine.Choice ≡ Some after = ap (λ b. both_say b combine.Choice) (sym said) ∙ ap (both_say before) (sym is) ∙ both in
         absurd cc
+
     not_interleave : (before c after : Combine) → both_say before c ≡ Some after → before ≡ combine.Choice → c ≡ combine.Interleave → ⊥
     not_interleave before c after both said is =
         let both' : both_say combine.Choice combine.Interleave ≡ Some after = ap (λ b. both_say b combine.Interleave) (sym said) ∙ ap (both_say before) (sym is) ∙ both in

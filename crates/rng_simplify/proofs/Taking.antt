@@ -40,8 +40,8 @@ midway_begins cells root formed =
       all_scopes = length-set (replicate count Nowhere) root Outside ∙ length-replicate count Nowhere;
       all_links = length-replicate count 0;
       posted = λ i some. elim (set_cases (replicate count Nowhere) root Outside i) [
-        inl h ↦ subst (λ (s : Scope). IsPosted cells root (findings_at_first count root) s i) (sym h.0) (record { outers = []; stands = subst (λ k. Stands cells root [] k) h.1 the_root; is_scope = outside })
-      | inr same ↦ absurd (some (same ∙ nowhere_in_all count i))
+        | inl h ↦ subst (λ (s : Scope). IsPosted cells root (findings_at_first count root) s i) (sym h.0) (record { outers = []; stands = subst (λ k. Stands cells root [] k) h.1 the_root; is_scope = outside })
+        | inr same ↦ absurd (some (same ∙ nowhere_in_all count i))
       ];
       root_known = λ none. outside_somewhere (sym (get_or-set_same (replicate count Nowhere) root Outside Nowhere long) ∙ none);
       inner_known = λ i j c le stands at inner. absurd (omega (arith, slice_get_within cells i c at, le));
@@ -88,8 +88,8 @@ module _ {cells : List Cell} {root : ℕ} {now : Findings} where
   pub standing_known : (outers : List ℕ) (i : ℕ) → AreWellFormed cells root → IsMidway cells root 0 now → Stands cells root outers i → get_or now.scopes i Nowhere ≢ Nowhere
   standing_known outers i formed midway stands none =
       elim (stands_by stands) [
-        inl is ↦ midway.root_known (ap (λ k. get_or now.scopes k Nowhere) (sym is.root_is) ∙ none)
-      | inr h ↦ midway.inner_known h.outer i h.cell (omega arith) (h.around, h.stands) h.is_cell h.inner none
+        | inl is ↦ midway.root_known (ap (λ k. get_or now.scopes k Nowhere) (sym is.root_is) ∙ none)
+        | inr h ↦ midway.inner_known h.outer i h.cell (omega arith) (h.around, h.stands) h.is_cell h.inner none
       ]
 
 pub all_resolved : (cells : List Cell) (root : ℕ) (tables : List Table) (old : List ℕ) (scopes : Vec Scope Global) (links : Vec ℕ Global) (joins : Vec Join Global) (elements : Vec ℕ Global) → AreWellFormed cells root → IsMidway cells root 0 (record { tables = tables; scopes = scopes.items; links = old; joins = joins.items }) → AreNumbered cells scopes.items (length cells) old (record { links = links.items; elements = elements.items }) → IsResolved cells root (record { scopes = scopes; links = links; joins = joins; elements = elements })
@@ -101,18 +101,18 @@ all_resolved cells root tables old scopes links joins elements formed midway num
     λ standing. standing_known standing.0 i formed midway standing.1,
   );
   ref_joined = λ outers i name stands at.
-    subst (λ link. IsJoinedIn cells joins.items outers (defined.Name name) link) (sym (numbered.other_links i (cell.ref name) at refl)) (midway.taken outers i (cell.ref name) (omega arith) stands at);
+      subst (λ link. IsJoinedIn cells joins.items outers (defined.Name name) link) (sym (numbered.other_links i (cell.ref name) at refl)) (midway.taken outers i (cell.ref name) (omega arith) stands at);
   parent_ref_joined = λ outers i name stands at.
-    subst (λ link. IsJoinedOutside cells joins.items outers (defined.Name name) link) (sym (numbered.other_links i (cell.parent_ref name) at refl)) (midway.taken outers i (cell.parent_ref name) (omega arith) stands at);
+      subst (λ link. IsJoinedOutside cells joins.items outers (defined.Name name) link) (sym (numbered.other_links i (cell.parent_ref name) at refl)) (midway.taken outers i (cell.parent_ref name) (omega arith) stands at);
   start_joined = λ i clauses standing at.
-    subst (λ link. IsJoined cells joins.items i defined.Start link) (sym (numbered.other_links i (cell.grammar clauses) at refl)) (midway.taken standing.0 i (cell.grammar clauses) (omega arith) standing.1 at).0;
+      subst (λ link. IsJoined cells joins.items i defined.Start link) (sym (numbered.other_links i (cell.grammar clauses) at refl)) (midway.taken standing.0 i (cell.grammar clauses) (omega arith) standing.1 at).0;
   each_join = midway.each_join;
   no_clash = λ i clauses name standing at. (midway.taken standing.0 i (cell.grammar clauses) (omega arith) standing.1 at).1 name;
   numbered = λ i class part standing at. numbered.numbered i class part (slice_get_within cells i (cell.element class part) at) (standing_known standing.0 i formed midway standing.1) at;
   each_number = λ number i there.
-    let h = numbered.each_number number i there in
-    let posted = midway.posted i h.1.stands in
-    record { class = h.1.class; part = h.1.part; is_element = h.1.is_element; stands = (posted.outers, posted.stands); linked = h.1.linked };
+      let h = numbered.each_number number i there in
+      let posted = midway.posted i h.1.stands in
+      record { class = h.1.class; part = h.1.part; is_element = h.1.is_element; stands = (posted.outers, posted.stands); linked = h.1.linked };
 }
 
 -- the same of nodes

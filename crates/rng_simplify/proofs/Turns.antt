@@ -1,5 +1,8 @@
 -- A turn of a walk, by its answer; how it begins, and what is there when it has ended.
 use Rattle.std.proofs.Common.{◌≡◌, ◌≢◌, refl, sym, ap, ◌∙◌, subst, ℕ, zero, suc, ◌+◌, ◌-◌, ◌*◌, ◌<◌, ◌≤◌, inl, inr, ◌⊎◌, Bool, true, false, cond, List, [], ◌∷◌, ◌++◌, length, map, set, get_or, take, sum_by, slice_get, Option, Some, None, Result, Ok, Err, Contains, arith}
+use Rattle.std.specs.Prelude.{◌==◌}
+use Rattle.std.specs.List.{AllByRecursion, IsDistinct}
+use Rattle.std.proofs.lemmas.Bool.{ne_eqb}
 use Rattle.std.proofs.lemmas.Option.{same_Some, none-some, slice_get_within, slice_get_past, slice_get_read}
 use Rattle.std.proofs.lemmas.List.{length-map}
 use Rattle.std.proofs.lemmas.List.Sums.{sum_by-cons}
@@ -18,13 +21,30 @@ use Rattle.rng_simplify.specs.declared.node.Node.{Node}
 use Rattle.rng_simplify.specs.Cells.{Cell, cell_of}
 use Rattle.rng_simplify.specs.Cells as cell
 use Rattle.rng_simplify.specs.Standing.{cell_parts, AreWellFormed, IsStanding}
-use Rattle.rng_simplify.specs.Resolving.{IsResolved, link_at, is_linked, cell_leads, join_leads, leads_if, leads, IsMet, IsOrdered, scope_at}
-use Rattle.rng_simplify.specs.Walking.{Walking, mark_at, step_of, with_step, opened, left, Meets, IsStep, AreSteps, path_of, IsWalk, KeepsMarks, most, left_at, work, IsTurned, IsGone, IsPassed}
+use Rattle.rng_simplify.specs.Resolving.{IsResolved, link_at, cell_leads, join_leads, leads_if, leads, IsOrdered, scope_at}
+use Rattle.rng_simplify.specs.Walking.{IsMet, is_linked, Walking, mark_at, step_of, with_step, opened, left, Meets, IsStep, AreSteps, path_of, IsWalk, KeepsMarks, most, left_at, work, IsTurned, IsGone, IsPassed}
 use Rattle.rng_simplify.proofs.Nodes.{in_none, in_first, in_more, in_cases, cell_there}
 use Rattle.rng_simplify.proofs.Posts.{stands_within}
 use Rattle.rng_simplify.proofs.Taking.{scope_read}
-use Rattle.rng_simplify.proofs.Loops.{lead_of, lead_met, Chain, last_lead, further_lead, chain_on, loop_refused, link_within}
+use Rattle.rng_simplify.proofs.Loops.{lead_of, lead_met, Chain, last_lead, further_lead, chain_on, loop_refused, link_within, linked_leads, unlinked_leads}
 use Rattle.rng_simplify.proofs.Walks.{same_ends, some_end, in_by_place, has_last, next_step, newly_met, met_again, node_left, opened_keeps, left_keeps, work_again, work_newly, work_left, new_open, new_done, set_mark}
+
+-- ---- numbers that stand at one place each
+
+unlike : (x y : ℕ) → (x ≡ y → ⊥) → (x == y) ≡ false
+unlike x y differ = ne_eqb x y differ
+
+unlike_rest : (x : ℕ) (xs : List ℕ) → ((k : ℕ) → slice_get xs k ≡ Some x → ⊥) → AllByRecursion (λ y. (x == y) ≡ false) xs
+unlike_rest x [] never = tt
+unlike_rest x (y ∷ xs) never = (unlike x y (λ is. never 0 (ap Some (sym is))), unlike_rest x xs (λ k at. never (suc k) at))
+
+distinct_by_place : (xs : List ℕ) → ((k m i : ℕ) → slice_get xs k ≡ Some i → slice_get xs m ≡ Some i → k ≡ m) → IsDistinct (λ a b. a == b) xs
+unfolding IsDistinct
+distinct_by_place [] once = tt
+distinct_by_place (x ∷ xs) once = (
+  unlike_rest x xs (λ k at. let same = once 0 (suc k) x refl at in absurd (omega (arith, same))),
+  distinct_by_place xs (λ k m i at again. let same = once (suc k) (suc m) i at again in omega (arith, same)),
+)
 
 -- ---- few are led to
 
@@ -52,9 +72,14 @@ few_parts (cell.grammar clauses) = omega arith
 few_parts (cell.one_or_more part) = omega arith
 few_parts (cell.joined sign first second) = omega arith
 
-few_leads : (join : ℕ) (c : Cell) (b : Bool) → length (cond b (join ∷ []) (cell_parts c)) ≤ 2
-few_leads join c true = omega arith
-few_leads join c false = few_parts c
+few_leads : (count link : ℕ) (c : Cell) (b : Bool) → is_linked c ≡ b → length (cell_leads count link c) ≤ 2
+few_leads count link c true is =
+    let one = ap length (linked_leads count link c is) in
+    omega (arith, one)
+few_leads count link c false is =
+    let same = ap length (unlinked_leads count link c is) in
+    let less = few_parts c in
+    omega (arith, same, less)
 
 few_of_join : (found : Resolved) (n : ℕ) (join : Option Join) → slice_get found.joins.items n ≡ join → length (join_leads join) + 1 < most found
 few_of_join found n (Some join) at =
@@ -64,7 +89,7 @@ few_of_join found n None at = omega arith
 
 few_if : (cells : List Cell) (found : Resolved) (x : ℕ) (c : Option Cell) → length (leads_if cells found x c) + 1 < most found
 few_if cells found x (Some c) =
-    let less = few_leads (length cells + link_at found x) c (is_linked c) in
+    let less = few_leads (length cells) (link_at found x) c (is_linked c) refl in
     omega (arith, less)
 few_if cells found x None = few_of_join found (x - length cells) (slice_get found.joins.items (x - length cells)) refl
 
@@ -88,8 +113,8 @@ module _ (cells : List Cell) (root : ℕ) (found : Resolved) where
   up_to now j (top ∷ before) formed h step among =
       let lead = lead_of cells root found formed h.0.is_met (h.0.leads_on j refl) in
       elim (in_cases top before step among) [
-        inl is ↦ subst (λ (s : Step). Chain cells root found s.node j) is (last_lead lead)
-      | inr further ↦ chain_on (up_to now top.node before formed h.1 step further) lead
+        | inl is ↦ subst (λ (s : Step). Chain cells root found s.node j) is (last_lead lead)
+        | inr further ↦ chain_on (up_to now top.node before formed h.1 step further) lead
       ]
 
   -- it leads back to itself, where it comes next
@@ -219,7 +244,7 @@ module _ (cells : List Cell) (root : ℕ) (found : Resolved) where
     each_node = λ i standing. by_mark_done now i h rest (nodes i standing) (mark_at now i) refl;
     each_join = λ number lt. by_mark_done now (length cells + number) h rest (joins number lt) (mark_at now (length cells + number)) refl;
     nothing_else = λ i among. (h.ordered i among).1;
-    once = h.once;
+    distinct = distinct_by_place now.order h.once;
     behind = h.behind;
   }
 
@@ -247,12 +272,12 @@ module _ (cells : List Cell) (root : ℕ) (found : Resolved) where
 pub leads_linked : (nodes : List Node) (found : Resolved) (x link k : ℕ) (node : Node) → x < length nodes → node ≡ get_or nodes x node → is_linked (cell_of node) ≡ true → link ≡ get_or found.links.items x 0 → (it : ℕ) → it ≡ length nodes + link → slice_get (it ∷ []) k ≡ slice_get (leads (map cell_of nodes) found x) k
 leads_linked nodes found x link k node lt is linked link_is it it_is =
     ap (λ n. slice_get (n ∷ []) k) (it_is ∙ ap (λ n. n + link) (sym (length-map nodes cell_of)) ∙ ap (λ n. length (map cell_of nodes) + n) link_is)
-    ∙ sym (ap (λ (b : Bool). slice_get (cond b ((length (map cell_of nodes) + link_at found x) ∷ []) (cell_parts (cell_of node))) k) linked)
+    ∙ sym (ap (λ (all : List ℕ). slice_get all k) (linked_leads (length (map cell_of nodes)) (link_at found x) (cell_of node) linked))
     ∙ sym (ap (λ (c : Option Cell). slice_get (leads_if (map cell_of nodes) found x c) k) (cell_there nodes x node lt is))
 
 pub leads_parts : (nodes : List Node) (found : Resolved) (x k : ℕ) (node : Node) → x < length nodes → node ≡ get_or nodes x node → is_linked (cell_of node) ≡ false → slice_get (cell_parts (cell_of node)) k ≡ slice_get (leads (map cell_of nodes) found x) k
 leads_parts nodes found x k node lt is linked =
-    sym (ap (λ (b : Bool). slice_get (cond b ((length (map cell_of nodes) + link_at found x) ∷ []) (cell_parts (cell_of node))) k) linked)
+    sym (ap (λ (all : List ℕ). slice_get all k) (unlinked_leads (length (map cell_of nodes)) (link_at found x) (cell_of node) linked))
     ∙ sym (ap (λ (c : Option Cell). slice_get (leads_if (map cell_of nodes) found x c) k) (cell_there nodes x node lt is))
 
 pub leads_bodies : (nodes : List Node) (found : Resolved) (x n k : ℕ) (join : Join) → length nodes ≤ x → n ≡ x - length nodes → n < length found.joins.items → join ≡ get_or found.joins.items n join → slice_get join.bodies.items k ≡ slice_get (leads (map cell_of nodes) found x) k
@@ -260,9 +285,9 @@ leads_bodies nodes found x n k join past n_is lt is =
     let none : slice_get (map cell_of nodes) x ≡ None = slice_get_past (map cell_of nodes) x (omega (arith, past, length-map nodes cell_of)) in
     let number : n ≡ x - length (map cell_of nodes) = omega (arith, n_is, length-map nodes cell_of) in
     sym (
-      ap (λ (c : Option Cell). slice_get (leads_if (map cell_of nodes) found x c) k) none
-      ∙ ap (λ m. slice_get (join_leads (slice_get found.joins.items m)) k) (sym number)
-      ∙ ap (λ (j : Option Join). slice_get (join_leads j) k) (slice_get_read found.joins.items (length found.joins.items) n join refl lt is)
+    ap (λ (c : Option Cell). slice_get (leads_if (map cell_of nodes) found x c) k) none
+    ∙ ap (λ m. slice_get (join_leads (slice_get found.joins.items m)) k) (sym number)
+    ∙ ap (λ (j : Option Join). slice_get (join_leads j) k) (slice_get_read found.joins.items (length found.joins.items) n join refl lt is)
     )
 
 -- a link of a node that stands in the schema is a join's number

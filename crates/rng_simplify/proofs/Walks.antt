@@ -11,8 +11,8 @@ use Rattle.rng_simplify.specs.declared.order.Step.{Step}
 use Rattle.rng_simplify.specs.declared.resolve.Join.{Join}
 use Rattle.rng_simplify.specs.declared.resolve.Resolved.{Resolved}
 use Rattle.rng_simplify.specs.Cells.{Cell}
-use Rattle.rng_simplify.specs.Resolving.{leads, IsMet}
-use Rattle.rng_simplify.specs.Walking.{Walking, mark_at, step_of, with_step, opened, left, IsStep, AreSteps, path_of, IsWalk, KeepsMarks, is_new, most, left_at, work}
+use Rattle.rng_simplify.specs.Resolving.{leads}
+use Rattle.rng_simplify.specs.Walking.{IsMet, Walking, mark_at, step_of, with_step, opened, left, IsStep, AreSteps, path_of, IsWalk, KeepsMarks, is_new, most, left_at, work}
 use Rattle.rng_simplify.proofs.Nodes.{in_none, in_first, in_more, in_cases}
 use Rattle.rng_simplify.proofs.Numbers.{behind_cases}
 use Rattle.rng_simplify.proofs.Scopes.{stays_behind}
@@ -103,8 +103,8 @@ module _ (cells : List Cell) (root : ℕ) (found : Resolved) where
   steps_open now next [] h step among = absurd (in_none among)
   steps_open now next (top ∷ before) h step among =
       elim (in_cases top before step among) [
-        inl is ↦ ap (λ (s : Step). mark_at now s.node) (sym is) ∙ h.0.is_open
-      | inr further ↦ steps_open now (Some top.node) before h.1 step further
+        | inl is ↦ ap (λ (s : Step). mark_at now s.node) (sym is) ∙ h.0.is_open
+        | inr further ↦ steps_open now (Some top.node) before h.1 step further
       ]
 
   -- they stay what they are where the marks of the path stay, and what is done stays done
@@ -134,8 +134,8 @@ module _ (cells : List Cell) (root : ℕ) (found : Resolved) where
       is_open = h.0.is_open;
       within = h.0.within;
       met = λ k i lt at. elim (h.0.met k i lt at) [
-        inl is ↦ inl is
-      | inr is ↦ inl (ap (mark_at now) (sym (same_Some next i is)) ∙ done)
+        | inl is ↦ inl is
+        | inr is ↦ inl (ap (mark_at now) (sym (same_Some next i is)) ∙ done)
       ];
       leads_on = λ i is. absurd (none-some i is);
       apart = h.0.apart;
@@ -160,10 +160,10 @@ module _ (cells : List Cell) (root : ℕ) (found : Resolved) where
             is_open = top.is_open;
             within = omega (arith, lt);
             met = λ k i less there. elim (cases_eq k step.met) [
-              inl is ↦ inr (sym at ∙ ap (slice_get (leads cells found step.node)) (sym is) ∙ there)
-            | inr other ↦ elim (top.met k i (omega (arith, less, other)) there) [
-                inl done ↦ inl done
-              | inr is ↦ absurd (none-some i is)
+              | inl is ↦ inr (sym at ∙ ap (slice_get (leads cells found step.node)) (sym is) ∙ there)
+              | inr other ↦ elim (top.met k i (omega (arith, less, other)) there) [
+                | inl done ↦ inl done
+                | inr is ↦ absurd (none-some i is)
               ]
             ];
             leads_on = λ i is. subst (λ j. Contains (leads cells found step.node) j) (same_Some next i is) (in_by_place (leads cells found step.node) step.met next at);
@@ -174,11 +174,11 @@ module _ (cells : List Cell) (root : ℕ) (found : Resolved) where
         next_met = λ i is. subst (λ j. IsMet cells root found j) (same_Some next i is) met_next;
         all_marks = h.all_marks;
         on_path = λ i is_open.
-          let it = last.steps_are i is_open in
-          elim (in_cases step last.before it.0 it.1) [
-            inl is ↦ (further, in_first further last.before, ap (λ (s : Step). s.node) is ∙ it.2)
-          | inr among ↦ (it.0, in_more further last.before it.0 among, it.2)
-          ];
+            let it = last.steps_are i is_open in
+            elim (in_cases step last.before it.0 it.1) [
+              | inl is ↦ (further, in_first further last.before, ap (λ (s : Step). s.node) is ∙ it.2)
+              | inr among ↦ (it.0, in_more further last.before it.0 among, it.2)
+            ];
         done = h.done;
         ordered = h.ordered;
         once = h.once;
@@ -208,14 +208,14 @@ module _ (cells : List Cell) (root : ℕ) (found : Resolved) where
         next_met = λ j is. absurd (none-some j is);
         all_marks = length-set now.marks i Open ∙ h.all_marks;
         on_path = λ j is. elim (cases_eq j i) [
-          inl same ↦ (step_of i 0, in_first (step_of i 0) h.steps, sym same)
-        | inr other ↦
-          let it = h.on_path j (sym (other_mark now.marks i Open j other) ∙ is) in
-          (it.0, in_more (step_of i 0) h.steps it.0 it.1, it.2)
+          | inl same ↦ (step_of i 0, in_first (step_of i 0) h.steps, sym same)
+          | inr other ↦
+              let it = h.on_path j (sym (other_mark now.marks i Open j other) ∙ is) in
+              (it.0, in_more (step_of i 0) h.steps it.0 it.1, it.2)
         ];
         done = λ j is. elim (cases_eq j i) [
-          inl same ↦ absurd (open_done (sym (set_mark now.marks i Open lt) ∙ ap (mark_at (opened i now)) (sym same) ∙ is))
-        | inr other ↦ h.done j (sym (other_mark now.marks i Open j other) ∙ is)
+          | inl same ↦ absurd (open_done (sym (set_mark now.marks i Open lt) ∙ ap (mark_at (opened i now)) (sym same) ∙ is))
+          | inr other ↦ h.done j (sym (other_mark now.marks i Open j other) ∙ is)
         ];
         ordered = λ j among. let before = h.ordered j among in (stays_done j before.0, before.1);
         once = h.once;
@@ -245,9 +245,9 @@ module _ (cells : List Cell) (root : ℕ) (found : Resolved) where
       let node = step.node in
       let stays_open : (other : Step) → Contains last.before other → mark_at now other.node ≡ Open → mark_at (left node now) other.node ≡ Open = λ other among is. other_mark now.marks node Done other.node (top.apart other among) ∙ is in
       let stays_done : (j : ℕ) → mark_at now j ≡ Done → mark_at (left node now) j ≡ Done = λ j is. elim (cases_eq j node) [
-            inl same ↦ ap (mark_at (left node now)) same ∙ set_mark now.marks node Done lt
-          | inr other ↦ other_mark now.marks node Done j other ∙ is
-          ] in
+        | inl same ↦ ap (mark_at (left node now)) same ∙ set_mark now.marks node Done lt
+        | inr other ↦ other_mark now.marks node Done j other ∙ is
+      ] in
       let now_done : mark_at (left node now) node ≡ Done = set_mark now.marks node Done lt in
       let not_there : Contains now.order node → ⊥ = λ among. open_done (sym top.is_open ∙ (h.ordered node among).0) in
       let steps : AreSteps cells root found (left node now) (Some node) last.before = steps_on (with_step step now) (left node now) (Some node) last.before stays_open stays_done last.are_steps.1 in
@@ -258,43 +258,43 @@ module _ (cells : List Cell) (root : ℕ) (found : Resolved) where
         next_met = λ j is. absurd (none-some j is);
         all_marks = length-set now.marks node Done ∙ h.all_marks;
         on_path = λ j is. elim (cases_eq j node) [
-          inl same ↦ absurd (open_done (sym is ∙ ap (mark_at (left node now)) same ∙ now_done))
-        | inr other ↦
-          let it = last.steps_are j (sym (other_mark now.marks node Done j other) ∙ is) in
-          elim (in_cases step last.before it.0 it.1) [
-            inl top_is ↦ absurd (other (sym it.2 ∙ ap (λ (s : Step). s.node) (sym top_is)))
-          | inr among ↦ (it.0, among, it.2)
-          ]
+          | inl same ↦ absurd (open_done (sym is ∙ ap (mark_at (left node now)) same ∙ now_done))
+          | inr other ↦
+              let it = last.steps_are j (sym (other_mark now.marks node Done j other) ∙ is) in
+              elim (in_cases step last.before it.0 it.1) [
+                | inl top_is ↦ absurd (other (sym it.2 ∙ ap (λ (s : Step). s.node) (sym top_is)))
+                | inr among ↦ (it.0, among, it.2)
+              ]
         ];
         done = λ j is. elim (cases_eq j node) [
-          inl same ↦ subst (λ m. Contains (now.order ++ node ∷ []) m) (sym same) (Contains-push now.order node)
-        | inr other ↦ Contains-append_left now.order (node ∷ []) j (h.done j (sym (other_mark now.marks node Done j other) ∙ is))
+          | inl same ↦ subst (λ m. Contains (now.order ++ node ∷ []) m) (sym same) (Contains-push now.order node)
+          | inr other ↦ Contains-append_left now.order (node ∷ []) j (h.done j (sym (other_mark now.marks node Done j other) ∙ is))
         ];
         ordered = λ j among. elim (Contains-push_cases now.order node j among) [
-          inl before ↦ let was = h.ordered j before in (stays_done j was.0, was.1)
-        | inr is ↦ (ap (mark_at (left node now)) (sym is) ∙ now_done, subst (λ m. IsMet cells root found m) is top.is_met)
+          | inl before ↦ let was = h.ordered j before in (stays_done j was.0, was.1)
+          | inr is ↦ (ap (mark_at (left node now)) (sym is) ∙ now_done, subst (λ m. IsMet cells root found m) is top.is_met)
         ];
         once = λ k m i at_k at_m. elim (behind_cases now.order node k i at_k) [
-          inl k_before ↦ elim (behind_cases now.order node m i at_m) [
-            inl m_before ↦ h.once k m i k_before m_before
-          | inr m_it ↦ absurd (not_there (subst (λ j. Contains now.order j) m_it.1 (in_by_place now.order k i k_before)))
+          | inl k_before ↦ elim (behind_cases now.order node m i at_m) [
+            | inl m_before ↦ h.once k m i k_before m_before
+            | inr m_it ↦ absurd (not_there (subst (λ j. Contains now.order j) m_it.1 (in_by_place now.order k i k_before)))
           ]
-        | inr k_it ↦ elim (behind_cases now.order node m i at_m) [
-            inl m_before ↦ absurd (not_there (subst (λ j. Contains now.order j) k_it.1 (in_by_place now.order m i m_before)))
-          | inr m_it ↦ k_it.0 ∙ sym m_it.0
+          | inr k_it ↦ elim (behind_cases now.order node m i at_m) [
+            | inl m_before ↦ absurd (not_there (subst (λ j. Contains now.order j) k_it.1 (in_by_place now.order m i m_before)))
+            | inr m_it ↦ k_it.0 ∙ sym m_it.0
           ]
         ];
         behind = λ k i j at among. elim (behind_cases now.order node k i at) [
-          inl before ↦
-          let within = slice_get_within now.order k i before in
-          subst (λ (xs : List ℕ). Contains xs j) (sym (take-append-le k now.order (node ∷ []) (omega (arith, within)))) (h.behind k i j before among)
-        | inr it ↦
-          let place = place_in (leads cells found node) j (subst (λ m. Contains (leads cells found m) j) it.1 among) in
-          let done : mark_at now j ≡ Done = elim (top.met place.0 j (past_end (leads cells found node) step.met place.0 j none place.1) place.1) [
-              inl is ↦ is
-            | inr is ↦ absurd (none-some j is)
-            ] in
-          subst (λ (xs : List ℕ). Contains xs j) (sym (ap (λ n. take n (now.order ++ node ∷ [])) it.0 ∙ take-append-le (length now.order) now.order (node ∷ []) (omega arith) ∙ take_all (length now.order) now.order (omega arith))) (h.done j done)
+          | inl before ↦
+              let within = slice_get_within now.order k i before in
+              subst (λ (xs : List ℕ). Contains xs j) (sym (take-append-le k now.order (node ∷ []) (omega (arith, within)))) (h.behind k i j before among)
+          | inr it ↦
+              let place = place_in (leads cells found node) j (subst (λ m. Contains (leads cells found m) j) it.1 among) in
+              let done : mark_at now j ≡ Done = elim (top.met place.0 j (past_end (leads cells found node) step.met place.0 j none place.1) place.1) [
+                | inl is ↦ is
+                | inr is ↦ absurd (none-some j is)
+              ] in
+              subst (λ (xs : List ℕ). Contains xs j) (sym (ap (λ n. take n (now.order ++ node ∷ [])) it.0 ∙ take-append-le (length now.order) now.order (node ∷ []) (omega arith) ∙ take_all (length now.order) now.order (omega arith))) (h.done j done)
         ];
       }
 
@@ -302,15 +302,15 @@ module _ (cells : List Cell) (root : ℕ) (found : Resolved) where
 
 pub opened_keeps : (now : Walking) (i : ℕ) → i < length now.marks → KeepsMarks now (opened i now)
 opened_keeps now i lt j met new = elim (cases_eq j i) [
-    inl same ↦ new_open (sym (sym (set_mark now.marks i Open lt) ∙ ap (mark_at (opened i now)) (sym same) ∙ new))
+  | inl same ↦ new_open (sym (sym (set_mark now.marks i Open lt) ∙ ap (mark_at (opened i now)) (sym same) ∙ new))
   | inr other ↦ met (sym (other_mark now.marks i Open j other) ∙ new)
-  ]
+]
 
 pub left_keeps : (now : Walking) (i : ℕ) → i < length now.marks → KeepsMarks now (left i now)
 left_keeps now i lt j met new = elim (cases_eq j i) [
-    inl same ↦ new_done (sym (sym (set_mark now.marks i Done lt) ∙ ap (mark_at (left i now)) (sym same) ∙ new))
+  | inl same ↦ new_done (sym (sym (set_mark now.marks i Done lt) ∙ ap (mark_at (left i now)) (sym same) ∙ new))
   | inr other ↦ met (sym (other_mark now.marks i Done j other) ∙ new)
-  ]
+]
 
 -- ---- how long it takes
 

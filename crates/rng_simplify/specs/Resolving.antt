@@ -1,5 +1,6 @@
 -- What is known of the nodes of a schema once its references are resolved, and an order of them.
-use Rattle.std.specs.Prelude.{◌≡◌, ◌≢◌, ◌↔◌, ℕ, ◌+◌, ◌-◌, ◌<◌, ◌⊎◌, Bool, true, false, if◌then◌else◌, List, [], ◌∷◌, length, map, filter, take, slice_get, slice_index, slice_index_or, Option, Some, None, Contains}
+use Rattle.std.specs.Prelude.{◌≡◌, ◌≢◌, ◌↔◌, ℕ, ◌+◌, ◌-◌, ◌<◌, ◌==◌, ◌⊎◌, false, List, [], ◌∷◌, length, map, filter, take, slice_get, slice_index, slice_index_or, Option, Some, None, Contains}
+use Rattle.std.specs.List.{IsDistinct}
 use Rattle.rnc_parse.specs.declared.surface.Defined.{Defined}
 use Rattle.rnc_parse.specs.declared.surface.Defined.TheVariants as defined
 use Rattle.rnc_parse.specs.declared.surface.Combine.{Combine}
@@ -15,7 +16,7 @@ use Rattle.rng_simplify.specs.Cells as cell
 use Rattle.rng_simplify.specs.Composed.{same_defined}
 use Rattle.rng_simplify.specs.Denoting.{IsCell}
 use Rattle.rng_simplify.specs.Forms.{combine_of}
-use Rattle.rng_simplify.specs.Standing.{cell_parts, bodies_of, Stands, IsStanding}
+use Rattle.rng_simplify.specs.Standing.{bodies_of, Stands, IsStanding}
 
 -- in which grammar a node stands, and what it is linked to
 abbrev pub scope_at : Resolved → ℕ → Scope
@@ -86,41 +87,42 @@ pub record IsResolved (cells : List Cell) (root : ℕ) (found : Resolved) : Type
 
 -- ---- an order, in which join j has the number j behind the nodes
 
--- a reference or a grammar, which is linked to a join
-abbrev pub is_linked : Cell → Bool
-is_linked (cell.ref name) = true
-is_linked (cell.parent_ref name) = true
-is_linked (cell.grammar clauses) = true
-is_linked c = false
-
--- what a node leads to: its join, or its parts
-abbrev pub cell_leads : ℕ → Cell → List ℕ
-cell_leads join c = if is_linked c then join ∷ [] else cell_parts c
+-- what a node leads to: its parts, or its join
+abbrev pub cell_leads : ℕ → ℕ → Cell → List ℕ
+cell_leads count link (cell.element class part) = []
+cell_leads count link (cell.attribute class part) = part ∷ []
+cell_leads count link (cell.listed part) = part ∷ []
+cell_leads count link (cell.ref name) = (count + link) ∷ []
+cell_leads count link (cell.parent_ref name) = (count + link) ∷ []
+cell_leads count link cell.empty = []
+cell_leads count link cell.any_text = []
+cell_leads count link cell.not_allowed = []
+cell_leads count link (cell.value type text) = []
+cell_leads count link (cell.typed type params part) = part ∷ []
+cell_leads count link (cell.grammar clauses) = (count + link) ∷ []
+cell_leads count link (cell.one_or_more part) = part ∷ []
+cell_leads count link (cell.joined sign first second) = first ∷ second ∷ []
 
 abbrev pub join_leads : Option Join → List ℕ
 join_leads (Some join) = join.bodies.items
 join_leads None = []
 
 abbrev pub leads_if : List Cell → Resolved → ℕ → Option Cell → List ℕ
-leads_if cells found i (Some c) = cell_leads (length cells + link_at found i) c
+leads_if cells found i (Some c) = cell_leads (length cells) (link_at found i) c
 leads_if cells found i None = join_leads (slice_get found.joins.items (i - length cells))
 
 -- what a node or a join leads to
 abbrev pub leads : List Cell → Resolved → ℕ → List ℕ
 leads cells found i = leads_if cells found i (slice_get cells i)
 
--- the number of a join behind the nodes
+-- a join by its number behind the nodes
 abbrev pub IsJoinNumber : List Cell → Resolved → ℕ → Type 0
 IsJoinNumber cells found i = (number : ℕ) × (number < length found.joins.items) × (i ≡ length cells + number)
-
--- a node that stands in the schema, or a join
-abbrev pub IsMet : List Cell → ℕ → Resolved → ℕ → Type 0
-IsMet cells root found i = IsStanding cells root i ⊎ IsJoinNumber cells found i
 
 -- the nodes that stand in the schema and the joins are in order, each once, and behind all that it leads to
 pub record IsOrdered (cells : List Cell) (root : ℕ) (found : Resolved) (order : List ℕ) : Type 0 where
   pub each_node : (i : ℕ) → IsStanding cells root i → Contains order i
   pub each_join : (number : ℕ) → number < length found.joins.items → Contains order (length cells + number)
-  pub nothing_else : (i : ℕ) → Contains order i → IsMet cells root found i
-  pub once : (k m i : ℕ) → slice_get order k ≡ Some i → slice_get order m ≡ Some i → k ≡ m
+  pub nothing_else : (i : ℕ) → Contains order i → IsStanding cells root i ⊎ IsJoinNumber cells found i
+  pub distinct : IsDistinct (λ a b. a == b) order
   pub behind : (k i j : ℕ) → slice_get order k ≡ Some i → Contains (leads cells found i) j → Contains (take k order) j

@@ -11,8 +11,20 @@ use Rattle.rng_simplify.specs.declared.order.Walk.{Walk}
 use Rattle.rng_simplify.specs.declared.resolve.Join.{Join}
 use Rattle.rng_simplify.specs.declared.resolve.Resolved.{Resolved}
 use Rattle.rng_simplify.specs.Cells.{Cell}
-use Rattle.rng_simplify.specs.Resolving.{leads, IsMet}
+use Rattle.rng_simplify.specs.Cells as cell
+use Rattle.rng_simplify.specs.Resolving.{leads, IsJoinNumber}
 use Rattle.rng_simplify.specs.Standing.{IsStanding}
+
+-- a node that stands in the schema, or a join
+abbrev pub IsMet : List Cell → ℕ → Resolved → ℕ → Type 0
+IsMet cells root found i = IsStanding cells root i ⊎ IsJoinNumber cells found i
+
+-- a reference or a grammar, which is linked to a join
+abbrev pub is_linked : Cell → Bool
+is_linked (cell.ref name) = true
+is_linked (cell.parent_ref name) = true
+is_linked (cell.grammar clauses) = true
+is_linked c = false
 
 -- ---- what the walk has done
 

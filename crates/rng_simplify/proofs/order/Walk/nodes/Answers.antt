@@ -14,8 +14,8 @@ loop-i-preserved c =
       is_walk = h.is_walk;
       at_rest = h.at_rest;
       met = λ k lt standing. elim (cases_eq k c.loop-i.i) [
-        inl is ↦ λ new. h.met (subst (λ m. IsStanding (map cell_of c.args.whole.now.nodes.items) c.args.whole.now.root m) is standing) (ap (mark_at (walking_of c.node.new.self)) (sym is) ∙ new)
-      | inr other ↦ h.keeps k (c.loop-i.invariant.met k (omega (arith, lt, other)) standing)
+        | inl is ↦ λ new. h.met (subst (λ m. IsStanding (map cell_of c.args.whole.now.nodes.items) c.args.whole.now.root m) is standing) (ap (mark_at (walking_of c.node.new.self)) (sym is) ∙ new)
+        | inr other ↦ h.keeps k (c.loop-i.invariant.met k (omega (arith, lt, other)) standing)
       ];
     }
 
@@ -24,6 +24,6 @@ returns c = (
   c.loop-i.invariant.is_walk,
   c.loop-i.invariant.at_rest,
   λ i standing.
-    let within = stands_within c.requires.formed standing.1 in
-    c.loop-i.invariant.met i (omega (arith, within, length-map c.args.whole.now.nodes.items cell_of, c.loop-i-test.false, c.len-i-end.ensures, c.args.whole.now.nodes.ok.0)) standing,
+      let within = stands_within c.requires.formed standing.1 in
+      c.loop-i.invariant.met i (omega (arith, within, length-map c.args.whole.now.nodes.items cell_of, c.loop-i-test.false, c.len-i-end.ensures, c.args.whole.now.nodes.ok.0)) standing,
 )
