@@ -1,9 +1,8 @@
 -- Joins of the names that definitions define, with one more definition.
-use Rattle.std.proofs.Common.{◌≡◌, ◌≢◌, refl, sym, ap, ◌∙◌, subst, ℕ, zero, suc, ◌+◌, ◌<◌, ◌≤◌, inl, inr, ◌⊎◌, Bool, true, false, cond, List, [], ◌∷◌, ◌++◌, length, map, set, get_or, take, drop, slice_get, Option, Some, None, Result, Ok, Err, Contains, arith}
-use Rattle.std.specs.Prelude.{filter}
-use Rattle.std.proofs.lemmas.Option.{same_Some, none-some, slice_get_within, slice_get-get_or, get_or_from_slice_get}
-use Rattle.std.proofs.lemmas.Bool.{cases_eq, cases_lt, false≢true}
-use Rattle.std.proofs.lemmas.List.{length-set, get_or-set_same, get_or-set_other, length_push, map-append, append-nil, take_more, take-append-drop}
+use Rattle.std.proofs.Common.{◌≡◌, ◌≢◌, refl, sym, ap, ◌∙◌, subst, ℕ, zero, suc, ◌+◌, ◌<◌, inl, inr, ◌⊎◌, Bool, true, false, cond, List, [], ◌∷◌, ◌++◌, length, set, get_or, take, drop, slice_get, Option, Some, None, Result, Ok, Err, arith}
+use Rattle.std.proofs.lemmas.Option.{same_Some, none-some, slice_get_within}
+use Rattle.std.proofs.lemmas.Bool.{cases_lt, false≢true}
+use Rattle.std.proofs.lemmas.List.{length-set, length_push, map-append, append-nil, take_more, take-append-drop}
 use Rattle.std.proofs.lemmas.List.Elements.{filter-append}
 use Rattle.std.proofs.lemmas.Slice.Eq.{bytes_eq-Decides}
 use Rattle.nx_base.specs.declared.cause.Cause.TheVariants as cause
@@ -18,7 +17,6 @@ use Rattle.rng_simplify.specs.declared.resolve.Join.{Join}
 use Rattle.rng_simplify.specs.Broken.{clash}
 use Rattle.rng_simplify.specs.Composed.{same_defined}
 use Rattle.rng_simplify.specs.Keeping.{kept_for, KeepsOne}
-use Rattle.rng_simplify.specs.Standing.{bodies_of}
 use Rattle.rng_simplify.specs.Resolving.{clauses_of, combines_of}
 use Rattle.rng_simplify.specs.Scoping.{HasSigns, AddsTo, IsJoinOf, IsGatheredAs, IsGathered, KeepsFirst, GathersOne, Gathers}
 use Rattle.rng_simplify.proofs.Scopes.{stays_behind, last_there}

@@ -1,5 +1,5 @@
 -- Classes that are refused, by the places of the nodes that have them.
-use Rattle.std.proofs.Common.{◌≡◌, ◌≢◌, refl, sym, ap, ◌∙◌, subst, ℕ, ◌+◌, ◌<◌, ◌≤◌, inl, inr, Bool, true, false, List, length, map, get_or, slice_get, Some, Result, Ok, Err, arith}
+use Rattle.std.proofs.Common.{◌≡◌, ◌≢◌, sym, ◌∙◌, subst, ℕ, ◌+◌, ◌<◌, ◌≤◌, inl, inr, true, List, length, map, get_or, Result, Ok, Err, arith}
 use Rattle.std.proofs.lemmas.Bool.{cases_eq}
 use Rattle.std.proofs.lemmas.List.{length-map}
 use Rattle.std.proofs.lemmas.Option.{slice_get_within}
@@ -12,16 +12,16 @@ use Rattle.rng_simplify.specs.declared.resolve.Resolved.{Resolved}
 use Rattle.rng_simplify.specs.declared.resolve.Scope.{Scope}
 use Rattle.rng_simplify.specs.declared.resolve.Scope.TheVariants.{Nowhere}
 use Rattle.rng_simplify.specs.Breaking.{IsRefusal, OkOrRefused}
-use Rattle.rng_simplify.specs.Broken.{Has, HasBadExcept, HasXmlnsName}
+use Rattle.rng_simplify.specs.Broken.{HasBadExcept, HasXmlnsName}
 use Rattle.rng_simplify.specs.Cells.{Cell, cell_of}
 use Rattle.rng_simplify.specs.Cells as cell
 use Rattle.rng_simplify.specs.Classes.{has_bad_except, names_declarations, names_declarations_of_attribute}
-use Rattle.rng_simplify.specs.Composed.{Composed, Clauses}
-use Rattle.rng_simplify.specs.Denoting.{IsCell, Denotes}
+use Rattle.rng_simplify.specs.Composed.{Composed}
+use Rattle.rng_simplify.specs.Denoting.{IsCell}
 use Rattle.rng_simplify.specs.Judging.{JudgesCell, IsGood, IsGoodAt, AreGood}
 use Rattle.rng_simplify.specs.Resolving.{IsResolved}
 use Rattle.rng_simplify.specs.Seeing.{JudgesElementClass, JudgesAttributeClass}
-use Rattle.rng_simplify.specs.Standing.{Stands, IsStanding}
+use Rattle.rng_simplify.specs.Standing.{IsStanding}
 use Rattle.rng_simplify.proofs.Nodes.{one_cell, cell_there, denoted_by}
 use Rattle.rng_simplify.proofs.Scopes.{has_at}
 use Rattle.rng_simplify.proofs.Turns.{scope_there}

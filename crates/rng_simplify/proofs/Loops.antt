@@ -1,6 +1,6 @@
 -- What nodes and joins lead to, and patterns that lead back to themselves.
-use Rattle.std.proofs.Common.{◌≡◌, ◌≢◌, refl, sym, ap, ◌∙◌, subst, ℕ, zero, suc, ◌+◌, ◌-◌, ◌<◌, ◌≤◌, inl, inr, ◌⊎◌, Bool, true, false, cond, List, [], ◌∷◌, ◌++◌, length, map, get_or, slice_get, Option, Some, None, Contains, arith}
-use Rattle.std.proofs.lemmas.Option.{same_Some, none-some, slice_get_within, slice_get-get_or, slice_get_past}
+use Rattle.std.proofs.Common.{◌≡◌, refl, sym, ap, ◌∙◌, subst, ℕ, zero, suc, ◌+◌, ◌-◌, ◌<◌, inl, inr, ◌⊎◌, Bool, true, false, cond, List, [], ◌∷◌, length, get_or, slice_get, Option, Some, None, Contains, arith}
+use Rattle.std.proofs.lemmas.Option.{same_Some, slice_get_within, slice_get-get_or, slice_get_past}
 use Rattle.std.proofs.lemmas.Bool.{false≢true}
 use Rattle.nx_base.specs.declared.cause.Cause.TheVariants as cause
 use Rattle.rnc_parse.specs.declared.surface.Defined.{Defined}
@@ -16,13 +16,13 @@ use Rattle.rng_simplify.specs.Cells as cell
 use Rattle.rng_simplify.specs.Composed.{Composed, Clauses, same_defined, defining, bodies, clause_then}
 use Rattle.rng_simplify.specs.Composed as composed
 use Rattle.rng_simplify.specs.Denoting.{IsCell, Denotes, DenoteAll, none_denoted, next_denoted}
-use Rattle.rng_simplify.specs.Places.{Place, place, parts, Occurs, LeadsTo, to_part, to_definition, to_outer_definition, to_start, LeadsOn, in_one_step, in_more_steps}
+use Rattle.rng_simplify.specs.Places.{Place, place, LeadsTo, to_part, to_definition, to_outer_definition, to_start, LeadsOn, in_one_step, in_more_steps}
 use Rattle.rng_simplify.specs.Standing.{cell_parts, bodies_of, AreWellFormed, Stands, a_part, a_definition, IsStanding, AreScopes}
 use Rattle.rng_simplify.specs.Standing as standing
-use Rattle.rng_simplify.specs.Resolving.{clauses_of, IsJoined, IsJoinedIn, IsJoinedOutside, IsResolved, link_at, cell_leads, join_leads, leads_if, leads, IsJoinNumber}
+use Rattle.rng_simplify.specs.Resolving.{clauses_of, IsJoined, IsJoinedIn, IsJoinedOutside, IsResolved, link_at, cell_leads, join_leads, leads_if, leads}
 use Rattle.rng_simplify.specs.Walking.{IsMet, is_linked}
 use Rattle.rng_simplify.proofs.Nodes.{in_none, in_first, in_more, in_cases, in_one, PartIs, part_denoted, denoted_by, place_of}
-use Rattle.rng_simplify.proofs.Posts.{stands_within, innermost_stands, InnermostStands, scopes_by, one_grammar, IsAt, at_once}
+use Rattle.rng_simplify.proofs.Posts.{stands_within, innermost_stands, scopes_by, one_grammar, IsAt, at_once}
 
 -- ---- lists
 

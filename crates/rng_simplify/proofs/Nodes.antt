@@ -1,8 +1,6 @@
 -- Nodes that stand in a schema, and the patterns that they stand for.
-use Rattle.std.proofs.Common.{◌≡◌, refl, sym, ap, ◌∙◌, subst, ℕ, zero, suc, ◌+◌, ◌<◌, ◌≤◌, inl, inr, ◌⊎◌, List, [], ◌∷◌, length, map, get_or, slice_get, Option, Some, None, Contains, option_map, arith}
-use Rattle.std.proofs.lemmas.Option.{same_Some, slice_get_within, slice_get-map, slice_get_read}
-use Rattle.rnc_parse.specs.declared.surface.TypeName.{TypeName}
-use Rattle.rnc_parse.specs.declared.surface.Param.{Param}
+use Rattle.std.proofs.Common.{◌≡◌, refl, sym, ap, ◌∙◌, subst, ℕ, zero, suc, ◌<◌, inl, inr, ◌⊎◌, List, [], ◌∷◌, length, map, get_or, Contains, option_map, arith}
+use Rattle.std.proofs.lemmas.Option.{same_Some, slice_get-map, slice_get_read}
 use Rattle.rng_core.specs.Names.{Class}
 use Rattle.rng_simplify.specs.declared.node.Clause.{Clause}
 use Rattle.rng_simplify.specs.declared.node.Sign.{Sign}
@@ -14,7 +12,7 @@ use Rattle.rng_simplify.specs.Composed.{Composed, Clauses, end_of_clauses, claus
 use Rattle.rng_simplify.specs.Composed as composed
 use Rattle.rng_simplify.specs.Denoting.{IsCell, Denotes, DenoteAll, composed_by, is_element, is_attribute, is_list, is_ref, is_parent_ref, is_empty, is_text, is_not_allowed, is_value, is_type, is_grammar, is_one_or_more, is_joined, none_denoted, next_denoted}
 use Rattle.rng_simplify.specs.Places.{Place, place, parts, IsIn, a_part as part_in, a_content as content_in, a_definition as definition_in, Occurs, the_whole, further_in}
-use Rattle.rng_simplify.specs.Standing.{cell_parts, bodies_of, inner_nodes, AreWellFormed, Stands, the_root, a_part, a_content, a_definition, IsStanding, AreScopes, no_scopes, further_scope, IsNodeOf}
+use Rattle.rng_simplify.specs.Standing.{cell_parts, bodies_of, Stands, the_root, a_part, a_content, a_definition, AreScopes, no_scopes, further_scope}
 
 -- ---- what a list contains
 

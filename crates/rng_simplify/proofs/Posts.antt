@@ -1,13 +1,12 @@
 -- Where nodes stand: in one place each, and below what they stand in.
-use Rattle.std.proofs.Common.{◌≡◌, refl, sym, ap, ◌∙◌, subst, ℕ, zero, suc, ◌+◌, ◌<◌, ◌≤◌, inl, inr, ◌⊎◌, List, [], ◌∷◌, length, map, slice_get, Option, Some, None, Contains, arith}
-use Rattle.rng_core.specs.Names.{Class}
+use Rattle.std.proofs.Common.{◌≡◌, refl, sym, ap, ◌∙◌, subst, ℕ, ◌<◌, ◌≤◌, inl, inr, ◌⊎◌, List, [], ◌∷◌, length, Contains, arith}
 use Rattle.rng_simplify.specs.declared.node.Clause.{Clause}
 use Rattle.rng_simplify.specs.Cells.{Cell}
 use Rattle.rng_simplify.specs.Cells as cell
-use Rattle.rng_simplify.specs.Composed.{Composed, Clauses}
+use Rattle.rng_simplify.specs.Composed.{Clauses}
 use Rattle.rng_simplify.specs.Denoting.{IsCell, Denotes, DenoteAll}
 use Rattle.rng_simplify.specs.Places.{Place, place}
-use Rattle.rng_simplify.specs.Standing.{cell_parts, bodies_of, inner_nodes, AreWellFormed, Stands, the_root, a_part, a_content, a_definition, IsStanding, AreScopes, no_scopes, further_scope}
+use Rattle.rng_simplify.specs.Standing.{cell_parts, inner_nodes, AreWellFormed, Stands, the_root, a_part, a_content, a_definition, AreScopes, no_scopes, further_scope}
 use Rattle.rng_simplify.proofs.Nodes.{in_none, in_first, in_one, one_cell, denotes_one, denote_all_one}
 
 -- the grammars around what stands directly in a node

@@ -1,22 +1,19 @@
 -- What is known while references are resolved, with one more node taken.
-use Rattle.std.proofs.Common.{◌≡◌, ◌≢◌, refl, sym, ap, ◌∙◌, subst, ℕ, zero, suc, ◌+◌, ◌<◌, ◌≤◌, inl, inr, ◌⊎◌, Bool, true, false, cond, List, [], ◌∷◌, ◌++◌, length, map, set, get_or, slice_get, Option, Some, None, Result, Ok, Err, Contains, arith}
+use Rattle.std.proofs.Common.{◌≡◌, ◌≢◌, refl, sym, ap, ◌∙◌, subst, ℕ, zero, suc, ◌+◌, ◌<◌, inl, inr, ◌⊎◌, Bool, true, false, cond, List, [], ◌∷◌, ◌++◌, length, set, get_or, slice_get, Option, Some, None, Result, Ok, Err, Contains, arith}
 use Rattle.std.proofs.lemmas.Option.{slice_get_within}
 use Rattle.std.proofs.lemmas.Bool.{cases_eq, cases_lt}
 use Rattle.std.proofs.lemmas.List.{length-set, get_or-set_same, get_or-set_other, set_past}
-use Rattle.std.specs.Prelude.{filter}
-use Rattle.nx_base.specs.declared.cause.Cause.{Cause}
 use Rattle.nx_base.specs.declared.cause.Cause.TheVariants as cause
 use Rattle.rnc_parse.specs.declared.surface.Defined.{Defined}
 use Rattle.rnc_parse.specs.declared.surface.Defined.TheVariants as defined
-use Rattle.rnc_parse.specs.declared.surface.Combine.{Combine}
 use Rattle.rng_simplify.specs.declared.fault.SchemaFault.{SchemaFault}
-use Rattle.rng_simplify.specs.declared.fault.SchemaFault.TheVariants.{Absent, NotUtf8, BadUri, Failed, NoMemory, Unreadable}
+use Rattle.rng_simplify.specs.declared.fault.SchemaFault.TheVariants.{NoMemory, Unreadable}
 use Rattle.rng_simplify.specs.declared.names.Names.{Names}
 use Rattle.rng_simplify.specs.declared.node.Clause.{Clause}
 use Rattle.rng_simplify.specs.declared.resolve.Join.{Join}
 use Rattle.rng_simplify.specs.declared.resolve.Table.{Table}
 use Rattle.rng_simplify.specs.declared.resolve.Scope.{Scope}
-use Rattle.rng_simplify.specs.declared.resolve.Scope.TheVariants.{Nowhere, Outside, In}
+use Rattle.rng_simplify.specs.declared.resolve.Scope.TheVariants.{Nowhere, In}
 use Rattle.rng_simplify.specs.Breaking.{IsRefusal, OkOrRefused}
 use Rattle.rng_simplify.specs.Broken.{Has, IsUndefined, HasNoStart, HasClash, clash}
 use Rattle.rng_simplify.specs.Cells.{Cell}
@@ -25,13 +22,12 @@ use Rattle.rng_simplify.specs.Composed.{Composed, Clauses, same_defined, defines
 use Rattle.rng_simplify.specs.Composed as composed
 use Rattle.rng_simplify.specs.Denoting.{IsCell, Denotes, DenoteAll, none_denoted, next_denoted}
 use Rattle.rng_simplify.specs.Keeping.{kept_named, kept_for}
-use Rattle.rng_simplify.specs.Places.{place, Occurs}
 use Rattle.rng_simplify.specs.Standing.{cell_parts, bodies_of, inner_nodes, AreWellFormed, Stands, IsStanding, AreScopes}
 use Rattle.rng_simplify.specs.Standing as standing
 use Rattle.rng_simplify.specs.Resolving.{clauses_of, combines_of, IsJoined, IsJoinedIn, IsJoinedOutside, IsOfGrammar}
-use Rattle.rng_simplify.specs.Scoping.{HasSigns, IsJoinOf, IsGatheredAs, IsGathered, KeepsFirst, Findings, given, with_given, with_link, outer_of, outer_in, join_of_table, join_in, Links, HasTable, TakesGrammar, TakesCell, IsKept, IsTable, IsScope, outside, inside, IsPosted, IsTaken, IsMidway}
+use Rattle.rng_simplify.specs.Scoping.{IsGatheredAs, KeepsFirst, Findings, given, with_given, with_link, outer_of, outer_in, join_of_table, join_in, Links, HasTable, TakesGrammar, TakesCell, IsKept, IsTable, IsScope, outside, inside, IsPosted, IsTaken, IsMidway}
 use Rattle.rng_simplify.proofs.Nodes.{in_none, in_first, in_more, in_cases, one_cell, place_of, denoted_by}
-use Rattle.rng_simplify.proofs.Posts.{within, stands_in, stands_by, stands_once, stands_below, stands_within, one_grammar, scopes_by}
+use Rattle.rng_simplify.proofs.Posts.{within, stands_in, stands_by, stands_once, one_grammar}
 
 -- ---- scopes that are given
 

@@ -1,25 +1,22 @@
 -- All nodes are taken, from first to last.
-use Rattle.std.proofs.Common.{◌≡◌, ◌≢◌, refl, sym, ap, ◌∙◌, subst, ℕ, zero, suc, ◌+◌, ◌<◌, ◌≤◌, inl, inr, ◌⊎◌, Bool, true, false, List, [], ◌∷◌, ◌++◌, length, map, set, get_or, replicate, slice_get, Option, Some, None, Vec, Global, Contains, Result, arith}
+use Rattle.std.proofs.Common.{◌≡◌, ◌≢◌, refl, sym, ap, ◌∙◌, subst, ℕ, zero, suc, ◌+◌, ◌<◌, inl, inr, List, [], length, map, get_or, replicate, Vec, Global, Contains, Result, arith}
 use Rattle.std.proofs.lemmas.Option.{slice_get_within}
 use Rattle.std.proofs.lemmas.List.{length-set, length-replicate, length-map, get_or-set_same, get_or_read}
 use Rattle.rng_simplify.specs.declared.fault.SchemaFault.{SchemaFault}
-use Rattle.rng_simplify.specs.declared.node.Clause.{Clause}
 use Rattle.rng_simplify.specs.declared.node.Node.{Node}
 use Rattle.rng_simplify.specs.declared.resolve.Join.{Join}
 use Rattle.rng_simplify.specs.declared.resolve.Table.{Table}
 use Rattle.rng_simplify.specs.declared.resolve.Scope.{Scope}
-use Rattle.rng_simplify.specs.declared.resolve.Scope.TheVariants.{Nowhere, Outside, In}
+use Rattle.rng_simplify.specs.declared.resolve.Scope.TheVariants.{Nowhere, Outside}
 use Rattle.rng_simplify.specs.Breaking.{OkOrRefused}
 use Rattle.rng_simplify.specs.Cells.{Cell, cell_of}
 use Rattle.rng_simplify.specs.Cells as cell
-use Rattle.rng_simplify.specs.Denoting.{IsCell}
-use Rattle.rng_simplify.specs.Standing.{inner_nodes, AreWellFormed, Stands, the_root, IsStanding}
-use Rattle.rng_simplify.specs.Resolving.{IsResolved, IsJoinedIn, IsJoinedOutside, IsJoined, IsNumbered}
-use Rattle.rng_simplify.specs.Resolving as resolving
+use Rattle.rng_simplify.specs.Standing.{inner_nodes, AreWellFormed, Stands, the_root}
+use Rattle.rng_simplify.specs.Resolving.{IsResolved, IsJoinedIn, IsJoinedOutside, IsJoined}
 use Rattle.rnc_parse.specs.declared.surface.Defined.TheVariants as defined
-use Rattle.rng_simplify.specs.Scoping.{Findings, findings_at_first, IsPosted, IsScope, outside, IsMidway, TakesCell, Numbering, AreNumbered, is_element}
+use Rattle.rng_simplify.specs.Scoping.{Findings, findings_at_first, IsPosted, outside, IsMidway, TakesCell, AreNumbered}
 use Rattle.rng_simplify.proofs.Nodes.{cell_there}
-use Rattle.rng_simplify.proofs.Posts.{stands_by, stands_within}
+use Rattle.rng_simplify.proofs.Posts.{stands_by}
 use Rattle.rng_simplify.proofs.Scopes.{set_cases, cell_taken, nowhere_taken}
 
 -- ---- at first

@@ -1,9 +1,9 @@
 -- A turn of a walk, by its answer; how it begins, and what is there when it has ended.
-use Rattle.std.proofs.Common.{◌≡◌, ◌≢◌, refl, sym, ap, ◌∙◌, subst, ℕ, zero, suc, ◌+◌, ◌-◌, ◌*◌, ◌<◌, ◌≤◌, inl, inr, ◌⊎◌, Bool, true, false, cond, List, [], ◌∷◌, ◌++◌, length, map, set, get_or, take, sum_by, slice_get, Option, Some, None, Result, Ok, Err, Contains, arith}
+use Rattle.std.proofs.Common.{◌≡◌, ◌≢◌, refl, sym, ap, ◌∙◌, subst, ℕ, zero, suc, ◌+◌, ◌-◌, ◌<◌, ◌≤◌, inl, inr, Bool, true, false, List, [], ◌∷◌, length, map, get_or, sum_by, slice_get, Option, Some, None, Result, Ok, Err, Contains, arith}
 use Rattle.std.specs.Prelude.{◌==◌}
 use Rattle.std.specs.List.{AllByRecursion, IsDistinct}
 use Rattle.std.proofs.lemmas.Bool.{ne_eqb}
-use Rattle.std.proofs.lemmas.Option.{same_Some, none-some, slice_get_within, slice_get_past, slice_get_read}
+use Rattle.std.proofs.lemmas.Option.{same_Some, none-some, slice_get_past, slice_get_read}
 use Rattle.std.proofs.lemmas.List.{length-map}
 use Rattle.std.proofs.lemmas.List.Sums.{sum_by-cons}
 use Rattle.nx_base.specs.declared.cause.Cause.TheVariants as cause
@@ -22,12 +22,12 @@ use Rattle.rng_simplify.specs.Cells.{Cell, cell_of}
 use Rattle.rng_simplify.specs.Cells as cell
 use Rattle.rng_simplify.specs.Standing.{cell_parts, AreWellFormed, IsStanding}
 use Rattle.rng_simplify.specs.Resolving.{IsResolved, link_at, cell_leads, join_leads, leads_if, leads, IsOrdered, scope_at}
-use Rattle.rng_simplify.specs.Walking.{IsMet, is_linked, Walking, mark_at, step_of, with_step, opened, left, Meets, IsStep, AreSteps, path_of, IsWalk, KeepsMarks, most, left_at, work, IsTurned, IsGone, IsPassed}
-use Rattle.rng_simplify.proofs.Nodes.{in_none, in_first, in_more, in_cases, cell_there}
+use Rattle.rng_simplify.specs.Walking.{IsMet, is_linked, Walking, mark_at, step_of, with_step, left, Meets, AreSteps, path_of, IsWalk, KeepsMarks, most, IsTurned, IsGone, IsPassed}
+use Rattle.rng_simplify.proofs.Nodes.{in_none, in_cases, cell_there}
 use Rattle.rng_simplify.proofs.Posts.{stands_within}
 use Rattle.rng_simplify.proofs.Taking.{scope_read}
-use Rattle.rng_simplify.proofs.Loops.{lead_of, lead_met, Chain, last_lead, further_lead, chain_on, loop_refused, link_within, linked_leads, unlinked_leads}
-use Rattle.rng_simplify.proofs.Walks.{same_ends, some_end, in_by_place, has_last, next_step, newly_met, met_again, node_left, opened_keeps, left_keeps, work_again, work_newly, work_left, new_open, new_done, set_mark}
+use Rattle.rng_simplify.proofs.Loops.{lead_of, lead_met, Chain, last_lead, chain_on, loop_refused, link_within, linked_leads, unlinked_leads}
+use Rattle.rng_simplify.proofs.Walks.{some_end, in_by_place, has_last, next_step, newly_met, met_again, node_left, opened_keeps, left_keeps, work_again, work_newly, work_left, new_open, new_done, set_mark}
 
 -- ---- numbers that stand at one place each
 

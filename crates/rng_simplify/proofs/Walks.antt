@@ -1,21 +1,19 @@
 -- A walk over nodes and joins, with one more turn.
-use Rattle.std.proofs.Common.{◌≡◌, ◌≢◌, refl, sym, ap, ◌∙◌, subst, ℕ, zero, suc, ◌+◌, ◌-◌, ◌*◌, ◌<◌, ◌≤◌, inl, inr, ◌⊎◌, Bool, true, false, cond, List, [], ◌∷◌, ◌++◌, length, set, get_or, take, sum_by, count_by, slice_get, Option, Some, None, Contains, arith}
+use Rattle.std.proofs.Common.{◌≡◌, ◌≢◌, refl, sym, ap, ◌∙◌, subst, ℕ, zero, suc, ◌+◌, ◌*◌, ◌<◌, ◌≤◌, inl, inr, cond, List, [], ◌∷◌, ◌++◌, length, set, get_or, take, sum_by, count_by, slice_get, Option, Some, None, Contains, arith}
 use Rattle.std.proofs.lemmas.Option.{same_Some, none-some, slice_get_within, slice_get-get_or}
-use Rattle.std.proofs.lemmas.Bool.{cases_eq, cases_lt, false≢true}
-use Rattle.std.proofs.lemmas.List.{length-set, get_or-set_same, get_or-set_other, length_push, take-append-le, take_all}
+use Rattle.std.proofs.lemmas.Bool.{cases_eq}
+use Rattle.std.proofs.lemmas.List.{length-set, get_or-set_same, get_or-set_other, take-append-le, take_all}
 use Rattle.std.proofs.lemmas.List.Elements.{Contains-push, Contains-push_cases, Contains-append_left}
 use Rattle.std.proofs.lemmas.List.Sums.{sum_by-append, sum_by-cons}
 use Rattle.rng_simplify.specs.declared.order.Mark.{Mark}
 use Rattle.rng_simplify.specs.declared.order.Mark.TheVariants.{New, Open, Done}
 use Rattle.rng_simplify.specs.declared.order.Step.{Step}
-use Rattle.rng_simplify.specs.declared.resolve.Join.{Join}
 use Rattle.rng_simplify.specs.declared.resolve.Resolved.{Resolved}
 use Rattle.rng_simplify.specs.Cells.{Cell}
 use Rattle.rng_simplify.specs.Resolving.{leads}
 use Rattle.rng_simplify.specs.Walking.{IsMet, Walking, mark_at, step_of, with_step, opened, left, IsStep, AreSteps, path_of, IsWalk, KeepsMarks, is_new, most, left_at, work}
 use Rattle.rng_simplify.proofs.Nodes.{in_none, in_first, in_more, in_cases}
 use Rattle.rng_simplify.proofs.Numbers.{behind_cases}
-use Rattle.rng_simplify.proofs.Scopes.{stays_behind}
 
 -- ---- lists
 

@@ -1,4 +1,4 @@
-use Rattle.std.proofs.Common.{◌≡◌, ◌+◌, ◌-◌, ◌<◌, ◌≤◌, Bool, true, get_or, sym, refl, ap, ◌∙◌, List, map, length, arith}
+use Rattle.std.proofs.Common.{◌≡◌, ◌-◌, ◌<◌, ◌≤◌, sym, ◌∙◌, length, arith}
 use Rattle.std.proofs.lemmas.List.{get_or_read, length-map}
 use Rattle.rng_simplify.specs.Cells.{cell_of}
 use Rattle.rng_simplify.proofs.Turns.{leads_linked, leads_parts, leads_bodies, link_fits, join_there}

@@ -1,4 +1,4 @@
-use Rattle.std.proofs.Common.{ℕ, ◌<◌, List, take, length, sym, ◌∙◌, subst, arith, ◌+◌}
+use Rattle.std.proofs.Common.{List, take, length, sym, ◌∙◌, subst, arith}
 use Rattle.std.proofs.lemmas.Result.{err_from_is_err_and}
 use Rattle.rng_simplify.specs.declared.node.Clause.{Clause}
 use Rattle.rng_simplify.specs.Scoping.{IsGathered}

@@ -1,7 +1,4 @@
-use Rattle.std.proofs.Common.{◌<◌, ◌≡◌, length, get_or, arith, sym, ◌∙◌, ap, map}
-use Rattle.std.proofs.lemmas.List.Elements.{Contains-get_or}
-use Rattle.rng_simplify.specs.declared.node.Clause.{Clause}
-use Rattle.rng_simplify.specs.Standing.{bodies_of}
+use Rattle.std.proofs.Common.{arith}
 use Rattle.rng_simplify.proofs.Nodes.{body_among}
 use Rattle.rng_simplify.proofs.resolve.give.Goals as goal
 

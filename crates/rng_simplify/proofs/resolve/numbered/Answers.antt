@@ -1,7 +1,7 @@
-use Rattle.std.proofs.Common.{refl, map, length, arith}
+use Rattle.std.proofs.Common.{refl, arith}
 use Rattle.rng_simplify.specs.Cells.{cell_of}
 use Rattle.rng_simplify.proofs.Nodes.{cell_there}
-use Rattle.rng_simplify.proofs.Numbers.{number_more, none_numbered}
+use Rattle.rng_simplify.proofs.Numbers.{number_more}
 use Rattle.rng_simplify.proofs.resolve.numbered.Goals as goal
 
 pub loop-i-preserved : goal.loop-i-preserved

@@ -1,5 +1,5 @@
 -- the elements so far are numbered
-use Rattle.std.proofs.Common.{map, length, ◌≡◌}
+use Rattle.std.proofs.Common.{map}
 use Rattle.rng_simplify.specs.Cells.{cell_of}
 use Rattle.rng_simplify.specs.Scoping.{AreNumbered, numbering_of}
 use Rattle.rng_simplify.proofs.resolve.numbered.Given as goal

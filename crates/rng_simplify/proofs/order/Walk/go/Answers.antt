@@ -1,4 +1,4 @@
-use Rattle.std.proofs.Common.{map, sym, ◌∙◌, ap, Err}
+use Rattle.std.proofs.Common.{map, Err}
 use Rattle.std.proofs.lemmas.Result.{err_from_is_err_and}
 use Rattle.rng_simplify.specs.Cells.{cell_of}
 use Rattle.rng_simplify.specs.Walking.{walking_of}

@@ -1,4 +1,4 @@
-use Rattle.std.proofs.Common.{map, length, ℕ, ◌<◌, ◌≤◌, ◌≡◌, arith, inl, inr, ap, sym, subst, ◌∙◌}
+use Rattle.std.proofs.Common.{map, arith, inl, inr, ap, sym, subst, ◌∙◌}
 use Rattle.std.proofs.lemmas.Bool.{cases_eq}
 use Rattle.std.proofs.lemmas.List.{length-map}
 use Rattle.rng_simplify.specs.Cells.{cell_of}

@@ -1,7 +1,7 @@
 use Rattle.std.proofs.Common.{sym, ap, ◌∙◌, List, map}
 use Rattle.rng_simplify.specs.declared.order.Step.{Step}
 use Rattle.rng_simplify.specs.Cells.{cell_of}
-use Rattle.rng_simplify.specs.Walking.{Walking, walking_of}
+use Rattle.rng_simplify.specs.Walking.{walking_of}
 use Rattle.rng_simplify.proofs.Turns.{last_met, next_met, met_marked, turned_on, turned_back}
 use Rattle.rng_simplify.proofs.order.Walk.turn.Goals as goal
 

@@ -1,4 +1,4 @@
-use Rattle.std.proofs.Common.{sym, ◌∙◌, refl}
+use Rattle.std.proofs.Common.{sym, ◌∙◌}
 use Rattle.rng_simplify.proofs.Signs.{signs_added, both_alone_clash, both_ways_clash}
 use Rattle.rng_simplify.proofs.resolve.Join.add.Goals as goal
 

@@ -1,4 +1,3 @@
-use Rattle.std.proofs.Common.{sym, ◌∙◌}
 use Rattle.rng_simplify.proofs.Taking.{links_within, inner_within, node_nowhere, node_taken}
 use Rattle.rng_simplify.proofs.resolve.Resolver.node.Goals as goal
 

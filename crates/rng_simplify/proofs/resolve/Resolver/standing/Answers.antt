@@ -1,4 +1,4 @@
-use Rattle.std.proofs.Common.{List, [], ◌∷◌, ◌<◌, ◌≡◌, length, ap, ◌∙◌, Contains, subst, sym, arith}
+use Rattle.std.proofs.Common.{List, [], ◌∷◌, length, ap, ◌∙◌, Contains, subst, sym, arith}
 use Rattle.std.proofs.lemmas.List.{length-set}
 use Rattle.rng_simplify.specs.declared.node.Clause.{Clause}
 use Rattle.rng_simplify.specs.Scoping.{Findings}
