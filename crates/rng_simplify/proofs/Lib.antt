@@ -16,3 +16,4 @@ pub mod Walks
 pub mod Loops
 pub mod Turns
 pub mod Good
+pub mod Dense

@@ -38,7 +38,7 @@ unlike_rest : (x : ℕ) (xs : List ℕ) → ((k : ℕ) → slice_get xs k ≡ So
 unlike_rest x [] never = tt
 unlike_rest x (y ∷ xs) never = (unlike x y (λ is. never 0 (ap Some (sym is))), unlike_rest x xs (λ k at. never (suc k) at))
 
-distinct_by_place : (xs : List ℕ) → ((k m i : ℕ) → slice_get xs k ≡ Some i → slice_get xs m ≡ Some i → k ≡ m) → IsDistinct (λ a b. a == b) xs
+pub distinct_by_place : (xs : List ℕ) → ((k m i : ℕ) → slice_get xs k ≡ Some i → slice_get xs m ≡ Some i → k ≡ m) → IsDistinct (λ a b. a == b) xs
 unfolding IsDistinct
 distinct_by_place [] once = tt
 distinct_by_place (x ∷ xs) once = (
