@@ -17,3 +17,4 @@ pub mod Loops
 pub mod Turns
 pub mod Good
 pub mod Dense
+pub mod Unbroken
