@@ -1,7 +1,7 @@
 //! Name classes that no schema may have, in a schema in one piece (ISO/IEC 19757-2, section 4.16).
 
-ghost use Rattle.std.specs.Prelude.{◌≡◌, ◌<◌, length, map};
-ghost use Rattle.rng_simplify.specs.Breaking.{OkOrRefused};
+ghost use Rattle.std.specs.Prelude.{◌<◌, length};
+ghost use Rattle.rng_simplify.specs.Breaking.{cells_of, OkOrRefused};
 ghost use Rattle.rng_simplify.specs.Cells.{cell_of};
 ghost use Rattle.rng_simplify.specs.Judging.{JudgesCell, IsGoodAt, AreGood};
 ghost use Rattle.rng_simplify.specs.Resolving.{IsResolved};
@@ -14,8 +14,8 @@ use crate::resolve::{Resolved, Scope};
 
 /// Refuses a schema that has a class that none may have.
 pub(crate) fn check_classes(whole: &Whole, found: &Resolved) -> Result<(), SchemaFault>
-    requires { IsResolved (map cell_of whole.now.nodes.items) whole.now.root found.now }
-    ensures { OkOrRefused (map cell_of whole.now.nodes.items) whole.now.root (λ done. AreGood (map cell_of whole.now.nodes.items) whole.now.root) result }
+    requires { IsResolved (cells_of whole.now) whole.now.root found.now }
+    ensures { OkOrRefused (cells_of whole.now) whole.now.root (λ done. AreGood (cells_of whole.now) whole.now.root) result }
 {
     for i in 0..whole.nodes.len() {
         check_at(whole, found, i)?;
@@ -26,8 +26,8 @@ pub(crate) fn check_classes(whole: &Whole, found: &Resolved) -> Result<(), Schem
 /// Refuses a node that stands in the schema with a class that none may have.
 fn check_at(whole: &Whole, found: &Resolved, i: usize) -> Result<(), SchemaFault>
     requires within { i < length whole.now.nodes.items }
-    requires resolved { IsResolved (map cell_of whole.now.nodes.items) whole.now.root found.now }
-    ensures { OkOrRefused (map cell_of whole.now.nodes.items) whole.now.root (λ done. IsGoodAt (map cell_of whole.now.nodes.items) whole.now.root i) result }
+    requires resolved { IsResolved (cells_of whole.now) whole.now.root found.now }
+    ensures { OkOrRefused (cells_of whole.now) whole.now.root (λ done. IsGoodAt (cells_of whole.now) whole.now.root i) result }
 {
     match found.scopes[i] {
         Scope::Nowhere => Ok(()),

@@ -3,9 +3,9 @@
 //!
 //! The joins of definitions take part in it as further nodes: join `j` has the number `nodes.len() + j`.
 
-ghost use Rattle.std.specs.Prelude.{◌≡◌, ◌≢◌, ℕ, ◌+◌, ◌-◌, ◌<◌, ◌^◌, [], ◌∷◌, length, map, slice_get, slice_index, Some, None, IfOk, IfSome, OnOk};
+ghost use Rattle.std.specs.Prelude.{◌≡◌, ◌≢◌, ℕ, ◌+◌, ◌-◌, ◌<◌, ◌^◌, [], ◌∷◌, length, slice_get, Some, None, IfOk, IfSome, OnOk};
 ghost use Rattle.rng_simplify.specs.declared.order.Mark.TheVariants.{New as NotMet};
-ghost use Rattle.rng_simplify.specs.Breaking.{OkOrRefused};
+ghost use Rattle.rng_simplify.specs.Breaking.{cells_of, OkOrRefused};
 ghost use Rattle.rng_simplify.specs.Cells.{cell_of};
 ghost use Rattle.rng_simplify.specs.Resolving.{IsResolved, IsOrdered, leads};
 ghost use Rattle.rng_simplify.specs.Standing.{AreWellFormed, cell_parts, IsStanding};
@@ -51,9 +51,9 @@ pub(crate) fn order(
     whole: &Whole,
     found: &Resolved,
 ) -> Result<Vec<usize>, SchemaFault>
-    requires formed { AreWellFormed (map cell_of whole.now.nodes.items) whole.now.root }
-    requires resolved { IsResolved (map cell_of whole.now.nodes.items) whole.now.root found.now }
-    ensures { OkOrRefused (map cell_of whole.now.nodes.items) whole.now.root (λ order. IsOrdered (map cell_of whole.now.nodes.items) whole.now.root found.now order.items) result }
+    requires formed { AreWellFormed (cells_of whole.now) whole.now.root }
+    requires resolved { IsResolved (cells_of whole.now) whole.now.root found.now }
+    ensures { OkOrRefused (cells_of whole.now) whole.now.root (λ order. IsOrdered (cells_of whole.now) whole.now.root found.now order.items) result }
 {
     let mut walk = Walk::begin(alloc, whole.nodes.len() + found.joins.len())?;
     walk.nodes(whole, found)?;
@@ -109,11 +109,11 @@ fn body(join: &Join, k: usize) -> Option<usize>
 
 /// The node of this number among those to which a node or a join leads.
 fn next(whole: &Whole, found: &Resolved, node: usize, k: usize) -> Option<usize>
-    requires formed { AreWellFormed (map cell_of whole.now.nodes.items) whole.now.root }
-    requires resolved { IsResolved (map cell_of whole.now.nodes.items) whole.now.root found.now }
-    requires met { IsMet (map cell_of whole.now.nodes.items) whole.now.root found.now node }
+    requires formed { AreWellFormed (cells_of whole.now) whole.now.root }
+    requires resolved { IsResolved (cells_of whole.now) whole.now.root found.now }
+    requires met { IsMet (cells_of whole.now) whole.now.root found.now node }
     requires room { length whole.now.nodes.items + length found.now.joins.items < 2 ^ 64 }
-    ensures next_is { result ≡ slice_get (leads (map cell_of whole.now.nodes.items) found.now node) k }
+    ensures next_is { result ≡ slice_get (leads (cells_of whole.now) found.now node) k }
     ensures more { IfSome result (λ _. k + 1 < 2 ^ 64) }
 {
     if node < whole.nodes.len() {
@@ -146,11 +146,11 @@ impl Walk {
 
     /// Walks from each node that stands in the schema.
     fn nodes(&mut self, whole: &Whole, found: &Resolved) -> Result<(), SchemaFault>
-        requires formed { AreWellFormed (map cell_of whole.now.nodes.items) whole.now.root }
-        requires resolved { IsResolved (map cell_of whole.now.nodes.items) whole.now.root found.now }
-        requires here { IsWalk (map cell_of whole.now.nodes.items) whole.now.root found.now None (walking_of self.old) }
+        requires formed { AreWellFormed (cells_of whole.now) whole.now.root }
+        requires resolved { IsResolved (cells_of whole.now) whole.now.root found.now }
+        requires here { IsWalk (cells_of whole.now) whole.now.root found.now None (walking_of self.old) }
         requires at_rest { (walking_of self.old).path ≡ [] }
-        ensures { OkOrRefused (map cell_of whole.now.nodes.items) whole.now.root (λ done. IsWalk (map cell_of whole.now.nodes.items) whole.now.root found.now None (walking_of self.new) × ((walking_of self.new).path ≡ []) × ((i : ℕ) → IsStanding (map cell_of whole.now.nodes.items) whole.now.root i → mark_at (walking_of self.new) i ≢ NotMet)) result }
+        ensures { OkOrRefused (cells_of whole.now) whole.now.root (λ done. IsWalk (cells_of whole.now) whole.now.root found.now None (walking_of self.new) × ((walking_of self.new).path ≡ []) × ((i : ℕ) → IsStanding (cells_of whole.now) whole.now.root i → mark_at (walking_of self.new) i ≢ NotMet)) result }
     {
         for i in 0..whole.nodes.len() {
             self.node(whole, found, i)?;
@@ -161,11 +161,11 @@ impl Walk {
     /// Walks from a node, if it stands in the schema.
     fn node(&mut self, whole: &Whole, found: &Resolved, i: usize) -> Result<(), SchemaFault>
         requires within { i < length whole.now.nodes.items }
-        requires formed { AreWellFormed (map cell_of whole.now.nodes.items) whole.now.root }
-        requires resolved { IsResolved (map cell_of whole.now.nodes.items) whole.now.root found.now }
-        requires here { IsWalk (map cell_of whole.now.nodes.items) whole.now.root found.now None (walking_of self.old) }
+        requires formed { AreWellFormed (cells_of whole.now) whole.now.root }
+        requires resolved { IsResolved (cells_of whole.now) whole.now.root found.now }
+        requires here { IsWalk (cells_of whole.now) whole.now.root found.now None (walking_of self.old) }
         requires at_rest { (walking_of self.old).path ≡ [] }
-        ensures { OkOrRefused (map cell_of whole.now.nodes.items) whole.now.root (λ done. IsPassed (map cell_of whole.now.nodes.items) whole.now.root found.now i (walking_of self.old) (walking_of self.new)) result }
+        ensures { OkOrRefused (cells_of whole.now) whole.now.root (λ done. IsPassed (cells_of whole.now) whole.now.root found.now i (walking_of self.old) (walking_of self.new)) result }
     {
         match found.scopes[i] {
             Scope::Nowhere => Ok(()),
@@ -175,11 +175,11 @@ impl Walk {
 
     /// Walks from each join.
     fn joins(&mut self, whole: &Whole, found: &Resolved) -> Result<(), SchemaFault>
-        requires formed { AreWellFormed (map cell_of whole.now.nodes.items) whole.now.root }
-        requires resolved { IsResolved (map cell_of whole.now.nodes.items) whole.now.root found.now }
-        requires here { IsWalk (map cell_of whole.now.nodes.items) whole.now.root found.now None (walking_of self.old) }
+        requires formed { AreWellFormed (cells_of whole.now) whole.now.root }
+        requires resolved { IsResolved (cells_of whole.now) whole.now.root found.now }
+        requires here { IsWalk (cells_of whole.now) whole.now.root found.now None (walking_of self.old) }
         requires at_rest { (walking_of self.old).path ≡ [] }
-        ensures { OkOrRefused (map cell_of whole.now.nodes.items) whole.now.root (λ done. IsWalk (map cell_of whole.now.nodes.items) whole.now.root found.now None (walking_of self.new) × ((walking_of self.new).path ≡ []) × KeepsMarks (walking_of self.old) (walking_of self.new) × ((number : ℕ) → number < length found.now.joins.items → mark_at (walking_of self.new) (length whole.now.nodes.items + number) ≢ NotMet)) result }
+        ensures { OkOrRefused (cells_of whole.now) whole.now.root (λ done. IsWalk (cells_of whole.now) whole.now.root found.now None (walking_of self.new) × ((walking_of self.new).path ≡ []) × KeepsMarks (walking_of self.old) (walking_of self.new) × ((number : ℕ) → number < length found.now.joins.items → mark_at (walking_of self.new) (length whole.now.nodes.items + number) ≢ NotMet)) result }
     {
         for j in 0..found.joins.len() {
             self.go(whole, found, whole.nodes.len() + j)?;
@@ -189,12 +189,12 @@ impl Walk {
 
     /// Walks from a node over all that weren't met.
     fn go(&mut self, whole: &Whole, found: &Resolved, from: usize) -> Result<(), SchemaFault>
-        requires formed { AreWellFormed (map cell_of whole.now.nodes.items) whole.now.root }
-        requires resolved { IsResolved (map cell_of whole.now.nodes.items) whole.now.root found.now }
-        requires met { IsMet (map cell_of whole.now.nodes.items) whole.now.root found.now from }
-        requires here { IsWalk (map cell_of whole.now.nodes.items) whole.now.root found.now None (walking_of self.old) }
+        requires formed { AreWellFormed (cells_of whole.now) whole.now.root }
+        requires resolved { IsResolved (cells_of whole.now) whole.now.root found.now }
+        requires met { IsMet (cells_of whole.now) whole.now.root found.now from }
+        requires here { IsWalk (cells_of whole.now) whole.now.root found.now None (walking_of self.old) }
         requires at_rest { (walking_of self.old).path ≡ [] }
-        ensures { OkOrRefused (map cell_of whole.now.nodes.items) whole.now.root (λ done. IsGone (map cell_of whole.now.nodes.items) whole.now.root found.now from (walking_of self.old) (walking_of self.new)) result }
+        ensures { OkOrRefused (cells_of whole.now) whole.now.root (λ done. IsGone (cells_of whole.now) whole.now.root found.now from (walking_of self.old) (walking_of self.new)) result }
     {
         self.meet(from)?;
         while let Some(step) = self.path.pop() {
@@ -205,10 +205,10 @@ impl Walk {
 
     /// Goes on from the last node of the path, or goes back from it.
     fn turn(&mut self, whole: &Whole, found: &Resolved, step: Step) -> Result<(), SchemaFault>
-        requires formed { AreWellFormed (map cell_of whole.now.nodes.items) whole.now.root }
-        requires resolved { IsResolved (map cell_of whole.now.nodes.items) whole.now.root found.now }
-        requires here { IsWalk (map cell_of whole.now.nodes.items) whole.now.root found.now None (with_step step (walking_of self.old)) }
-        ensures { OkOrRefused (map cell_of whole.now.nodes.items) whole.now.root (λ done. IsTurned (map cell_of whole.now.nodes.items) whole.now.root found.now (with_step step (walking_of self.old)) (walking_of self.new)) result }
+        requires formed { AreWellFormed (cells_of whole.now) whole.now.root }
+        requires resolved { IsResolved (cells_of whole.now) whole.now.root found.now }
+        requires here { IsWalk (cells_of whole.now) whole.now.root found.now None (with_step step (walking_of self.old)) }
+        ensures { OkOrRefused (cells_of whole.now) whole.now.root (λ done. IsTurned (cells_of whole.now) whole.now.root found.now (with_step step (walking_of self.old)) (walking_of self.new)) result }
     {
         match next(whole, found, step.node, step.met) {
             Some(next) => {

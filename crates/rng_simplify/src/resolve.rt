@@ -3,10 +3,10 @@
 //! A node's parts have smaller numbers than the node, so that one walk from the whole down meets each grammar before what
 //! stands in it. Definitions that were replaced are never met.
 
-ghost use Rattle.std.specs.Prelude.{◌≡◌, ◌≢◌, ℕ, ◌+◌, ◌<◌, ◌&&◌, ◌||◌, List, [], ◌∷◌, length, map, replicate, Some, Contains, IfOk, OnOk};
+ghost use Rattle.std.specs.Prelude.{◌≡◌, ℕ, ◌+◌, ◌<◌, ◌&&◌, ◌||◌, List, [], ◌∷◌, length, map, replicate, Some, Contains, IfOk, OnOk};
 ghost use Rattle.rng_simplify.specs.declared.node.Clause.{Clause};
 ghost use Rattle.rng_simplify.specs.Broken.{is_alone as says_nothing};
-ghost use Rattle.rng_simplify.specs.Breaking.{OkOrRefused};
+ghost use Rattle.rng_simplify.specs.Breaking.{cells_of, OkOrRefused};
 ghost use Rattle.rng_simplify.specs.Cells.{cell_of};
 ghost use Rattle.rng_simplify.specs.Keeping.{kept_for};
 ghost use Rattle.rng_simplify.specs.Resolving.{IsResolved};
@@ -88,8 +88,8 @@ fn filled<T: Copy + Drop>(alloc: Global, value: T, count: usize) -> Result<Vec<T
 
 /// Resolves the references of a whole schema.
 pub(crate) fn resolve(alloc: Global, whole: &Whole) -> Result<Resolved, SchemaFault>
-    requires { AreWellFormed (map cell_of whole.now.nodes.items) whole.now.root }
-    ensures { OkOrRefused (map cell_of whole.now.nodes.items) whole.now.root (IsResolved (map cell_of whole.now.nodes.items) whole.now.root) result }
+    requires { AreWellFormed (cells_of whole.now) whole.now.root }
+    ensures { OkOrRefused (cells_of whole.now) whole.now.root (IsResolved (cells_of whole.now) whole.now.root) result }
 {
     let mut resolver = Resolver::begin(alloc, whole.nodes.len(), whole.root)?;
     resolver.walk(whole)?;
@@ -300,9 +300,9 @@ impl Resolver {
 
     /// Takes all nodes, from the last one on.
     fn walk(&mut self, whole: &Whole) -> Result<(), SchemaFault>
-        requires formed { AreWellFormed (map cell_of whole.now.nodes.items) whole.now.root }
-        requires begun { IsMidway (map cell_of whole.now.nodes.items) whole.now.root (length whole.now.nodes.items) (findings_of self.old) }
-        ensures { OkOrRefused (map cell_of whole.now.nodes.items) whole.now.root (λ done. IsMidway (map cell_of whole.now.nodes.items) whole.now.root 0 (findings_of self.new)) result }
+        requires formed { AreWellFormed (cells_of whole.now) whole.now.root }
+        requires begun { IsMidway (cells_of whole.now) whole.now.root (length whole.now.nodes.items) (findings_of self.old) }
+        ensures { OkOrRefused (cells_of whole.now) whole.now.root (λ done. IsMidway (cells_of whole.now) whole.now.root 0 (findings_of self.new)) result }
     {
         let mut rest = whole.nodes.len();
         while rest > 0 {
@@ -315,9 +315,9 @@ impl Resolver {
     /// Takes a node with all that is known of what stands around it.
     fn node(&mut self, whole: &Whole, i: usize) -> Result<(), SchemaFault>
         requires within { i < length whole.now.nodes.items }
-        requires formed { AreWellFormed (map cell_of whole.now.nodes.items) whole.now.root }
-        requires behind { IsMidway (map cell_of whole.now.nodes.items) whole.now.root (i + 1) (findings_of self.old) }
-        ensures { OkOrRefused (map cell_of whole.now.nodes.items) whole.now.root (λ done. IsMidway (map cell_of whole.now.nodes.items) whole.now.root i (findings_of self.new)) result }
+        requires formed { AreWellFormed (cells_of whole.now) whole.now.root }
+        requires behind { IsMidway (cells_of whole.now) whole.now.root (i + 1) (findings_of self.old) }
+        ensures { OkOrRefused (cells_of whole.now) whole.now.root (λ done. IsMidway (cells_of whole.now) whole.now.root i (findings_of self.new)) result }
     {
         match self.scopes[i] {
             Scope::Nowhere => Ok(()),
