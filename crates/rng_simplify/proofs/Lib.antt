@@ -19,3 +19,16 @@ pub mod OnePiece
 pub mod Refusing
 pub mod Written
 pub mod Wholes
+pub mod Nodes
+pub mod Posts
+pub mod Scopes
+pub mod Signs
+pub mod Gathering
+pub mod Numbers
+pub mod Taking
+pub mod Walks
+pub mod Loops
+pub mod WalkTurns
+pub mod Good
+pub mod Dense
+pub mod Unbroken

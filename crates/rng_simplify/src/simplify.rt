@@ -1,10 +1,10 @@
 //! The grammar that schema files define.
 
 use crate::build::Builder;
-use crate::class::{check_attribute_class, check_element_class};
 use crate::compose::Whole;
 use crate::fault::SchemaFault;
 use crate::form::{Forms, forms_of};
+use crate::judge::check_classes;
 use crate::limit::check_size;
 use crate::node::Node;
 use crate::order::order;
@@ -26,8 +26,8 @@ pub fn simplify<F: Files>(alloc: Global, uri: &str, files: &mut F) -> Result<Gra
 fn grammar_of(alloc: Global, whole: &Whole) -> Result<Grammar, SchemaFault> {
     let nodes = whole.nodes.as_slice();
     let found = resolve(alloc, whole)?;
-    check_classes(nodes, &found)?;
-    let order = order(alloc, nodes, &found)?;
+    check_classes(whole, &found)?;
+    let order = order(alloc, whole, &found)?;
     let forms = forms_of(alloc, nodes, &found, order.as_slice())?;
     let types = types_of(alloc, nodes, &found, &forms)?;
     check_size(nodes, &forms, whole.root, found.elements.as_slice())?;
@@ -38,20 +38,6 @@ fn grammar_of(alloc: Global, whole: &Whole) -> Result<Grammar, SchemaFault> {
         types: types.as_slice(),
     };
     builder.grammar(whole.root, found.elements.as_slice())
-}
-
-/// Refuses a class that no schema may have.
-fn check_classes(nodes: &[Node], found: &Resolved) -> Result<(), SchemaFault> {
-    for i in 0..nodes.len() {
-        if found.scopes[i] != Scope::Nowhere {
-            match &nodes[i] {
-                Node::Element(class, _) => check_element_class(class)?,
-                Node::Attribute(class, _) => check_attribute_class(class)?,
-                _ => {}
-            }
-        }
-    }
-    Ok(())
 }
 
 /// The types of the nodes that stand in the schema and have one.
