@@ -5,3 +5,4 @@ pub mod Entries
 pub mod Growing
 pub mod Replacing
 pub mod Made
+pub mod Showing

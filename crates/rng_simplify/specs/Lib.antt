@@ -15,3 +15,4 @@ pub mod Denoting
 pub mod Making
 pub mod Keeping
 pub mod Supplying
+pub mod Shown
