@@ -6,3 +6,5 @@ pub mod Growing
 pub mod Replacing
 pub mod Made
 pub mod Showing
+pub mod Nodes
+pub mod Forming

@@ -16,3 +16,6 @@ pub mod Making
 pub mod Keeping
 pub mod Supplying
 pub mod Shown
+pub mod Standing
+pub mod Resolving
+pub mod Forming
