@@ -391,10 +391,10 @@ before_next order end i here is h =
 pub before_later : (order : List ℕ) (end later i : ℕ) → end ≤ later → IsBefore order end i → IsBefore order later i
 before_later order end later i less h = record { place = h.place; before = let before = h.before in omega arith; there = h.there }
 
-cell_leads_are : (cells : List Cell) (found : Resolved) (i : ℕ) (c : Cell) → IsCell cells i c → leads cells found i ≡ cell_leads (length cells) (link_at found i) c
+pub cell_leads_are : (cells : List Cell) (found : Resolved) (i : ℕ) (c : Cell) → IsCell cells i c → leads cells found i ≡ cell_leads (length cells) (link_at found i) c
 cell_leads_are cells found i c at = ap (leads_if cells found i) at
 
-join_leads_are : (cells : List Cell) (found : Resolved) (number : ℕ) (join : Join) → slice_get found.joins.items number ≡ Some join → leads cells found (length cells + number) ≡ join.bodies.items
+pub join_leads_are : (cells : List Cell) (found : Resolved) (number : ℕ) (join : Join) → slice_get found.joins.items number ≡ Some join → leads cells found (length cells + number) ≡ join.bodies.items
 join_leads_are cells found number join there =
     let back : (length cells + number) - length cells ≡ number = omega arith in
     ap (leads_if cells found (length cells + number)) (slice_get_past cells (length cells + number) (omega arith))

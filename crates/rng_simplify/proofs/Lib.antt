@@ -8,3 +8,4 @@ pub mod Made
 pub mod Showing
 pub mod Nodes
 pub mod Forming
+pub mod Simplifying

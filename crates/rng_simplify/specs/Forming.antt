@@ -1,6 +1,8 @@
 -- Of what the forms of nodes and joins are made: each of the forms of what it leads to.
 use Rattle.std.specs.Prelude.{◌≡◌, ℕ, ◌+◌, ◌<◌, List, [], ◌∷◌, ◌++◌, length, map, slice_get, slice_set, slice_index, Option, Some, None, Result, Ok, Err, Contains}
 use Rattle.rnc_parse.specs.declared.surface.Combine.{Combine}
+use Rattle.rnc_parse.specs.declared.surface.TypeName.{TypeName}
+use Rattle.rnc_parse.specs.declared.surface.Param.{Param}
 use Rattle.rnc_parse.specs.Written.{joined}
 use Rattle.rng_core.specs.Names.{Class}
 use Rattle.rng_simplify.specs.declared.fault.SchemaFault.{SchemaFault}
@@ -13,7 +15,7 @@ use Rattle.rng_simplify.specs.declared.shape.Shape.{Shape}
 use Rattle.rng_simplify.specs.Cells.{Cell}
 use Rattle.rng_simplify.specs.Cells as cell
 use Rattle.rng_simplify.specs.Denoting.{IsCell}
-use Rattle.rng_simplify.specs.Forms.{Form, Value, list_of, attribute_of, one_or_more_of, join_of}
+use Rattle.rng_simplify.specs.Forms.{Form, Value, list_of, attribute_of, one_or_more_of, join_of, values_of}
 use Rattle.rng_simplify.specs.Forms as form
 use Rattle.rng_simplify.specs.Resolving.{link_at, leads}
 use Rattle.rng_simplify.specs.Shown.{joined_of, form_at, AreOfSchema}
@@ -84,6 +86,10 @@ pub record AreFormed (cells : List Cell) (found : Resolved) (order : List ℕ) (
 -- all of the order have
 pub record AreForms (cells : List Cell) (found : Resolved) (order : List ℕ) (forms : Forms) : Type 0 where
   pub formed : AreFormed cells found order (length order) forms
+
+-- these values are what the types in front of this place say that is taken from them
+pub record AreTaken (cells : List Cell) (order : List ℕ) (end : ℕ) (taken : ℕ → List Value) (forms : Forms) : Type 0 where
+  pub each_is : (i : ℕ) (type : TypeName) (params : List Param) (part : ℕ) → IsBefore order end i → IsCell cells i (cell.typed type params part) → values_of (form_of cells taken forms part) ≡ Some (taken i)
 
 -- ---- what calls do
 
