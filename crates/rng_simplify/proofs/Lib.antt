@@ -9,3 +9,4 @@ pub mod Showing
 pub mod Nodes
 pub mod Forming
 pub mod Simplifying
+pub mod Limiting

@@ -1,8 +1,9 @@
 -- The forms of nodes in order are the simple forms of what the nodes stand for.
 use Rattle.std.proofs.Common.{◌≡◌, ◌≢◌, refl, sym, ap, ◌∙◌, subst, ℕ, zero, suc, ◌+◌, ◌-◌, ◌<◌, ◌≤◌, ◌==◌, Bool, true, false, cond, inl, inr, ◌⊎◌, List, [], ◌∷◌, ◌++◌, length, map, take, filter, get_or, slice_get, Option, Some, None, Contains, arith}
 use Rattle.std.specs.Prelude.{slice_index, slice_index_or, if◌then◌else◌}
-use Rattle.std.specs.List.{IsDistinct, AllByRecursion}
-use Rattle.std.proofs.lemmas.List.{length-take, get_or-take, get_or_default, get_or_past}
+use Rattle.std.specs.List.{IsDistinct, AllByRecursion, fold}
+use Rattle.std.specs.Option.{option_map, option_and_then}
+use Rattle.std.proofs.lemmas.List.{length-take, get_or-take, get_or_default, get_or_past, length-append, get_or_append_left}
 use Rattle.std.proofs.lemmas.Bool.{cases_lt}
 use Rattle.std.proofs.lemmas.Option.{same_Some, slice_get_within, slice_get-get_or, get_or_from_slice_get}
 use Rattle.rnc_parse.specs.declared.surface.Combine.{Combine}
@@ -20,6 +21,8 @@ use Rattle.rng_simplify.specs.declared.resolve.Join.{Join}
 use Rattle.rng_simplify.specs.declared.resolve.Resolved.{Resolved}
 use Rattle.rng_simplify.specs.declared.resolve.Scope.{Scope}
 use Rattle.rng_simplify.specs.declared.resolve.Scope.TheVariants.{Nowhere}
+use Rattle.rng_simplify.specs.declared.shape.Shape.{Shape}
+use Rattle.rng_simplify.specs.declared.shape.Shape.TheVariants as shape
 use Rattle.rng_simplify.specs.Cells.{Cell}
 use Rattle.rng_simplify.specs.Cells as cell
 use Rattle.rng_simplify.specs.Composed.{Composed, Clauses, end_of_clauses, clause_then, same_defined, defining, combines, bodies}
@@ -29,10 +32,11 @@ use Rattle.rng_simplify.specs.Forms.{Form, Value, values_of, combine_of, join_of
 use Rattle.rng_simplify.specs.Forms as form
 use Rattle.rng_simplify.specs.Forming.{cell_form, bodies_form, join_form, form_of, IsBefore, IsInOrder, AreFormed, AreForms, AreTaken}
 use Rattle.rng_simplify.specs.Resolving.{scope_at, link_at, cell_leads, clauses_of, combines_of, IsJoined, IsJoinedIn, IsJoinedOutside, IsResolved, leads, IsJoinNumber, IsOrdered}
-use Rattle.rng_simplify.specs.Shown.{joined_of}
+use Rattle.rng_simplify.specs.Shown.{joined_form, joined_of, form_by, among, shown, form_at}
 use Rattle.rng_simplify.specs.Simple.{Simple, Defines, AreSimple, simple_element, simple_attribute, simple_list, simple_empty, simple_text, simple_not_allowed, simple_value, simple_type, simple_one_or_more, simple_choice, simple_group, simple_interleave, simple_grammar, simple_ref, simple_parent_ref, joined_in_order, none_simple, next_simple}
 use Rattle.rng_simplify.specs.Standing.{cell_parts, bodies_of, Stands, the_root, a_part, a_content, a_definition, IsStanding, AreScopes, no_scopes, further_scope}
 use Rattle.rng_simplify.proofs.Forming.{none_before, before_next, before_later, cell_leads_are, join_leads_are, leads_before}
+use Rattle.rng_simplify.proofs.Showing.{at_seam}
 use Rattle.rng_simplify.proofs.Nodes.{in_none, in_cases, in_first, in_more, in_one, one_cell, DenotesBy, cell_denoted}
 
 -- ---- an order
@@ -322,3 +326,113 @@ module _ (cells : List Cell) (root : ℕ) (found : Resolved) (resolved : IsResol
           | inr is ↦ let P : ℕ → Type 0 = λ k. slice_get order end ≡ Some k in join_simple n (subst P (sym is) place)
           ];
       }
+
+  shorter : (end : ℕ) → AreTaken cells order (suc end) taken forms → AreTaken cells order end taken forms
+  shorter end takes = record { each_is = λ i type params part h there. takes.each_is i type params part (before_later order end (suc end) i (omega arith) h) there }
+
+  -- all in front of a place have simple forms, where what is taken from the types there is known
+  simple_before : (end : ℕ) → end ≤ length order → AreTaken cells order end taken forms → AreSimpleBefore end
+  simple_before zero within takes = record {
+      node = λ i h. absurd (none_before order i h);
+      join = λ n h. absurd (none_before order (length cells + n) h);
+    }
+  simple_before (suc end) within takes =
+      let less : end < length order = omega arith in
+      let next : end + 1 ≡ suc end = omega arith in
+      let P : ℕ → Type 0 = λ k. AreTaken cells order k taken forms in
+      subst AreSimpleBefore next
+        (one_more_simple end (simple_before end (omega arith) (shorter end takes)) (subst P (sym next) takes) less (get_or order end 0) (slice_get-get_or order end 0 less))
+
+  -- a node in front of the place has the simple form of what it stands for
+  pub node_is_simple : (end i : ℕ) → end ≤ length order → AreTaken cells order end taken forms → IsBefore order end i → (outers : List ℕ) (scopes : List Clauses) (p : Composed) → Stands cells root outers i → AreScopes cells number outers scopes → Denotes cells number i p → Simple scopes p (at i)
+  node_is_simple end i within takes h = (simple_before end within takes).node i h
+
+-- ---- what is taken from types
+
+-- values don't depend on what is taken from types
+record SameValues (some others : List Form) : Type 0 where
+  same_length : length some ≡ length others
+  same : (n : ℕ) → values_of (among some n) ≡ values_of (among others n)
+
+values_joined : (by : Sign) (p q r s : Form) → values_of p ≡ values_of r → values_of q ≡ values_of s → values_of (joined_form by p q) ≡ values_of (joined_form by r s)
+values_joined sign.Choice p q r s one other =
+    ap (λ v. option_and_then (λ first. option_map (λ second. first ++ second) (values_of q)) v) one
+    ∙ ap (λ v. option_and_then (λ first. option_map (λ second. first ++ second) v) (values_of r)) other
+values_joined sign.Group p q r s one other = refl
+values_joined sign.Interleave p q r s one other = refl
+
+values_by : (cells : List Cell) (taken other : ℕ → List Value) (some others : ℕ → Form) (s : Shape) → ((n : ℕ) → values_of (some n) ≡ values_of (others n)) → values_of (form_by cells taken some s) ≡ values_of (form_by cells other others s)
+values_by cells taken other some others shape.NotAllowed same = refl
+values_by cells taken other some others shape.Empty same = refl
+values_by cells taken other some others shape.Text same = refl
+values_by cells taken other some others (shape.Value i) same = refl
+values_by cells taken other some others (shape.Typed i) same = refl
+values_by cells taken other some others (shape.Ref number) same = refl
+values_by cells taken other some others (shape.List part) same = refl
+values_by cells taken other some others (shape.Attribute i part) same = refl
+values_by cells taken other some others (shape.OneOrMore part) same = refl
+values_by cells taken other some others (shape.Joined by first second) same = values_joined by (some first) (some second) (others first) (others second) (same first) (same second)
+
+one_more_same : (some others : List Form) (p q : Form) → SameValues some others → values_of p ≡ values_of q → SameValues (some ++ p ∷ []) (others ++ q ∷ [])
+one_more_same some others p q known also =
+    let all = known.same_length in
+    let longer = length-append some (p ∷ []) in
+    let also_longer = length-append others (q ∷ []) in
+    record {
+      same_length = omega arith;
+      same = λ n. elim (cases_lt n (length some)) [
+          inl less ↦
+          ap values_of (get_or_append_left some (p ∷ []) form.not_allowed n less)
+          ∙ known.same n
+          ∙ sym (ap values_of (get_or_append_left others (q ∷ []) form.not_allowed n (omega arith)))
+        | inr more ↦ elim (cases_lt (length some) n) [
+            inl past ↦
+            ap values_of (get_or_past (some ++ p ∷ []) n form.not_allowed (omega arith))
+            ∙ sym (ap values_of (get_or_past (others ++ q ∷ []) n form.not_allowed (omega arith)))
+          | inr least ↦
+            let here : n ≡ length some = omega arith in
+            let there : n ≡ length others = omega arith in
+            ap (λ k. values_of (among (some ++ p ∷ []) k)) here
+            ∙ ap values_of (at_seam some p [] form.not_allowed)
+            ∙ also
+            ∙ sym (ap (λ k. values_of (among (others ++ q ∷ []) k)) there ∙ ap values_of (at_seam others q [] form.not_allowed))
+          ]
+        ];
+    }
+
+values_from : (cells : List Cell) (taken other : ℕ → List Value) (shapes : List Shape) (some others : List Form) → SameValues some others → SameValues (fold (λ forms s. forms ++ form_by cells taken (among forms) s ∷ []) some shapes) (fold (λ forms s. forms ++ form_by cells other (among forms) s ∷ []) others shapes)
+values_from cells taken other [] some others known = known
+values_from cells taken other (s ∷ shapes) some others known =
+    values_from cells taken other shapes (some ++ form_by cells taken (among some) s ∷ []) (others ++ form_by cells other (among others) s ∷ [])
+      (one_more_same some others (form_by cells taken (among some) s) (form_by cells other (among others) s) known (values_by cells taken other (among some) (among others) s known.same))
+
+pub same_values : (cells : List Cell) (taken other : ℕ → List Value) (shapes : List Shape) (n : ℕ) → values_of (form_at cells taken shapes n) ≡ values_of (form_at cells other shapes n)
+unfolding form_at shown
+same_values cells taken other shapes n = (values_from cells taken other shapes [] [] (record { same_length = refl; same = λ k. refl })).same n
+
+-- ---- types from which values are taken
+
+abbrev part_in : Option Cell → ℕ
+part_in (Some (cell.typed type params part)) = part
+part_in _ = 0
+
+abbrev values_or_none : Option (List Value) → List Value
+values_or_none (Some values) = values
+values_or_none None = []
+
+-- the values of what is taken from each type, and none where that is no choice of values
+pub taken_of : List Cell → Forms → ℕ → List Value
+taken_of cells forms i = values_or_none (values_of (form_of cells (λ k. []) forms (part_in (slice_get cells i))))
+
+values_known : (o : Option (List Value)) → (o ≡ None → ⊥) → o ≡ Some (values_or_none o)
+values_known None some = absurd (some refl)
+values_known (Some values) some = refl
+
+-- a type's values are what is taken from it
+pub taken_is : (cells : List Cell) (forms : Forms) (i : ℕ) (type : TypeName) (params : List Param) (part : ℕ) → IsCell cells i (cell.typed type params part) → (values_of (form_of cells (taken_of cells forms) forms part) ≡ None → ⊥) → values_of (form_of cells (taken_of cells forms) forms part) ≡ Some (taken_of cells forms i)
+unfolding taken_of
+taken_is cells forms i type params part there some =
+    let same = same_values cells (taken_of cells forms) (λ k. []) forms.shapes (slice_index forms.of.items part) in
+    same
+    ∙ values_known (values_of (form_of cells (λ k. []) forms part)) (λ none. some (same ∙ none))
+    ∙ ap (λ o. Some (values_or_none (values_of (form_of cells (λ k. []) forms (part_in o))))) (sym there)

@@ -19,3 +19,4 @@ pub mod Shown
 pub mod Standing
 pub mod Resolving
 pub mod Forming
+pub mod Limiting
