@@ -268,7 +268,7 @@ next_joined old mid new of now_of by first others index next number further stay
 
 -- ---- nodes and joins by their numbers
 
-cell_there : (nodes : List Node) (i : ℕ) (n : Node) → i < length nodes → n ≡ get_or nodes i n → slice_get (map cell_of nodes) i ≡ Some (cell_of n)
+pub cell_there : (nodes : List Node) (i : ℕ) (n : Node) → i < length nodes → n ≡ get_or nodes i n → slice_get (map cell_of nodes) i ≡ Some (cell_of n)
 cell_there nodes i n within is = slice_get-map cell_of nodes i ∙ ap (option_map cell_of) (slice_get-get_or nodes i n within ∙ ap (λ m. Some m) (sym is))
 
 link_there : (found : Resolved) (i link : ℕ) → i < length found.links.items → link ≡ get_or found.links.items i link → link ≡ link_at found i

@@ -10,3 +10,4 @@ pub mod Nodes
 pub mod Forming
 pub mod Simplifying
 pub mod Limiting
+pub mod Typing

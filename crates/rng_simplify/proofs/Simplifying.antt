@@ -412,11 +412,11 @@ same_values cells taken other shapes n = (values_from cells taken other shapes [
 
 -- ---- types from which values are taken
 
-abbrev part_in : Option Cell → ℕ
+abbrev pub part_in : Option Cell → ℕ
 part_in (Some (cell.typed type params part)) = part
 part_in _ = 0
 
-abbrev values_or_none : Option (List Value) → List Value
+abbrev pub values_or_none : Option (List Value) → List Value
 values_or_none (Some values) = values
 values_or_none None = []
 
@@ -424,7 +424,7 @@ values_or_none None = []
 pub taken_of : List Cell → Forms → ℕ → List Value
 taken_of cells forms i = values_or_none (values_of (form_of cells (λ k. []) forms (part_in (slice_get cells i))))
 
-values_known : (o : Option (List Value)) → (o ≡ None → ⊥) → o ≡ Some (values_or_none o)
+pub values_known : (o : Option (List Value)) → (o ≡ None → ⊥) → o ≡ Some (values_or_none o)
 values_known None some = absurd (some refl)
 values_known (Some values) some = refl
 

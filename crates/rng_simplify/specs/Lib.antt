@@ -20,3 +20,4 @@ pub mod Standing
 pub mod Resolving
 pub mod Forming
 pub mod Limiting
+pub mod Typing
