@@ -32,3 +32,8 @@ pub mod WalkTurns
 pub mod Good
 pub mod Dense
 pub mod Unbroken
+pub mod Showing
+pub mod Forming
+pub mod Simplifying
+pub mod Limiting
+pub mod Typing

@@ -27,3 +27,7 @@ pub mod Scoping
 pub mod Breaking
 pub mod Walking
 pub mod Judging
+pub mod Shown
+pub mod Forming
+pub mod Limiting
+pub mod Typing
