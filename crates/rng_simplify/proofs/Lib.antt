@@ -11,3 +11,4 @@ pub mod Forming
 pub mod Simplifying
 pub mod Limiting
 pub mod Typing
+pub mod Spelling

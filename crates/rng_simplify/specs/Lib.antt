@@ -21,3 +21,4 @@ pub mod Resolving
 pub mod Forming
 pub mod Limiting
 pub mod Typing
+pub mod Spelling

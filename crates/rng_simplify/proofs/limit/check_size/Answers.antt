@@ -1,3 +1,4 @@
+use Rattle.rng_simplify.proofs.Spelling.{is_wrapped}
 use Rattle.std.proofs.Common.{[]}
 use Rattle.std.proofs.lemmas.Result.{err_from_is_err_and}
 use Rattle.rng_simplify.proofs.Limiting.{few_counted, one_more_counted, one_too_large, all_counted}
