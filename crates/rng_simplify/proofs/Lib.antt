@@ -12,3 +12,5 @@ pub mod Simplifying
 pub mod Limiting
 pub mod Typing
 pub mod Spelling
+pub mod Typed
+pub mod Refusing

@@ -39,7 +39,7 @@ reverse_built built p = ap reverse (map-append pattern_of built (p ∷ [])) ∙ 
 
 -- ---- how much is left
 
-some_nodes : (q : Form) → 0 < nodes q
+pub some_nodes : (q : Form) → 0 < nodes q
 some_nodes form.not_allowed = omega arith
 some_nodes form.empty = omega arith
 some_nodes form.any_text = omega arith

@@ -1,4 +1,5 @@
-use Rattle.rng_simplify.proofs.Spelling.{is_wrapped}
+use Rattle.rng_simplify.proofs.Typed.{spelled_typed}
+use Rattle.rng_simplify.proofs.Refusing.{refused_is_broken}
 use Rattle.std.proofs.Common.{[]}
 use Rattle.std.proofs.lemmas.Result.{err_from_is_err_and}
 use Rattle.rng_simplify.proofs.Limiting.{few_counted, one_more_counted, one_too_large, all_counted}
