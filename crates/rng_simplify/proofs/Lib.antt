@@ -42,3 +42,4 @@ pub mod Typed
 pub mod RefusedTypes
 pub mod OneForm
 pub mod Grammars
+pub mod Answered

@@ -32,3 +32,4 @@ pub mod Forming
 pub mod Limiting
 pub mod Typing
 pub mod Spelling
+pub mod Grammars
