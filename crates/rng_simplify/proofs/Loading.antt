@@ -44,13 +44,15 @@ told_always (Some files) A f = f files
 module _ (told : Option FileMap) (uri : List ℕ) where
   -- a file that is reached is refused
   pub refused_at : (context : Context) (before after : ℕ) (fault : SchemaFault) → IfTold told (λ files. Reached files uri context) →
-      ReadsFile told context.uri before after (Err fault) → Answers told uri before after (Err fault)
-  refused_at context before after (Absent absent) reached h = (
+      IsUtf8 context.uri → ReadsFile told context.uri before after (Err fault) → Answers told uri before after (Err fault)
+  refused_at context before after (Absent absent) reached is_text h = (
+    subst (λ u. IsUtf8 u) (sym h.0) is_text,
     told_both told (λ files. Reached files uri context) (λ files. files context.uri ≡ None) (λ files. IsAbsent files uri absent)
         (λ files r e. record { context = context; reached = r; uri_is = h.0; nothing_there = ap files h.0 ∙ e }) reached h.1,
     h.2,
   )
-  refused_at context before after (NotUtf8 wrong at) reached h = (
+  refused_at context before after (NotUtf8 wrong at) reached is_text h = (
+    subst (λ u. IsUtf8 u) (sym h.0) is_text,
     told_both told (λ files. Reached files uri context) (λ files. (bytes : List ℕ) × (files context.uri ≡ Some bytes) × IsNoTextAt bytes at)
         (λ files. IsNoText files uri wrong at) (λ files r e. record {
           context = context;
@@ -63,10 +65,10 @@ module _ (told : Option FileMap) (uri : List ℕ) where
         }) reached h.1,
     h.2,
   )
-  refused_at context before after (BadUri text) reached h = absurd h
-  refused_at context before after Failed reached h = h
-  refused_at context before after NoMemory reached h = h
-  refused_at context before after (Unreadable why) reached h =
+  refused_at context before after (BadUri text) reached is_text h = absurd h
+  refused_at context before after Failed reached is_text h = h
+  refused_at context before after NoMemory reached is_text h = h
+  refused_at context before after (Unreadable why) reached is_text h =
       refused why h.0 (told_both told (λ files. Reached files uri context) (λ files. (bytes : List ℕ) × (files context.uri ≡ Some bytes) ×
       IsRefusedText bytes why) (λ files. IsRefused files uri why)
       (λ files r e. record { context = context; reached = r; bytes = e.0; there = e.1; is_text = e.2.is_text; refused = e.2.refused })
@@ -86,10 +88,10 @@ module _ (told : Option FileMap) (uri : List ℕ) where
   -- ---- the chain
 
   -- the file is refused with which loading begins
-  pub first_refused : (before after : ℕ) (fault : SchemaFault) → ReadsFile told uri before after (Err fault) →
+  pub first_refused : (before after : ℕ) (fault : SchemaFault) → IsUtf8 uri → ReadsFile told uri before after (Err fault) →
       Answers told uri before after (Err fault)
-  first_refused before after fault h =
-      refused_at (top uri) before after fault (told_always told (λ files. Reached files uri (top uri)) (λ files. the_first)) h
+  first_refused before after fault is_text h =
+      refused_at (top uri) before after fault (told_always told (λ files. Reached files uri (top uri)) (λ files. the_first)) is_text h
 
   -- what waits in a file that was read is mentioned there
   mentioned_in : (context : Context) (surface : WrittenSurface) → IfTold told (λ files. Reached files uri context) →
@@ -247,12 +249,12 @@ module _ (told : Option FileMap) (uri : List ℕ) where
           leads_here = subst (λ us. Contains us other) (sym next.chain_is) among;
         }) next.mentioned
 
-    pub not_next : (count : ℕ) (fault : SchemaFault) → NextUri (uris_of outer) link.uri kept.text (Err fault) →
+    pub not_next : (count : ℕ) (fault : SchemaFault) → IsUtf8 kept.text → NextUri (uris_of outer) link.uri kept.text (Err fault) →
         Answers told uri count count (Err fault)
-    not_next count (BadUri bad) h = (subst (λ t. IfTold told (λ files. HasBadUri files uri t)) (sym h.0) (bad_uri count h.1), refl)
-    not_next count NoMemory h = refl
-    not_next count (Unreadable cause.IncludeLoop) h = (loop_at h.0 h.1 h.2, refl)
-    not_next count fault h = absurd h
+    not_next count (BadUri bad) is_text h = (subst (λ t. IsUtf8 t) (sym h.0) is_text, subst (λ t. IfTold told (λ files. HasBadUri files uri t)) (sym h.0) (bad_uri count h.1), refl)
+    not_next count NoMemory is_text h = refl
+    not_next count (Unreadable cause.IncludeLoop) is_text h = (loop_at h.0 h.1 h.2, refl)
+    not_next count fault is_text h = absurd h
 
     -- the file where the mention leads is reached
     pub inner_reached : (other : List ℕ) → Joins link.uri kept.text other → (Contains (link.uri ∷ uris_of outer) other → ⊥) →
@@ -264,11 +266,11 @@ module _ (told : Option FileMap) (uri : List ℕ) where
 
     -- it is refused
     pub not_opened : (other : List ℕ) (before after : ℕ) (fault : SchemaFault) → Joins link.uri kept.text other →
-        (Contains (link.uri ∷ uris_of outer) other → ⊥) → ReadsFile told other before after (Err fault) →
+        IsUtf8 other → (Contains (link.uri ∷ uris_of outer) other → ⊥) → ReadsFile told other before after (Err fault) →
         Answers told uri before after (Err fault)
-    not_opened other before after fault joins no_loop h =
+    not_opened other before after fault joins is_text no_loop h =
         refused_at told uri (referred next.context (reference_of next.mention) other) before after fault (inner_reached other joins no_loop)
-        h
+        is_text h
 
     -- it is opened, and loading goes on
     pub opened : (other : List ℕ) (surface : Surface) (links new_links : List Link) (new_loaded : List Loaded) → IsUtf8 kept.inherited →

@@ -22,9 +22,10 @@ module _ (told : Option FileMap) (uri : List ℕ) (old link : Link) (kept : Kept
   -- the next mention leads nowhere
   pub leads_nowhere : (count : ℕ) (fault : SchemaFault) → old.uri ≡ link.uri →
       reverse old.waiting.items ≡ kept ∷ reverse link.waiting.items → IsUnderWay told uri (old ∷ outer) loaded →
-      NextUri (uris_of outer) link.uri kept.text (Err fault) → Answers told uri count count (Err fault)
-  leads_nowhere count fault same taken under h =
-      not_next told uri old link kept outer loaded (next_mention told uri old link kept outer loaded same taken under) count fault h
+      IsUtf8 kept.text → NextUri (uris_of outer) link.uri kept.text (Err fault) → Answers told uri count count (Err fault)
+  leads_nowhere count fault same taken under is_text h =
+      not_next told uri old link kept outer loaded (next_mention told uri old link kept outer loaded same taken under) count fault
+      is_text h
 
   -- it leads to a file, which is read or refused
   pub leads_to : {A : Type 0} → (other : List ℕ) (before after : ℕ) (links new_links : List Link) (new_loaded : List Loaded)
@@ -38,7 +39,7 @@ module _ (told : Option FileMap) (uri : List ℕ) (old link : Link) (kept : Kept
       new_links new_loaded is_text opens.2 next.0 next.2 opens.1 links_are opens.3
   leads_to other before after links new_links new_loaded (Err fault) is_text same taken under next links_are opens =
       not_opened told uri old link kept outer loaded (next_mention told uri old link kept outer loaded same taken under) other before after
-      fault next.0 next.2 opens
+      fault next.0 next.1 next.2 opens
 
 -- the texts of a file that was read are UTF-8, and so are those of the chain
 pub opened_texts : {A : Type 0} → (told : Option FileMap) (other inherited : List ℕ) (before after : ℕ) (links new_links : List Link)
@@ -59,23 +60,23 @@ opened_texts told other inherited before after links new_links loaded new_loaded
 
 -- the file with which loading begins is refused, or loading goes on
 pub begins : {A : Type 0} → (told : Option FileMap) (uri : List ℕ) (before after : ℕ) (links : List Link) (loaded : List Loaded)
-    (result : Result A SchemaFault) → OpensFile told uri [] before after [] links [] loaded result →
+    (result : Result A SchemaFault) → IsUtf8 uri → OpensFile told uri [] before after [] links [] loaded result →
     GoesOn told uri before after (reverse links) loaded result
-begins told uri before after links loaded (Ok done) opens = begun told uri opens.0 links loaded opens.2 opens.1 opens.3
-begins told uri before after links loaded (Err fault) opens = first_refused told uri before after fault opens
+begins told uri before after links loaded (Ok done) is_text opens = begun told uri opens.0 links loaded opens.2 opens.1 opens.3
+begins told uri before after links loaded (Err fault) is_text opens = first_refused told uri before after fault is_text opens
 
 pub begins_from : {A : Type 0} → (told : Option FileMap) (uri first inherited : List ℕ) (before after : ℕ) (none links : List Link)
-    (nothing loaded : List Loaded) (result : Result A SchemaFault) → first ≡ uri → inherited ≡ [] → none ≡ [] → nothing ≡ [] →
+    (nothing loaded : List Loaded) (result : Result A SchemaFault) → IsUtf8 uri → first ≡ uri → inherited ≡ [] → none ≡ [] → nothing ≡ [] →
     OpensFile told first inherited before after none links nothing loaded result →
     GoesOn told uri before after (reverse links) loaded result
-begins_from told uri first inherited before after none links nothing loaded result is_first is_inherited is_none is_nothing opens =
+begins_from told uri first inherited before after none links nothing loaded result is_text is_first is_inherited is_none is_nothing opens =
     let at_uri : OpensFile told uri inherited before after none links nothing loaded result =
     subst (λ u. OpensFile told u inherited before after none links nothing loaded result) is_first opens in
     let at_inherited : OpensFile told uri [] before after none links nothing loaded result =
     subst (λ ns. OpensFile told uri ns before after none links nothing loaded result) is_inherited at_uri in
     let at_links : OpensFile told uri [] before after [] links nothing loaded result =
     subst (λ ls. OpensFile told uri [] before after ls links nothing loaded result) is_none at_inherited in
-    begins told uri before after links loaded result (subst (λ fs. OpensFile told uri [] before after [] links fs loaded result) is_nothing
+    begins told uri before after links loaded result is_text (subst (λ fs. OpensFile told uri [] before after [] links fs loaded result) is_nothing
     at_links)
 
 -- nothing is left where there is nothing

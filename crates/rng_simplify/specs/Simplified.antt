@@ -1,5 +1,5 @@
 -- The grammar that schema files define, and what `simplify` answers.
-use Rattle.std.specs.Prelude.{◌≡◌, ℕ, List, Option, Some, None, Result, Ok, Err}
+use Rattle.std.specs.Prelude.{◌≡◌, ℕ, List, Option, Some, None, Result, Ok, Err, IsUtf8}
 use Rattle.nx_base.specs.declared.cause.Cause.{Cause}
 use Rattle.nx_host.specs.Count.{Rose}
 use Rattle.nx_host.specs.Files.{FileMap}
@@ -34,13 +34,13 @@ IfTold None holds = Unit {0}
 IfTold (Some files) holds = holds files
 
 -- What `simplify` may answer, where the files told this and the count of faults went from `before` to `after`. A grammar is
--- sound whatever the files tell; want of memory is free.
+-- sound, and the texts of a refusal are UTF-8, whatever the files tell; want of memory is free.
 abbrev pub Answers : Option FileMap → List ℕ → ℕ → ℕ → Result Grammar SchemaFault → Type 0
 Answers told uri before after (Ok grammar) =
     IfTold told (λ files. Simplifies files uri (pattern_of grammar.start) (definitions_of grammar)) × IsSound grammar × (after ≡ before)
-Answers told uri before after (Err (Absent absent)) = IfTold told (λ files. IsAbsent files uri absent) × (after ≡ before)
-Answers told uri before after (Err (NotUtf8 wrong at)) = IfTold told (λ files. IsNoText files uri wrong at) × (after ≡ before)
-Answers told uri before after (Err (BadUri text)) = IfTold told (λ files. HasBadUri files uri text) × (after ≡ before)
+Answers told uri before after (Err (Absent absent)) = IsUtf8 absent × IfTold told (λ files. IsAbsent files uri absent) × (after ≡ before)
+Answers told uri before after (Err (NotUtf8 wrong at)) = IsUtf8 wrong × IfTold told (λ files. IsNoText files uri wrong at) × (after ≡ before)
+Answers told uri before after (Err (BadUri text)) = IsUtf8 text × IfTold told (λ files. HasBadUri files uri text) × (after ≡ before)
 Answers told uri before after (Err Failed) = Rose before after
 Answers told uri before after (Err NoMemory) = after ≡ before
 Answers told uri before after (Err (Unreadable why)) = IfTold told (λ files. IsBroken files uri why) × (after ≡ before)

@@ -53,7 +53,8 @@ pub(crate) fn load<F: Files>(
     uri: &str,
     files: &mut F,
 ) -> Result<Vec<Loaded>, SchemaFault>
-    ensures { Loads (F.told files.old) uri.now (F.faults files.old) (F.faults files.new) result }
+    ensures loads { Loads (F.told files.old) uri.now (F.faults files.old) (F.faults files.new) result }
+    ensures map { F.told files.new ≡ F.told files.old }
 {
     let mut loader = Loader {
         alloc,
@@ -197,8 +198,9 @@ impl Loader {
     /// takes memory.
     fn follow<F: Files>(&mut self, files: &mut F) -> Result<(), SchemaFault>
         requires { AreTextLinks (reverse self.old.chain.items) }
-        ensures { (uri : List ℕ) → IsUnderWay (F.told files.old) uri (reverse self.old.chain.items) self.old.loaded.items
+        ensures followed { (uri : List ℕ) → IsUnderWay (F.told files.old) uri (reverse self.old.chain.items) self.old.loaded.items
             → Follows (F.told files.old) uri (F.faults files.old) (F.faults files.new) self.new.loaded.items result }
+        ensures map { F.told files.new ≡ F.told files.old }
     {
         for _turn in 0..u64::MAX {
             let Some(link) = self.chain.pop() else {

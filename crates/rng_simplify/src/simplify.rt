@@ -1,6 +1,6 @@
 //! The grammar that schema files define.
 
-ghost use Rattle.std.specs.Prelude.{ℕ, List};
+ghost use Rattle.std.specs.Prelude.{◌≡◌, ℕ, List};
 ghost use Rattle.rng_simplify.specs.Breaking.{cells_of};
 ghost use Rattle.rng_simplify.specs.CellTexts.{AreTexts};
 ghost use Rattle.rng_simplify.specs.Grammars.{GivesGrammar, IsSorted, HasForms, HasTypes, IsMeasured};
@@ -28,7 +28,8 @@ pub fn simplify<F: Files>(
     uri: &str,
     files: &mut F,
 ) -> Result<Grammar, SchemaFault>
-    ensures { Answers (F.told files.old) uri.now (F.faults files.old) (F.faults files.new) result }
+    ensures answers { Answers (F.told files.old) uri.now (F.faults files.old) (F.faults files.new) result }
+    ensures map { F.told files.new ≡ F.told files.old }
 {
     let whole = whole_schema(alloc, uri, files)?;
     grammar_of(alloc, &whole)

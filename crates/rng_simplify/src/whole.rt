@@ -1,5 +1,6 @@
 //! The schema in one piece, from its files.
 
+ghost use Rattle.std.specs.Prelude.{◌≡◌};
 ghost use Rattle.rng_simplify.specs.Composition.{GivesWhole};
 
 use crate::compose::{Whole, compose};
@@ -14,7 +15,8 @@ pub(crate) fn whole_schema<F: Files>(
     uri: &str,
     files: &mut F,
 ) -> Result<Whole, SchemaFault>
-    ensures { GivesWhole (F.told files.old) uri.now (F.faults files.old) (F.faults files.new) result }
+    ensures gives { GivesWhole (F.told files.old) uri.now (F.faults files.old) (F.faults files.new) result }
+    ensures map { F.told files.new ≡ F.told files.old }
 {
     let loaded = load(alloc, uri, files)?;
     compose(alloc, loaded.as_slice())

@@ -5,8 +5,8 @@ use Rattle.rng_simplify.proofs.Loading.{completed_all}
 use Rattle.rng_simplify.proofs.Turns.{last_first, none_reversed, answers_alike}
 use Rattle.rng_simplify.proofs.load.Loader.follow.Goals as goal
 
-pub returns-in_default : goal.returns-in_default
-returns-in_default g c uri under =
+pub returns-in_default-clause-followed : goal.returns-in_default-clause-followed
+returns-in_default-clause-followed g c uri under =
     let told = g.F.Files.told c.args.files.now in
     let loaded = c.loop-turn.self.loaded.items in (
       completed_all told uri loaded
@@ -16,8 +16,8 @@ returns-in_default g c uri under =
       c.loop-turn.invariant.faults,
     )
 
-pub returns-in_err-go_on : goal.returns-in_err-go_on
-returns-in_err-go_on g c uri under =
+pub returns-in_err-go_on-clause-followed : goal.returns-in_err-go_on-clause-followed
+returns-in_err-go_on-clause-followed g c uri under =
     let f = g.F.Files in
     let loaded = c.loop-turn.self.loaded.items in
     let p = err_from_is_err_and c.from_residual.result c.from_residual.ensures.1 in

@@ -9,7 +9,7 @@ returns-in_err-uri-clause-goes_on g c uri before same taken under =
     let p = err_from_is_err_and c.from_residual.result c.from_residual.ensures.1 in
     rw (p.1, p.2) (leads_nowhere (g.F.Files.told c.args.files.now) uri before c.args.link c.args.mention
     (reverse c.args.self.now.chain.items) c.args.self.now.loaded.items (g.F.Files.faults c.args.files.now) c.in_err-uri.field-0.0 same
-    taken under c.in_err-uri.ensures)
+    taken under c.requires.mention.0 c.in_err-uri.ensures)
 
 pub returns-clause-texts : goal.returns-clause-texts
 returns-clause-texts g c =
