@@ -122,7 +122,7 @@ fn copies_patterns(rt: HostRuntime) -> Result<(), Fail> {
         content: mixed,
     };
     let copied = definition.copy(rt.alloc())?;
-    assert!(rt; matches!(copied.content, Pat::Interleave(_, _)));
+    assert!(rt; matches!(&copied.content, Pat::Interleave(_, _)));
     Ok(())
 }
 
@@ -143,6 +143,6 @@ fn deep(alloc: Global, count: u32) -> Result<Pat, Fail> {
 fn copies_deep_patterns(rt: HostRuntime) -> Result<(), Fail> {
     let pattern = deep(rt.alloc(), 8_000)?;
     let copied = pattern.copy(rt.alloc())?;
-    assert!(rt; matches!(copied, Pat::Choice(_, _)));
+    assert!(rt; matches!(&copied, Pat::Choice(_, _)));
     Ok(())
 }
