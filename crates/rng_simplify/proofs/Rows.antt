@@ -14,6 +14,7 @@ use Rattle.rnc_parse.specs.Views.{pattern_of, patterns_of, patterns_behind, item
 use Rattle.rng_simplify.specs.declared.node.Sign.{Sign}
 use Rattle.rng_simplify.specs.declared.node.Sign.TheVariants as sign
 use Rattle.rng_simplify.specs.Cells as cell
+use Rattle.rng_simplify.specs.Rows.{join_by, none_by}
 use Rattle.rng_simplify.specs.declared.node.Clause.{Clause}
 use Rattle.rng_simplify.specs.Making.{Making, Outcome, made, refused, no_piece, ◌>>=◌, cell_made, make, make_next, make_behind, make_row, none_made, behind}
 
@@ -27,16 +28,6 @@ pub then_nothing : {A : Type 0} → (outcome : Outcome A) → (outcome >>= made)
 then_nothing (made value now) = refl
 then_nothing (refused why) = refl
 then_nothing no_piece = refl
-
-abbrev join_by : Sign → WrittenPattern → WrittenPattern → WrittenPattern
-join_by sign.Choice = written.choice
-join_by sign.Group = written.group
-join_by sign.Interleave = written.interleave
-
-abbrev none_by : Sign → WrittenPattern
-none_by sign.Choice = written.not_allowed
-none_by sign.Group = written.empty
-none_by sign.Interleave = written.empty
 
 joined_made : (ns : List ℕ) (by : Sign) (p q : WrittenPattern) (now : Making) → make ns (join_by by p q) now ≡ (make ns p now >>= λ i then. make ns q then >>= λ j. cell_made (cell.joined by i j))
 joined_made ns sign.Choice p q now = refl

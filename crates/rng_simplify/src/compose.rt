@@ -1,6 +1,7 @@
 //! Files put into one piece (ISO/IEC 19757-2, sections 4.5 to 4.15).
 //!
-//! The files that a file mentions stand before it, the last one that it mentions first. Each file leaves a piece on a stack. Where a file mentions another one, the piece of that one is the next on the stack.
+//! The files that a file mentions stand before it, the last one that it mentions first. Each file leaves a piece on a stack.
+//! Where a file mentions another one, the piece of that one is the next on the stack.
 
 ghost use Rattle.std.specs.Prelude.{◌≡◌, ◌≢◌, [], Some, None, MatchOption, IfOk};
 ghost use Rattle.rnc_parse.specs.Views.{pattern_of, surface_of, item_of, items_in, replacement_of, replacements_in};
