@@ -17,7 +17,7 @@ use Rattle.rnc_parse.specs.declared.surface.Namespace.{Namespace}
 use Rattle.rnc_parse.specs.declared.surface.Namespace.TheVariants.{Inherited, Uri}
 use Rattle.std.specs.Str.{bytes_eq}
 use Rattle.std.specs.Prelude.{codes}
-use Rattle.rnc_parse.specs.Scopes.{Scope, IsUndeclared, IsDeclaredTwice, Use, of_names, of_types, prefix_of, xml_uri, xsd_uri, or_else}
+use Rattle.rnc_parse.specs.Scopes.{Scope, IsDeclaredTwice, Use, of_names, of_types, prefix_of, xml_uri, xsd_uri, or_else}
 use Rattle.rnc_parse.specs.Written.{WrittenSurface}
 use Rattle.rnc_parse.specs.Views.{surface_of}
 use Rattle.rnc_parse.specs.Files.{lexemes, IsNoFile, IsShallow}

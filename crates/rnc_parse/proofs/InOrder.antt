@@ -1,5 +1,5 @@
 -- Declarations are in order, or a prefix is declared twice.
-use Rattle.std.proofs.Common.{◌≡◌, ◌≢◌, ℕ, zero, suc, ◌<◌, ◌⊎◌, inl, inr, bytes_eq, Bool, true, false, not, List, [], ◌∷◌, slice_get, Option, Some, None, codes, refl, sym, ap, ◌∙◌, arith}
+use Rattle.std.proofs.Common.{◌≡◌, ◌≢◌, ℕ, zero, suc, ◌<◌, ◌⊎◌, inl, inr, bytes_eq, Bool, true, false, not, List, [], ◌∷◌, slice_get, Some, None, codes, refl, sym, ap, ◌∙◌, arith}
 use Rattle.std.proofs.lemmas.Bool.{cases_Bool}
 use Rattle.std.specs.Cmp.Lexicographic.{bytes_decides}
 use Rattle.rnc_parse.specs.declared.declaration.Declaration.{Declaration}

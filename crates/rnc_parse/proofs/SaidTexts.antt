@@ -14,9 +14,8 @@ use Rattle.rnc_lex.specs.Laws.{HasUtf8Texts as LexemeIsText, HaveUtf8Texts}
 use Rattle.rnc_parse.specs.declared.declaration.Declaration.{Declaration}
 use Rattle.rnc_parse.specs.declared.declaration.Declaration.TheVariants as declaration
 use Rattle.rnc_parse.specs.declared.read.ReadFault.{ReadFault}
-use Rattle.rnc_parse.specs.declared.read.ReadFault.TheVariants as fault
 use Rattle.rnc_parse.specs.declared.surface.Namespace.{Namespace}
-use Rattle.rnc_parse.specs.declared.surface.Namespace.TheVariants.{Inherited, Uri}
+use Rattle.rnc_parse.specs.declared.surface.Namespace.TheVariants.{Uri}
 use Rattle.rnc_parse.specs.declared.surface.TypeName.{TypeName}
 use Rattle.rnc_parse.specs.declared.surface.Param.{Param}
 use Rattle.rnc_parse.specs.declared.surface.FileReference.{FileReference}
@@ -28,7 +27,7 @@ use Rattle.rnc_parse.specs.Views.{surface_of}
 use Rattle.rnc_parse.specs.Scopes.{Scope, scope_of, declared_namespace, declared_default, declared_library, xml_uri, xsd_uri, or_else}
 use Rattle.rnc_parse.specs.Annotations.{AreBalanced, none_left, one_plain, in_brackets, IsGroup, bracketed, MayBegin, without_group, with_group, Follow, no_more, one_more}
 use Rattle.rnc_parse.specs.Classes.{IsAnyId, an_identifier, a_keyword, IsWildcard, all_of_namespace, all_names, IsClass, one_class, several_classes, except_class, AreMoreClasses, last_class, next_class, IsAnnotatedClass, annotated_class, IsOneClass, unprefixed_name, prefixed_name, wildcard, parenthesized_class}
-use Rattle.rnc_parse.specs.Parts.{IsLiteral, one_literal, joined_literals, built_in, IsType, library_type, string_type, token_type, AreParams, no_param, param, MayHaveParams, without_params, with_params, IsReference, default_handed_on, prefix_handed_on}
+use Rattle.rnc_parse.specs.Parts.{IsLiteral, one_literal, joined_literals, IsType, library_type, string_type, token_type, AreParams, no_param, param, MayHaveParams, without_params, with_params, IsReference, default_handed_on, prefix_handed_on}
 use Rattle.rnc_parse.specs.Grammar.{Joins, by_comma, by_bar, by_ampersand, Repeats, by_question_mark, by_star, by_plus, IsDefined, start_defined, name_defined, IsPattern, one_particle, several_particles, type_but, AreMoreParticles, last_particle, next_particle, IsParticle, once, repeated, IsAnnotated, annotated, IsPrimary, an_element, an_attribute, a_list, a_mixed, a_reference, a_parent_reference, is_empty, is_text, is_not_allowed, untyped_value, typed_value, a_type, an_external, a_grammar_of, parenthesized, AreItems, no_more_items, next_item, item_annotation, IsItem, a_definition, a_div, an_include, an_include_but, AreReplacements, no_more_replacements, next_replacement, replacement_annotation, IsReplacement, a_definition_anew, a_div_anew}
 use Rattle.rnc_parse.specs.Files.{lexemes, IsNamespace, of_uri, inherited, IsDeclaration, a_namespace_prefix, a_default, a_default_prefix, a_library_prefix, AreDeclarations, no_declaration, next_declaration, IsBody, pattern_body, grammar_body, Says}
 use Rattle.rnc_parse.specs.AnsweringParts.{AnswersTokens}

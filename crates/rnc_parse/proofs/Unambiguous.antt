@@ -51,9 +51,9 @@ files_one_thing scope tokens some others one other a b =
     let said : IsBody scope a.body other = subst (λ (t : List Lexeme). IsBody scope t other) bodies b.said in (
       same,
       one_thing (body_at scope (length a.body) a.body)
-      (body_agrees scope scope (length a.body) (all_counts a.body) a.said)
-      (body_agrees scope scope (length a.body) (all_counts a.body) said)
-      (sound_body (length a.body) a.body),
+          (body_agrees scope scope (length a.body) (all_counts a.body) a.said)
+          (body_agrees scope scope (length a.body) (all_counts a.body) said)
+          (sound_body (length a.body) a.body),
     )
 
 -- tokens say one thing at most
@@ -63,7 +63,7 @@ says_one_thing tokens one other a b =
     let are = file_declarations b.file in
     let same : b.declarations ≡ a.declarations = cc in
     let said : IsFile (scope_of a.declarations) tokens b.declarations other =
-        subst (λ (ds : List Declaration). IsFile (scope_of ds) tokens b.declarations other) same b.file in
+    subst (λ (ds : List Declaration). IsFile (scope_of ds) tokens b.declarations other) same b.file in
     (files_one_thing (scope_of a.declarations) tokens a.declarations b.declarations one other a.file said).1
 
 -- tokens that say something are refused for no cause

@@ -1,5 +1,5 @@
 -- Laws of whole texts: what they say, and why they say nothing.
-use Rattle.std.proofs.Common.{◌≡◌, ◌≢◌, ℕ, ◌<◌, ◌≤◌, ◌⊎◌, inl, inr, List, [], ◌∷◌, ◌++◌, map, Option, Some, None, Result, Ok, Err, refl, sym, ap, subst, ◌∙◌, arith, append_assoc}
+use Rattle.std.proofs.Common.{◌≡◌, ◌≢◌, ℕ, ◌≤◌, ◌⊎◌, inl, inr, List, [], ◌∷◌, ◌++◌, Option, Some, None, Result, Ok, Err, refl, sym, ap, subst, ◌∙◌, arith, append_assoc}
 use Rattle.std.proofs.lemmas.Bool.{cases_lt}
 use Rattle.std.proofs.lemmas.List.{map-append}
 use Rattle.nx_base.specs.declared.cause.Cause.{Cause}
@@ -18,7 +18,7 @@ use Rattle.rnc_parse.specs.Files.{lexemes, open_behind, Says, IsNoFile, IsSomeFi
 use Rattle.rnc_parse.specs.Reads.{Reads, Refuses}
 use Rattle.rnc_parse.specs.Reading.{Reading, read, no_reading, no_prefix}
 use Rattle.rnc_parse.specs.ReadingFiles.{declarations_at, body_at}
-use Rattle.rnc_parse.specs.AnsweringParts.{every_prefix, IsBehindDeclarations}
+use Rattle.rnc_parse.specs.AnsweringParts.{every_prefix}
 use Rattle.rnc_parse.specs.Laws.{TextsAreReadAsOne, WhatIsReadIsNotRefused, TextsAreRefusedForOneCause, TextsAreReadOrRefused}
 use Rattle.rnc_parse.proofs.Saying.{says, no_declarations, no_body, needs, is_twice, none_missed, declarations_miss_none}
 use Rattle.rnc_parse.proofs.Unambiguous.{says_one_thing, says_no_refusal}

@@ -1,5 +1,5 @@
 -- The texts of a schema file, all of which are UTF-8.
-use Rattle.std.specs.Prelude.{ℕ, List}
+use Rattle.std.specs.Prelude.{List}
 use Rattle.std.specs.List.{AllByRecursion}
 use Rattle.std.specs.Str.{IsUtf8}
 use Rattle.rnc_parse.specs.declared.surface.Namespace.{Namespace}

@@ -20,11 +20,13 @@ use Rattle.rng_simplify.specs.References.{mentions, mentions_of_item, mentions_a
 use Rattle.rng_simplify.specs.Rows.{join_by, none_by, row_of}
 use Rattle.rng_simplify.proofs.Rows.{row_in}
 
-behind_is : (join : WrittenPattern → WrittenPattern → WrittenPattern) (n : _) (before : WrittenPattern) (row : pattern.Row_of-Pattern n) → patterns_behind join before row ≡ joined join before (map pattern_of (pattern.items-the_row-Pattern n row))
+behind_is : (join : WrittenPattern → WrittenPattern → WrittenPattern) (n : _) (before : WrittenPattern) (row : pattern.Row_of-Pattern n) →
+    patterns_behind join before row ≡ joined join before (map pattern_of (pattern.items-the_row-Pattern n row))
 behind_is join n before pattern.end_of-Pattern = refl
 behind_is join n before (pattern.more_of-Pattern next row) = behind_is join _ (join before (pattern_of next)) row
 
-row_is : (join : WrittenPattern → WrittenPattern → WrittenPattern) (none : WrittenPattern) (n : _) (row : pattern.Row_of-Pattern n) → patterns_of join none row ≡ joined_or join none (map pattern_of (pattern.items-the_row-Pattern n row))
+row_is : (join : WrittenPattern → WrittenPattern → WrittenPattern) (none : WrittenPattern) (n : _) (row : pattern.Row_of-Pattern n) →
+    patterns_of join none row ≡ joined_or join none (map pattern_of (pattern.items-the_row-Pattern n row))
 row_is join none n pattern.end_of-Pattern = refl
 row_is join none n (pattern.more_of-Pattern first row) = behind_is join _ (pattern_of first) row
 
@@ -51,7 +53,8 @@ join_is_none sign.Choice p q = refl
 join_is_none sign.Group p q = refl
 join_is_none sign.Interleave p q = refl
 
-joined_is_none : (by : Sign) (first : WrittenPattern) (more : List WrittenPattern) → grammar_items (a_pattern first) ≡ None → grammar_items (a_pattern (joined (join_by by) first more)) ≡ None
+joined_is_none : (by : Sign) (first : WrittenPattern) (more : List WrittenPattern) → grammar_items (a_pattern first) ≡ None →
+    grammar_items (a_pattern (joined (join_by by) first more)) ≡ None
 joined_is_none by first [] h = h
 joined_is_none by first (next ∷ more) h = joined_is_none by (join_by by first next) more (join_is_none by first next)
 
@@ -66,19 +69,23 @@ nothing_is_none by [] none = none_is_none by
 nothing_is_none by (first ∷ more) none = absurd (omega (arith, none))
 
 -- nor are two or more
-pub row_is_none : (by : Sign) (first : Pattern) (others patterns : List Pattern) → patterns ≡ first ∷ others → length others ≢ 0 → grammar_items (a_pattern (row_of by patterns)) ≡ None
+pub row_is_none : (by : Sign) (first : Pattern) (others patterns : List Pattern) → patterns ≡ first ∷ others → length others ≢ 0 →
+    grammar_items (a_pattern (row_of by patterns)) ≡ None
 row_is_none by first [] patterns all other = absurd (other refl)
 row_is_none by first (next ∷ more) patterns all other =
     ap (λ ps. grammar_items (a_pattern (row_of by ps))) all
-    ∙ joined_is_none by (join_by by (pattern_of first) (pattern_of next)) (map pattern_of more) (join_is_none by (pattern_of first) (pattern_of next))
+    ∙ joined_is_none by (join_by by (pattern_of first) (pattern_of next)) (map pattern_of more)
+    (join_is_none by (pattern_of first) (pattern_of next))
 
 -- a file of a pattern that is no grammar alone
-pub lone_is : (ns : List ℕ) (p : WrittenPattern) (now : Making) → grammar_items (a_pattern p) ≡ None → make_file ns (a_pattern p) now ≡ lone_made ns p now
+pub lone_is : (ns : List ℕ) (p : WrittenPattern) (now : Making) → grammar_items (a_pattern p) ≡ None →
+    make_file ns (a_pattern p) now ≡ lone_made ns p now
 lone_is ns (written.grammar items) now h = let never : ⊥ = cc in absurd never
 lone_is ns p now h = refl
 
 -- and of one that is
-pub grammar_is : (ns : List ℕ) (p : WrittenPattern) (items : WrittenItems) (now : Making) → grammar_items (a_pattern p) ≡ Some items → make_file ns (a_pattern p) now ≡ make_file ns (a_grammar items) now
+pub grammar_is : (ns : List ℕ) (p : WrittenPattern) (items : WrittenItems) (now : Making) → grammar_items (a_pattern p) ≡ Some items →
+    make_file ns (a_pattern p) now ≡ make_file ns (a_grammar items) now
 grammar_is ns (written.grammar its) items now h = ap (λ x. make_file ns (a_grammar x) now) (let same : its ≡ items = cc in same)
 grammar_is ns p items now h = let never : ⊥ = cc in absurd never
 
@@ -89,7 +96,8 @@ join_mentions sign.Choice p q = refl
 join_mentions sign.Group p q = refl
 join_mentions sign.Interleave p q = refl
 
-joined_mentions : (by : Sign) (first : WrittenPattern) (more : List Pattern) → mentions (joined (join_by by) first (map pattern_of more)) ≡ mentions first ++ mentions_of_each more
+joined_mentions : (by : Sign) (first : WrittenPattern) (more : List Pattern) →
+    mentions (joined (join_by by) first (map pattern_of more)) ≡ mentions first ++ mentions_of_each more
 joined_mentions by first [] = sym (append-nil (mentions first))
 joined_mentions by first (next ∷ more) =
     joined_mentions by (join_by by first (pattern_of next)) more
@@ -107,7 +115,13 @@ row_mentions by [] = none_mentions by
 row_mentions by (first ∷ more) = joined_mentions by (pattern_of first) more
 
 -- what is found of an include, and behind that of what is in its braces
-pub reference_then : (ns : List ℕ) (reference : FileReference) (replacements : WrittenReplacements) (old mid new : List Kept) (result : Result (Unit {0}) NoMemory) → mid ≡ old ++ record { text = reference.uri; inherited = namespace_in ns reference.namespace } ∷ [] → IfOk result (λ _. new ≡ mid ++ kept_of_all ns (mentions_anew replacements)) → IfOk result (λ _. new ≡ old ++ kept_of_all ns (mentions_of_item (written.include reference replacements)))
+pub reference_then : (ns : List ℕ) (reference : FileReference) (replacements : WrittenReplacements) (old mid new : List Kept)
+    (result : Result (Unit {0}) NoMemory) →
+    mid ≡ old ++ record { text = reference.uri; inherited = namespace_in ns reference.namespace } ∷ [] →
+    IfOk result (λ _. new ≡ mid ++ kept_of_all ns (mentions_anew replacements)) →
+    IfOk result (λ _. new ≡ old ++ kept_of_all ns (mentions_of_item (written.include reference replacements)))
 reference_then ns reference replacements old mid new (Ok done) first second =
-    second ∙ ap (λ xs. xs ++ kept_of_all ns (mentions_anew replacements)) first ∙ append_assoc old (record { text = reference.uri; inherited = namespace_in ns reference.namespace } ∷ []) (kept_of_all ns (mentions_anew replacements))
+    second ∙ ap (λ xs. xs ++ kept_of_all ns (mentions_anew replacements)) first
+    ∙ append_assoc old (record { text = reference.uri; inherited = namespace_in ns reference.namespace } ∷ [])
+    (kept_of_all ns (mentions_anew replacements))
 reference_then ns reference _ old mid new (Err fault) first second = tt

@@ -44,7 +44,8 @@ self_counted i = at (bit i i)
 -- what is in a list is counted
 pub counted : (xs : List ℕ) (j : ℕ) → Contains xs j → 1 ≤ count j xs
 counted [] j among = absurd (omega (arith, among.1))
-counted (x ∷ xs) j (zero, below, is) = let same : one_if (eqb j x) ≡ 1 = subst (λ y. one_if (eqb j y) ≡ 1) (sym is) (self_counted j) in omega arith
+counted (x ∷ xs) j (zero, below, is) =
+    let same : one_if (eqb j x) ≡ 1 = subst (λ y. one_if (eqb j y) ≡ 1) (sym is) (self_counted j) in omega arith
 counted (x ∷ xs) j (suc k, below, is) = let more : 1 ≤ count j xs = counted xs j (k, omega (arith, below), is) in omega arith
 
 -- ---- nodes in one place
@@ -63,15 +64,23 @@ pub record Owns (now : Making) (extra : List ℕ) : Type 0 where
   pub below : (i : ℕ) → length now.cells ≤ i → uses i now extra ≡ 0
 
 -- what is held is less, or has come from pieces
-pub held_else : (old new : Making) (xs ys : List ℕ) → new.cells ≡ old.cells → ((i : ℕ) → count i (flat_map piece_nodes new.pieces) + count i ys ≤ count i (flat_map piece_nodes old.pieces) + count i xs) → Owns old xs → Owns new ys
+pub held_else : (old new : Making) (xs ys : List ℕ) → new.cells ≡ old.cells →
+    ((i : ℕ) → count i (flat_map piece_nodes new.pieces) + count i ys ≤ count i (flat_map piece_nodes old.pieces) + count i xs) →
+    Owns old xs → Owns new ys
 held_else old new xs ys same less owns = record {
   parts = λ k j c at among. owns.parts k j c (subst (λ cells. IsCell cells k c) same at) among;
-  once = λ i. let e : count i (flat_map inner_nodes new.cells) ≡ count i (flat_map inner_nodes old.cells) = ap (λ cells. count i (flat_map inner_nodes cells)) same in omega (arith, owns.once i, less i);
-  below = λ i h. let e : count i (flat_map inner_nodes new.cells) ≡ count i (flat_map inner_nodes old.cells) = ap (λ cells. count i (flat_map inner_nodes cells)) same in let n : length new.cells ≡ length old.cells = ap (λ (cells : List Cell). length cells) same in omega (arith, owns.below i (omega arith), less i);
+  once =
+      λ i. let e : count i (flat_map inner_nodes new.cells) ≡ count i (flat_map inner_nodes old.cells) = ap
+      (λ cells. count i (flat_map inner_nodes cells)) same in omega (arith, owns.once i, less i);
+  below =
+      λ i h. let e : count i (flat_map inner_nodes new.cells) ≡ count i (flat_map inner_nodes old.cells) = ap
+      (λ cells. count i (flat_map inner_nodes cells)) same in let n : length new.cells ≡ length old.cells = ap
+      (λ (cells : List Cell). length cells) same in omega (arith, owns.below i (omega arith), less i);
 }
 
 -- a cell is the last one or one before it
-pub old_or_last : (cells : List Cell) (c : Cell) (k : ℕ) (d : Cell) → IsCell (cells ++ c ∷ []) k d → IsCell cells k d ⊎ ((k ≡ length cells) × (c ≡ d))
+pub old_or_last : (cells : List Cell) (c : Cell) (k : ℕ) (d : Cell) → IsCell (cells ++ c ∷ []) k d →
+    IsCell cells k d ⊎ ((k ≡ length cells) × (c ≡ d))
 old_or_last [] c zero d at = inr (refl, let e : c ≡ d = cc in e)
 old_or_last [] c (suc k) d at = let never : ⊥ = cc in absurd never
 old_or_last (x ∷ cells) c zero d at = inl at
@@ -89,7 +98,8 @@ pub le_or_gt : (a b : ℕ) → (a ≤ b) ⊎ (b < a)
 le_or_gt a b = grind arith
 
 -- a further cell takes what is held for its nodes
-pub cell_owns : (c : Cell) (now : Making) (extra : List ℕ) → Owns now (inner_nodes c ++ extra) → Owns (record { cells = now.cells ++ c ∷ []; pieces = now.pieces }) (length now.cells ∷ extra)
+pub cell_owns : (c : Cell) (now : Making) (extra : List ℕ) → Owns now (inner_nodes c ++ extra) →
+    Owns (record { cells = now.cells ++ c ∷ []; pieces = now.pieces }) (length now.cells ∷ extra)
 cell_owns c now extra owns = record {
   parts = λ k j d at among. part k j d among (old_or_last now.cells c k d at);
   once = λ i. once_at i (bit i (length now.cells));
@@ -107,16 +117,28 @@ cell_owns c now extra owns = record {
         at_last (inl beyond) = absurd (omega (arith, owns.below j beyond, count-append j (inner_nodes c) extra, some))
         at_last (inr below) = omega (arith, h.0)
 
-    in_cells : (i : ℕ) → count i (flat_map inner_nodes (now.cells ++ c ∷ [])) ≡ count i (flat_map inner_nodes now.cells) + count i (inner_nodes c)
+    in_cells : (i : ℕ) → count i (flat_map inner_nodes (now.cells ++ c ∷ [])) ≡ count i (flat_map inner_nodes now.cells) + count i
+        (inner_nodes c)
     in_cells i =
         ap (count i) (flat_map-append inner_nodes now.cells (c ∷ []))
         ∙ count-append i (flat_map inner_nodes now.cells) (inner_nodes c ++ [])
         ∙ (let more : count i (inner_nodes c ++ []) ≡ count i (inner_nodes c) + 0 = count-append i (inner_nodes c) [] in omega arith)
 
-    once_at : (i : ℕ) → (one_if (eqb i (length now.cells)) ≡ 0) ⊎ ((one_if (eqb i (length now.cells)) ≡ 1) × (i ≡ length now.cells)) → uses i (record { cells = now.cells ++ c ∷ []; pieces = now.pieces }) (length now.cells ∷ extra) ≤ 1
+    once_at : (i : ℕ) → (one_if (eqb i (length now.cells)) ≡ 0) ⊎ ((one_if (eqb i (length now.cells)) ≡ 1) × (i ≡ length now.cells)) →
+        uses i (record { cells = now.cells ++ c ∷ []; pieces = now.pieces }) (length now.cells ∷ extra) ≤ 1
     once_at i (inl e) = omega (arith, e, in_cells i, count-append i (inner_nodes c) extra, owns.once i)
     once_at i (inr h) = omega (arith, h.0, in_cells i, count-append i (inner_nodes c) extra, owns.below i (omega (arith, h.1)))
 
-    below_at : (i : ℕ) → length (now.cells ++ c ∷ []) ≤ i → (one_if (eqb i (length now.cells)) ≡ 0) ⊎ ((one_if (eqb i (length now.cells)) ≡ 1) × (i ≡ length now.cells)) → uses i (record { cells = now.cells ++ c ∷ []; pieces = now.pieces }) (length now.cells ∷ extra) ≡ 0
-    below_at i h (inl e) = omega (arith, e, in_cells i, count-append i (inner_nodes c) extra, one_longer now.cells c, owns.below i (omega (arith, h, one_longer now.cells c)))
+    below_at : (i : ℕ) → length (now.cells ++ c ∷ []) ≤ i →
+        (one_if (eqb i (length now.cells)) ≡ 0) ⊎ ((one_if (eqb i (length now.cells)) ≡ 1) × (i ≡ length now.cells)) →
+        uses i (record { cells = now.cells ++ c ∷ []; pieces = now.pieces }) (length now.cells ∷ extra) ≡ 0
+    below_at i h (inl e) =
+        omega (
+          arith,
+          e,
+          in_cells i,
+          count-append i (inner_nodes c) extra,
+          one_longer now.cells c,
+          owns.below i (omega (arith, h, one_longer now.cells c)),
+        )
     below_at i h (inr e) = absurd (omega (arith, h, e.1, one_longer now.cells c))

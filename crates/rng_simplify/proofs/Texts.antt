@@ -10,7 +10,8 @@ use Rattle.rnc_parse.specs.Written as written
 use Rattle.rng_simplify.specs.Mentioning.{kept_of_all, AreTextMentions}
 use Rattle.rng_simplify.specs.References.{Mention, mentions, mentions_of, mentions_of_item, mentions_of_items, mentions_of_replacement, mentions_anew}
 
-both_texts : (ns : List ℕ) (xs ys : List Mention) → AreTextMentions (kept_of_all ns xs) → AreTextMentions (kept_of_all ns ys) → AreTextMentions (kept_of_all ns (xs ++ ys))
+both_texts : (ns : List ℕ) (xs ys : List Mention) → AreTextMentions (kept_of_all ns xs) → AreTextMentions (kept_of_all ns ys) →
+    AreTextMentions (kept_of_all ns (xs ++ ys))
 both_texts ns [] ys first second = second
 both_texts ns (x ∷ xs) ys first second = (first.0, both_texts ns xs ys first.1 second)
 
@@ -49,15 +50,20 @@ module _ (ns : List ℕ) (is_text : IsUtf8 ns) where
 
     items_texts : (items : WrittenItems) → ItemsAreText items → AreTextMentions (kept_of_all ns (mentions_of_items items))
     items_texts written.no_items h = tt
-    items_texts (written.item_then item items) h = both_texts ns (mentions_of_item item) (mentions_of_items items) (item_texts item h.0) (items_texts items h.1)
+    items_texts (written.item_then item items) h =
+        both_texts ns (mentions_of_item item) (mentions_of_items items) (item_texts item h.0) (items_texts items h.1)
 
-    replacement_texts : (replacement : WrittenReplacement) → ReplacementIsText replacement → AreTextMentions (kept_of_all ns (mentions_of_replacement replacement))
+    replacement_texts : (replacement : WrittenReplacement) → ReplacementIsText replacement →
+        AreTextMentions (kept_of_all ns (mentions_of_replacement replacement))
     replacement_texts (written.define_anew name combine p) h = pattern_texts p h.1
     replacement_texts (written.div_anew replacements) h = anew_texts replacements h
 
-    anew_texts : (replacements : WrittenReplacements) → ReplacementsAreText replacements → AreTextMentions (kept_of_all ns (mentions_anew replacements))
+    anew_texts : (replacements : WrittenReplacements) → ReplacementsAreText replacements →
+        AreTextMentions (kept_of_all ns (mentions_anew replacements))
     anew_texts written.no_replacements h = tt
-    anew_texts (written.replacement_then replacement replacements) h = both_texts ns (mentions_of_replacement replacement) (mentions_anew replacements) (replacement_texts replacement h.0) (anew_texts replacements h.1)
+    anew_texts (written.replacement_then replacement replacements) h =
+        both_texts ns (mentions_of_replacement replacement) (mentions_anew replacements) (replacement_texts replacement h.0)
+        (anew_texts replacements h.1)
 
   pub surface_texts : (surface : WrittenSurface) → HasUtf8Texts surface → AreTextMentions (kept_of_all ns (mentions_of surface))
   surface_texts (a_pattern p) h = pattern_texts p h

@@ -18,19 +18,25 @@ use Rattle.rng_simplify.specs.Standing.{AreWellFormed}
 
 -- each file that is mentioned has its piece
 abbrev pub NoPieceIsMissing : Type 0
-NoPieceIsMissing = (told : Option FileMap) (uri : List ℕ) (loaded : List Loaded) → AllLoaded told uri (reverse loaded) → whole_made loaded ≢ no_piece
+NoPieceIsMissing =
+    (told : Option FileMap) (uri : List ℕ) (loaded : List Loaded) → AllLoaded told uri (reverse loaded) → whole_made loaded ≢ no_piece
 
 -- no node that is made stands in two
 abbrev pub MadeIsWellFormed : Type 0
-MadeIsWellFormed = (told : Option FileMap) (uri : List ℕ) (loaded : List Loaded) → AllLoaded told uri (reverse loaded) → (root : ℕ) (left : Making) → whole_made loaded ≡ made root left → AreWellFormed left.cells root
+MadeIsWellFormed =
+    (told : Option FileMap) (uri : List ℕ) (loaded : List Loaded) → AllLoaded told uri (reverse loaded) → (root : ℕ) (left : Making) →
+    whole_made loaded ≡ made root left → AreWellFormed left.cells root
 
 -- what is written in them is UTF-8
 abbrev pub MadeIsText : Type 0
-MadeIsText = (told : Option FileMap) (uri : List ℕ) (loaded : List Loaded) → AllLoaded told uri (reverse loaded) → (root : ℕ) (left : Making) → whole_made loaded ≡ made root left → AreTexts left.cells
+MadeIsText =
+    (told : Option FileMap) (uri : List ℕ) (loaded : List Loaded) → AllLoaded told uri (reverse loaded) → (root : ℕ) (left : Making) →
+    whole_made loaded ≡ made root left → AreTexts left.cells
 
 -- and well-formed nodes stand for something
 abbrev pub WellFormedDenotes : Type 0
-WellFormedDenotes = (cells : List Cell) (root : ℕ) → AreWellFormed cells root → (number : ℕ → ℕ) → (whole : Composed) × Denotes cells number root whole
+WellFormedDenotes =
+    (cells : List Cell) (root : ℕ) → AreWellFormed cells root → (number : ℕ → ℕ) → (whole : Composed) × Denotes cells number root whole
 
 -- which is the schema in one piece, whatever numbers its elements have
 pub record IsOnePiece (files : FileMap) (uri : List ℕ) (number : ℕ → ℕ) (cells : List Cell) (root : ℕ) : Type 0 where
@@ -39,11 +45,15 @@ pub record IsOnePiece (files : FileMap) (uri : List ℕ) (number : ℕ → ℕ) 
   pub denotes : Denotes cells number root whole
 
 abbrev pub MadeIsComposed : Type 0
-MadeIsComposed = (files : FileMap) (uri : List ℕ) (loaded : List Loaded) → AllLoaded (Some files) uri (reverse loaded) → (root : ℕ) (left : Making) → whole_made loaded ≡ made root left → (number : ℕ → ℕ) → IsOnePiece files uri number left.cells root
+MadeIsComposed =
+    (files : FileMap) (uri : List ℕ) (loaded : List Loaded) → AllLoaded (Some files) uri (reverse loaded) → (root : ℕ) (left : Making) →
+    whole_made loaded ≡ made root left → (number : ℕ → ℕ) → IsOnePiece files uri number left.cells root
 
 -- files that are refused make no piece
 abbrev pub RefusedIsBroken : Type 0
-RefusedIsBroken = (files : FileMap) (uri : List ℕ) (loaded : List Loaded) → AllLoaded (Some files) uri (reverse loaded) → (why : Cause) → whole_made loaded ≡ refused why → IsBroken files uri why
+RefusedIsBroken =
+    (files : FileMap) (uri : List ℕ) (loaded : List Loaded) → AllLoaded (Some files) uri (reverse loaded) → (why : Cause) →
+    whole_made loaded ≡ refused why → IsBroken files uri why
 
 -- the nodes of a schema in one piece, as cells
 abbrev pub cells_of : Whole → List Cell

@@ -24,7 +24,8 @@ abbrev pub uris_of : List Link → List (List ℕ)
 uris_of links = map (λ (link : Link). link.uri) links
 
 -- a link of the chain is a file in this context, which mentions these and no more that aren't read yet
-pub record IsLink (told : Option FileMap) (uri : List ℕ) (context : Context) (more : List Mention) (link : Link) (outer : List Link) : Type 0 where
+pub record IsLink (told : Option FileMap) (uri : List ℕ) (context : Context) (more : List Mention) (link : Link) (outer : List Link) : Type
+    0 where
   pub uri_is : link.uri ≡ context.uri
   pub chain_is : context.chain ≡ uris_of (link ∷ outer)
   pub waiting_are : reverse link.waiting.items ≡ kept_of_all context.inherited more
@@ -33,7 +34,9 @@ pub record IsLink (told : Option FileMap) (uri : List ℕ) (context : Context) (
 -- the chain, the innermost link first, and all that waits in its files
 pub data IsChain (told : Option FileMap) (uri : List ℕ) : List Link → List Waiting → Type 0 where
   no_link : IsChain told uri [] []
-  further_link : {link : Link} {links : List Link} {outer all : List Waiting} (context : Context) (more : List Mention) → IsLink told uri context more link links → IsChain told uri links outer → all ≡ waiting_in context more ++ outer → IsChain told uri (link ∷ links) all
+  further_link : {link : Link} {links : List Link} {outer all : List Waiting} (context : Context) (more : List Mention) →
+      IsLink told uri context more link links → IsChain told uri links outer → all ≡ waiting_in context more ++ outer →
+      IsChain told uri (link ∷ links) all
 
 -- files are loaded but for what waits in the chain
 pub record IsUnderWay (told : Option FileMap) (uri : List ℕ) (links : List Link) (loaded : List Loaded) : Type 0 where
@@ -49,18 +52,21 @@ abbrev pub AreTextLinks : List Link → Type 0
 AreTextLinks links = AllByRecursion IsTextLink links
 
 -- a file that was read is put on the chain, and behind those that are loaded
-pub record IsAdded (uri inherited : List ℕ) (surface : Surface) (old_links new_links : List Link) (old_loaded new_loaded : List Loaded) : Type 0 where
+pub record IsAdded (uri inherited : List ℕ) (surface : Surface) (old_links new_links : List Link)
+    (old_loaded new_loaded : List Loaded) : Type 0 where
   pub waiting : Vec Kept Global
   pub waiting_are : reverse waiting.items ≡ kept_of_all inherited (mentions_of (surface_of surface))
   pub links_are : reverse new_links ≡ record { uri = uri; waiting = waiting } ∷ reverse old_links
   pub loaded_are : new_loaded ≡ old_loaded ++ record { inherited = inherited; surface = surface } ∷ []
 
 -- reading the file of a URI, and adding it
-abbrev pub OpensFile : {A : Type 0} → Option FileMap → List ℕ → List ℕ → ℕ → ℕ → List Link → List Link → List Loaded → List Loaded → Result A SchemaFault → Type 0
+abbrev pub OpensFile : {A : Type 0} → Option FileMap → List ℕ → List ℕ → ℕ → ℕ → List Link → List Link → List Loaded → List Loaded →
+    Result A SchemaFault → Type 0
 OpensFile told uri inherited before after old_links new_links old_loaded new_loaded (Ok done) =
     (surface : Surface) × IfTold told (λ files. Says files uri (surface_of surface)) × HasUtf8Texts (surface_of surface)
     × IsAdded uri inherited surface old_links new_links old_loaded new_loaded × (after ≡ before)
-OpensFile told uri inherited before after old_links new_links old_loaded new_loaded (Err fault) = ReadsFile told uri before after (Err fault)
+OpensFile told uri inherited before after old_links new_links old_loaded new_loaded (Err fault) =
+    ReadsFile told uri before after (Err fault)
 
 -- ---- the URI of the next file
 

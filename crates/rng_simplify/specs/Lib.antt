@@ -22,3 +22,12 @@ pub mod Following
 pub mod Standing
 pub mod CellTexts
 pub mod Composition
+pub mod Resolving
+pub mod Scoping
+pub mod Breaking
+pub mod Walking
+pub mod Judging
+pub mod Shown
+pub mod Forming
+pub mod Limiting
+pub mod Typing

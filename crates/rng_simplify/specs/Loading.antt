@@ -43,7 +43,9 @@ pub record IsRead (told : Option FileMap) (waiting : Waiting) (inner : Context) 
 -- files for all that waits, in order, each with those that it mentions behind it
 pub data AreRead (told : Option FileMap) : List Waiting → List Loaded → Type 0 where
   all_read : AreRead told [] []
-  one_read : {waiting : Waiting} {more : List Waiting} {file : Loaded} {files : List Loaded} (inner : Context) → IsRead told waiting inner file → AreRead told (waiting_in inner (mentions_of (surface_of file.surface)) ++ more) files → AreRead told (waiting ∷ more) (file ∷ files)
+  one_read : {waiting : Waiting} {more : List Waiting} {file : Loaded} {files : List Loaded} (inner : Context) →
+      IsRead told waiting inner file → AreRead told (waiting_in inner (mentions_of (surface_of file.surface)) ++ more) files →
+      AreRead told (waiting ∷ more) (file ∷ files)
 
 -- the file of this URI, and all that it leads to
 pub record AreLoaded (told : Option FileMap) (uri : List ℕ) (first : Loaded) (others : List Loaded) : Type 0 where
@@ -131,10 +133,13 @@ Fetches told uri before after (Err other) = ⊥
 
 -- what the file of a URI says
 abbrev pub ReadsFile : Option FileMap → List ℕ → ℕ → ℕ → Result Surface SchemaFault → Type 0
-ReadsFile told uri before after (Ok surface) = IfTold told (λ files. Says files uri (surface_of surface)) × HasUtf8Texts (surface_of surface) × (after ≡ before)
+ReadsFile told uri before after (Ok surface) =
+    IfTold told (λ files. Says files uri (surface_of surface)) × HasUtf8Texts (surface_of surface) × (after ≡ before)
 ReadsFile told uri before after (Err (Absent absent)) = (absent ≡ uri) × IfTold told (λ files. files uri ≡ None) × (after ≡ before)
-ReadsFile told uri before after (Err (NotUtf8 wrong at)) = (wrong ≡ uri) × IfTold told (λ files. (bytes : List ℕ) × (files uri ≡ Some bytes) × IsNoTextAt bytes at) × (after ≡ before)
-ReadsFile told uri before after (Err (Unreadable why)) = IsOfReading why × IfTold told (λ files. (bytes : List ℕ) × (files uri ≡ Some bytes) × IsRefusedText bytes why) × (after ≡ before)
+ReadsFile told uri before after (Err (NotUtf8 wrong at)) =
+    (wrong ≡ uri) × IfTold told (λ files. (bytes : List ℕ) × (files uri ≡ Some bytes) × IsNoTextAt bytes at) × (after ≡ before)
+ReadsFile told uri before after (Err (Unreadable why)) =
+    IsOfReading why × IfTold told (λ files. (bytes : List ℕ) × (files uri ≡ Some bytes) × IsRefusedText bytes why) × (after ≡ before)
 ReadsFile told uri before after (Err Failed) = Rose before after
 ReadsFile told uri before after (Err NoMemory) = after ≡ before
 ReadsFile told uri before after (Err (BadUri text)) = ⊥

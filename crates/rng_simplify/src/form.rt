@@ -1,5 +1,12 @@
 //! The simple form of each node (ISO/IEC 19757-2, sections 4.17 to 4.21).
 
+ghost use Rattle.std.specs.Prelude.{◌≡◌, ◌+◌, ◌<◌, ℕ, length, map, slice_index, slice_get, Some, Contains};
+ghost use Rattle.rng_simplify.specs.Cells.{cell_of};
+ghost use Rattle.rng_simplify.specs.Forms.{join_of};
+ghost use Rattle.rng_simplify.specs.Forming.{IsKnown, IsRoom, IsInOrder, MakesCell, MakesJoin, JoinsAll, Makes, Places, MakesForms};
+ghost use Rattle.rng_simplify.specs.Resolving.{cell_leads, leads};
+ghost use Rattle.rng_simplify.specs.Shown.{joined_of};
+
 use crate::fault::SchemaFault;
 use crate::node::{Node, Sign};
 use crate::resolve::{Join, Resolved};
@@ -20,89 +27,156 @@ pub(crate) fn forms_of(
     nodes: &[Node],
     found: &Resolved,
     order: &[usize],
-) -> Result<Forms, SchemaFault> {
-    let count = nodes.len() + found.joins.len();
-    let mut of = Vec::with_capacity(alloc, count)?;
-    for _ in 0..count {
-        of.push(0)?;
-    }
-    let mut forms = Forms {
-        shapes: Shapes::new(alloc),
-        of,
-    };
+) -> Result<Forms, SchemaFault>
+    requires { IsInOrder (map cell_of nodes.now) found.now order.now }
+    ensures { MakesForms (map cell_of nodes.now) found.now order.now result }
+{
+    let mut forms = Forms::new(alloc, nodes.len() + found.joins.len())?;
     for i in order {
-        let shape = if *i < nodes.len() {
-            forms.node(nodes.len(), *i, &nodes[*i], found)?
-        } else {
-            forms.join(&found.joins[*i - nodes.len()])?
-        };
-        forms.of[*i] = shape;
+        forms.place(nodes, found, *i)?;
     }
     Ok(forms)
 }
 
 /// The sign by which definitions are joined.
-fn sign_of(combine: Combine) -> Sign {
+fn sign_of(combine: Combine) -> Sign
+    ensures { joined_of result ≡ join_of combine }
+{
     match combine {
-        Combine::Alone | Combine::Choice => Sign::Choice,
+        Combine::Alone => Sign::Choice,
+        Combine::Choice => Sign::Choice,
         Combine::Interleave => Sign::Interleave,
     }
 }
 
 impl Forms {
+    /// Room for the shapes of so many nodes and joins.
+    fn new(alloc: Global, count: usize) -> Result<Forms, SchemaFault>
+        ensures { IsRoom count result }
+    {
+        let mut of = Vec::with_capacity(alloc, count)?;
+        for _ in 0..count {
+            of.push(0)?;
+        }
+        Ok(Forms {
+            shapes: Shapes::new(alloc),
+            of,
+        })
+    }
+
     /// The shape of a node.
-    pub(crate) fn of(&self, node: usize) -> usize {
+    pub(crate) fn of(&self, node: usize) -> usize
+        requires { node < length self.now.of.items }
+        ensures { result ≡ slice_index self.now.of.items node }
+    {
         self.of[node]
     }
 
-    /// The shape of a node, where those of its parts are known.
+    /// The shape of the join of this number.
+    fn linked(&self, count: usize, join: usize) -> usize
+        requires { IsKnown self.now.shapes self.now.of.items (count + join) }
+        ensures { result ≡ slice_index self.now.of.items (count + join) }
+    {
+        let _all = self.of.len();
+        self.of(count + join)
+    }
+
+    /// Gives a node or a join its shape, where those of what it leads to are known.
+    fn place(&mut self, nodes: &[Node], found: &Resolved, i: usize) -> Result<(), SchemaFault>
+        requires within { i < length nodes.now + length found.now.joins.items }
+        requires all { length self.old.of.items ≡ length nodes.now + length found.now.joins.items }
+        requires all_links { length found.now.links.items ≡ length nodes.now }
+        requires known { (j : ℕ) → Contains (leads (map cell_of nodes.now) found.now i) j → IsKnown self.old.shapes self.old.of.items j }
+        ensures { Places (map cell_of nodes.now) found.now i self.old self.new result }
+    {
+        let shape = self.made(nodes, found, i)?;
+        self.of[i] = shape;
+        Ok(())
+    }
+
+    /// The shape of a node or a join, where those of what it leads to are known.
+    fn made(&mut self, nodes: &[Node], found: &Resolved, i: usize) -> Result<usize, SchemaFault>
+        requires within { i < length nodes.now + length found.now.joins.items }
+        requires all_links { length found.now.links.items ≡ length nodes.now }
+        requires known { (j : ℕ) → Contains (leads (map cell_of nodes.now) found.now i) j → IsKnown self.old.shapes self.old.of.items j }
+        ensures made { Makes (map cell_of nodes.now) found.now i self.old.shapes self.new.shapes self.old.of.items result }
+        ensures of_stays { self.new.of ≡ self.old.of }
+    {
+        if i < nodes.len() {
+            self.node(nodes.len(), i, found.links[i], &nodes[i])
+        } else {
+            self.join(&found.joins[i - nodes.len()])
+        }
+    }
+
+    /// The shape of a node that is linked so, where those of its parts are known.
     fn node(
         &mut self,
         count: usize,
         i: usize,
+        link: usize,
         node: &Node,
-        found: &Resolved,
-    ) -> Result<usize, SchemaFault> {
+    ) -> Result<usize, SchemaFault>
+        requires { (j : ℕ) → Contains (cell_leads count link (cell_of node.now)) j → IsKnown self.old.shapes self.old.of.items j }
+        ensures made { MakesCell self.old.shapes self.new.shapes self.old.of.items count i link (cell_of node.now) result }
+        ensures of_stays { self.new.of ≡ self.old.of }
+    {
         match node {
-            Node::Element(_, _) => self.shapes.add(Shape::Ref(found.links[i])),
+            Node::Element(_, _) => self.shapes.add(Shape::Ref(link)),
             Node::Attribute(_, part) => {
-                let part = self.of(*part);
-                self.shapes.attribute(i, part)
+                let value = self.of(*part);
+                self.shapes.attribute(i, value)
             }
             Node::List(part) => {
-                let part = self.of(*part);
-                self.shapes.list(part)
+                let words = self.of(*part);
+                self.shapes.list(words)
             }
             Node::OneOrMore(part) => {
-                let part = self.of(*part);
-                self.shapes.one_or_more(part)
+                let body = self.of(*part);
+                self.shapes.one_or_more(body)
             }
             Node::Joined(sign, first, second) => {
-                let first = self.of(*first);
-                let second = self.of(*second);
-                self.shapes.joined(*sign, first, second)
+                let one = self.of(*first);
+                let other = self.of(*second);
+                self.shapes.joined(*sign, one, other)
             }
             Node::Empty => self.shapes.add(Shape::Empty),
             Node::Text => self.shapes.add(Shape::Text),
             Node::NotAllowed => self.shapes.add(Shape::NotAllowed),
             Node::Value(_, _) => self.shapes.add(Shape::Value(i)),
             Node::Typed(_, _, _) => self.shapes.add(Shape::Typed(i)),
-            Node::Ref(_) | Node::ParentRef(_) | Node::Grammar(_) => {
-                Ok(self.of(count + found.links[i]))
-            }
+            Node::Ref(_) => Ok(self.linked(count, link)),
+            Node::ParentRef(_) => Ok(self.linked(count, link)),
+            Node::Grammar(_) => Ok(self.linked(count, link)),
         }
     }
 
     /// The shape of definitions that are joined, which nest to the left.
-    fn join(&mut self, join: &Join) -> Result<usize, SchemaFault> {
-        let sign = sign_of(join.combine);
-        let Some((first, others)) = join.bodies.as_slice().split_first() else {
-            return self.shapes.add(Shape::NotAllowed);
-        };
-        let mut joined = self.of(*first);
+    fn join(&mut self, join: &Join) -> Result<usize, SchemaFault>
+        requires { (j : ℕ) → Contains join.now.bodies.items j → IsKnown self.old.shapes self.old.of.items j }
+        ensures made { MakesJoin self.old.shapes self.new.shapes self.old.of.items join.now.combine join.now.bodies.items result }
+        ensures of_stays { self.new.of ≡ self.old.of }
+    {
+        match join.bodies.as_slice().split_first() {
+            Some((first, others)) => {
+                let shape = self.of(*first);
+                self.behind(sign_of(join.combine), shape, others)
+            }
+            None => self.shapes.add(Shape::NotAllowed),
+        }
+    }
+
+    /// A shape with those of others joined to it, one by one.
+    fn behind(&mut self, sign: Sign, first: usize, others: &[usize]) -> Result<usize, SchemaFault>
+        requires one { first < length self.old.shapes }
+        requires known { (j : ℕ) → Contains others.now j → IsKnown self.old.shapes self.old.of.items j }
+        ensures made { JoinsAll self.old.shapes self.new.shapes self.old.of.items sign first others.now result }
+        ensures of_stays { self.new.of ≡ self.old.of }
+    {
+        let mut joined = first;
         for other in others {
-            let other = self.of(*other);
-            joined = self.shapes.joined(sign, joined, other)?;
+            let next = self.of(*other);
+            joined = self.shapes.joined(sign, joined, next)?;
         }
         Ok(joined)
     }

@@ -11,6 +11,7 @@ mod class;
 mod compose;
 pub mod fault;
 mod form;
+mod judge;
 pub mod law;
 pub mod limit;
 mod load;

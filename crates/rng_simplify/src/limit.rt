@@ -1,5 +1,11 @@
 //! How large a grammar may be.
 
+ghost use Rattle.std.specs.Prelude.{◌≡◌, ◌≤◌, map};
+ghost use Rattle.rng_simplify.specs.Broken.{node_limit};
+ghost use Rattle.rng_simplify.specs.Cells.{cell_of};
+ghost use Rattle.rng_simplify.specs.Forming.{IsKnown};
+ghost use Rattle.rng_simplify.specs.Limiting.{content_of, IsElement, AreElements, IsWithinLimits, Counts};
+
 use crate::fault::SchemaFault;
 use crate::form::Forms;
 use crate::node::Node;
@@ -17,18 +23,35 @@ pub(crate) fn check_size(
     forms: &Forms,
     root: usize,
     elements: &[usize],
-) -> Result<(), SchemaFault> {
+) -> Result<(), SchemaFault>
+    requires start { IsKnown forms.now.shapes forms.now.of.items root }
+    requires contents { AreElements (map cell_of nodes.now) forms.now elements.now }
+    ensures { IsWithinLimits (map cell_of nodes.now) forms.now root elements.now result }
+{
     let mut count = counted(forms, root, 0)?;
     for element in elements {
-        if let Node::Element(_, content) = &nodes[*element] {
-            count = counted(forms, *content, count)?;
-        }
+        count = counted(forms, content(nodes, *element), count)?;
     }
     Ok(())
 }
 
+/// The content of an element.
+fn content(nodes: &[Node], element: usize) -> usize
+    requires { IsElement (map cell_of nodes.now) element }
+    ensures { result ≡ content_of (map cell_of nodes.now) element }
+{
+    match &nodes[element] {
+        Node::Element(_, content) => *content,
+        _ => unreachable!(),
+    }
+}
+
 /// The nodes so far, and those of the form of a node.
-fn counted(forms: &Forms, node: usize, before: u64) -> Result<u64, SchemaFault> {
+fn counted(forms: &Forms, node: usize, before: u64) -> Result<u64, SchemaFault>
+    requires known { IsKnown forms.now.shapes forms.now.of.items node }
+    requires few { before ≤ node_limit }
+    ensures { Counts forms.now node before result }
+{
     let size = forms.shapes.size(forms.of(node));
     let count = before.saturating_add(size.nodes);
     if count > MOST_NODES || size.depth > MOST_DEPTH {

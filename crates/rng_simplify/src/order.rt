@@ -3,10 +3,20 @@
 //!
 //! The joins of definitions take part in it as further nodes: join `j` has the number `nodes.len() + j`.
 
+ghost use Rattle.std.specs.Prelude.{◌≡◌, ◌≢◌, ℕ, ◌+◌, ◌-◌, ◌<◌, ◌^◌, [], ◌∷◌, length, slice_get, Some, None, IfOk, IfSome, OnOk};
+ghost use Rattle.rng_simplify.specs.declared.order.Mark.TheVariants.{New as NotMet};
+ghost use Rattle.rng_simplify.specs.Breaking.{cells_of, OkOrRefused};
+ghost use Rattle.rng_simplify.specs.Cells.{cell_of};
+ghost use Rattle.rng_simplify.specs.Resolving.{IsResolved, IsOrdered, leads};
+ghost use Rattle.rng_simplify.specs.Standing.{AreWellFormed, cell_parts, IsStanding};
+ghost use Rattle.rng_simplify.specs.Walking.{IsMet, is_linked as is_linked_cell, walking_of, mark_at, with_step, left, Meets, IsWalk, KeepsMarks, IsTurned, IsGone, IsPassed};
+
+use crate::compose::Whole;
 use crate::fault::SchemaFault;
 use crate::node::Node;
-use crate::resolve::{Resolved, Scope};
+use crate::resolve::{Join, Resolved, Scope};
 use nx_base::cause::Cause;
+use nx_base::memory::NoMemory;
 use std::alloc::Global;
 
 /// How far the walk is with a node.
@@ -29,9 +39,7 @@ struct Step {
 
 /// A walk from node to node, depth first.
 #[derive(Drop)]
-struct Walk<'a> {
-    nodes: &'a [Node],
-    found: &'a Resolved,
+struct Walk {
     marks: Vec<Mark>,
     path: Vec<Step>,
     order: Vec<usize>,
@@ -40,68 +48,188 @@ struct Walk<'a> {
 /// The nodes that stand in the schema, and all joins, in order.
 pub(crate) fn order(
     alloc: Global,
-    nodes: &[Node],
+    whole: &Whole,
     found: &Resolved,
-) -> Result<Vec<usize>, SchemaFault> {
-    let count = nodes.len() + found.joins.len();
-    let mut marks = Vec::with_capacity(alloc, count)?;
-    for _ in 0..count {
-        marks.push(Mark::New)?;
-    }
-    let mut walk = Walk {
-        nodes,
-        found,
-        marks,
-        path: Vec::new(alloc),
-        order: Vec::with_capacity(alloc, count)?,
-    };
-    for i in 0..count {
-        if i >= nodes.len() || found.scopes[i] != Scope::Nowhere {
-            walk.go(i)?;
-        }
-    }
+) -> Result<Vec<usize>, SchemaFault>
+    requires formed { AreWellFormed (cells_of whole.now) whole.now.root }
+    requires resolved { IsResolved (cells_of whole.now) whole.now.root found.now }
+    ensures { OkOrRefused (cells_of whole.now) whole.now.root (λ order. IsOrdered (cells_of whole.now) whole.now.root found.now order.items) result }
+{
+    let mut walk = Walk::begin(alloc, whole.nodes.len() + found.joins.len())?;
+    walk.nodes(whole, found)?;
+    walk.joins(whole, found)?;
     let Walk { order, .. } = walk;
     Ok(order)
 }
 
-impl Walk<'_> {
-    /// The node of this number among those to which a node leads.
-    fn next(&self, node: usize, k: usize) -> Option<usize> {
-        if node >= self.nodes.len() {
-            let join = &self.found.joins[node - self.nodes.len()];
-            return join.bodies.get(k).copied();
-        }
-        match (&self.nodes[node], k) {
-            (Node::Attribute(_, part), 0)
-            | (Node::List(part), 0)
-            | (Node::Typed(_, _, part), 0)
-            | (Node::OneOrMore(part), 0) => Some(*part),
-            (Node::Joined(_, first, _), 0) => Some(*first),
-            (Node::Joined(_, _, second), 1) => Some(*second),
-            (Node::Ref(_), 0) | (Node::ParentRef(_), 0) | (Node::Grammar(_), 0) => {
-                Some(self.nodes.len() + self.found.links[node])
-            }
+/// A part of a node by its place among the parts.
+fn part(node: &Node, k: usize) -> Option<usize>
+    ensures { result ≡ slice_get (cell_parts (cell_of node.now)) k }
+{
+    match node {
+        Node::Attribute(_, part) => only(*part, k),
+        Node::List(part) => only(*part, k),
+        Node::Typed(_, _, part) => only(*part, k),
+        Node::OneOrMore(part) => only(*part, k),
+        Node::Joined(_, first, second) => match k {
+            0 => Some(*first),
+            1 => Some(*second),
             _ => None,
+        },
+        _ => None,
+    }
+}
+
+/// The one thing that there is, by its place.
+fn only(it: usize, k: usize) -> Option<usize>
+    ensures { result ≡ slice_get (it ∷ []) k }
+{
+    if k == 0 { Some(it) } else { None }
+}
+
+/// Whether a node is linked to a join.
+fn is_linked(node: &Node) -> bool
+    ensures { result ≡ is_linked_cell (cell_of node.now) }
+{
+    match node {
+        Node::Ref(_) => true,
+        Node::ParentRef(_) => true,
+        Node::Grammar(_) => true,
+        _ => false,
+    }
+}
+
+/// A body of a join by its place.
+fn body(join: &Join, k: usize) -> Option<usize>
+    ensures body_is { result ≡ slice_get join.now.bodies.items k }
+    ensures more { IfSome result (λ _. k + 1 < 2 ^ 64) }
+{
+    join.bodies.get(k).copied()
+}
+
+/// The node of this number among those to which a node or a join leads.
+fn next(whole: &Whole, found: &Resolved, node: usize, k: usize) -> Option<usize>
+    requires formed { AreWellFormed (cells_of whole.now) whole.now.root }
+    requires resolved { IsResolved (cells_of whole.now) whole.now.root found.now }
+    requires met { IsMet (cells_of whole.now) whole.now.root found.now node }
+    requires room { length whole.now.nodes.items + length found.now.joins.items < 2 ^ 64 }
+    ensures next_is { result ≡ slice_get (leads (cells_of whole.now) found.now node) k }
+    ensures more { IfSome result (λ _. k + 1 < 2 ^ 64) }
+{
+    if node < whole.nodes.len() {
+        let here = &whole.nodes[node];
+        if is_linked(here) {
+            only(whole.nodes.len() + found.links[node], k)
+        } else {
+            part(here, k)
         }
+    } else {
+        body(&found.joins[node - whole.nodes.len()], k)
+    }
+}
+
+impl Walk {
+    /// A walk that met nothing of so many nodes.
+    fn begin(alloc: Global, count: usize) -> Result<Walk, NoMemory>
+        ensures { IfOk result (λ walk. (length (walking_of walk).marks ≡ count) × ((i : ℕ) → mark_at (walking_of walk) i ≡ NotMet) × ((walking_of walk).path ≡ []) × ((walking_of walk).order ≡ [])) }
+    {
+        let mut marks = Vec::with_capacity(alloc, count)?;
+        for _ in 0..count {
+            marks.push(Mark::New)?;
+        }
+        Ok(Walk {
+            marks,
+            path: Vec::new(alloc),
+            order: Vec::with_capacity(alloc, count)?,
+        })
     }
 
-    /// Walks from a node over all that weren't met.
-    fn go(&mut self, from: usize) -> Result<(), SchemaFault> {
-        self.meet(from)?;
-        while let Some(step) = self.path.last_mut() {
-            let node = step.node;
-            let met = step.met;
-            step.met += 1;
-            match self.next(node, met) {
-                Some(next) => self.meet(next)?,
-                None => self.leave(node)?,
-            }
+    /// Walks from each node that stands in the schema.
+    fn nodes(&mut self, whole: &Whole, found: &Resolved) -> Result<(), SchemaFault>
+        requires formed { AreWellFormed (cells_of whole.now) whole.now.root }
+        requires resolved { IsResolved (cells_of whole.now) whole.now.root found.now }
+        requires here { IsWalk (cells_of whole.now) whole.now.root found.now None (walking_of self.old) }
+        requires at_rest { (walking_of self.old).path ≡ [] }
+        ensures { OkOrRefused (cells_of whole.now) whole.now.root (λ done. IsWalk (cells_of whole.now) whole.now.root found.now None (walking_of self.new) × ((walking_of self.new).path ≡ []) × ((i : ℕ) → IsStanding (cells_of whole.now) whole.now.root i → mark_at (walking_of self.new) i ≢ NotMet)) result }
+    {
+        for i in 0..whole.nodes.len() {
+            self.node(whole, found, i)?;
         }
         Ok(())
     }
 
+    /// Walks from a node, if it stands in the schema.
+    fn node(&mut self, whole: &Whole, found: &Resolved, i: usize) -> Result<(), SchemaFault>
+        requires within { i < length whole.now.nodes.items }
+        requires formed { AreWellFormed (cells_of whole.now) whole.now.root }
+        requires resolved { IsResolved (cells_of whole.now) whole.now.root found.now }
+        requires here { IsWalk (cells_of whole.now) whole.now.root found.now None (walking_of self.old) }
+        requires at_rest { (walking_of self.old).path ≡ [] }
+        ensures { OkOrRefused (cells_of whole.now) whole.now.root (λ done. IsPassed (cells_of whole.now) whole.now.root found.now i (walking_of self.old) (walking_of self.new)) result }
+    {
+        match found.scopes[i] {
+            Scope::Nowhere => Ok(()),
+            _ => self.go(whole, found, i),
+        }
+    }
+
+    /// Walks from each join.
+    fn joins(&mut self, whole: &Whole, found: &Resolved) -> Result<(), SchemaFault>
+        requires formed { AreWellFormed (cells_of whole.now) whole.now.root }
+        requires resolved { IsResolved (cells_of whole.now) whole.now.root found.now }
+        requires here { IsWalk (cells_of whole.now) whole.now.root found.now None (walking_of self.old) }
+        requires at_rest { (walking_of self.old).path ≡ [] }
+        ensures { OkOrRefused (cells_of whole.now) whole.now.root (λ done. IsWalk (cells_of whole.now) whole.now.root found.now None (walking_of self.new) × ((walking_of self.new).path ≡ []) × KeepsMarks (walking_of self.old) (walking_of self.new) × ((number : ℕ) → number < length found.now.joins.items → mark_at (walking_of self.new) (length whole.now.nodes.items + number) ≢ NotMet)) result }
+    {
+        for j in 0..found.joins.len() {
+            self.go(whole, found, whole.nodes.len() + j)?;
+        }
+        Ok(())
+    }
+
+    /// Walks from a node over all that weren't met.
+    fn go(&mut self, whole: &Whole, found: &Resolved, from: usize) -> Result<(), SchemaFault>
+        requires formed { AreWellFormed (cells_of whole.now) whole.now.root }
+        requires resolved { IsResolved (cells_of whole.now) whole.now.root found.now }
+        requires met { IsMet (cells_of whole.now) whole.now.root found.now from }
+        requires here { IsWalk (cells_of whole.now) whole.now.root found.now None (walking_of self.old) }
+        requires at_rest { (walking_of self.old).path ≡ [] }
+        ensures { OkOrRefused (cells_of whole.now) whole.now.root (λ done. IsGone (cells_of whole.now) whole.now.root found.now from (walking_of self.old) (walking_of self.new)) result }
+    {
+        self.meet(from)?;
+        while let Some(step) = self.path.pop() {
+            self.turn(whole, found, step)?;
+        }
+        Ok(())
+    }
+
+    /// Goes on from the last node of the path, or goes back from it.
+    fn turn(&mut self, whole: &Whole, found: &Resolved, step: Step) -> Result<(), SchemaFault>
+        requires formed { AreWellFormed (cells_of whole.now) whole.now.root }
+        requires resolved { IsResolved (cells_of whole.now) whole.now.root found.now }
+        requires here { IsWalk (cells_of whole.now) whole.now.root found.now None (with_step step (walking_of self.old)) }
+        ensures { OkOrRefused (cells_of whole.now) whole.now.root (λ done. IsTurned (cells_of whole.now) whole.now.root found.now (with_step step (walking_of self.old)) (walking_of self.new)) result }
+    {
+        match next(whole, found, step.node, step.met) {
+            Some(next) => {
+                self.path.push(Step {
+                    node: step.node,
+                    met: step.met + 1,
+                })?;
+                self.meet(next)
+            }
+            None => {
+                self.leave(step.node)?;
+                Ok(())
+            }
+        }
+    }
+
     /// Goes on to a node, unless it is in the order. A node of the path is a part of itself.
-    fn meet(&mut self, node: usize) -> Result<(), SchemaFault> {
+    fn meet(&mut self, node: usize) -> Result<(), SchemaFault>
+        requires { node < length (walking_of self.old).marks }
+        ensures { Meets node (mark_at (walking_of self.old) node) (walking_of self.old) (walking_of self.new) result }
+    {
         match self.marks[node] {
             Mark::New => {
                 self.marks[node] = Mark::Open;
@@ -114,8 +242,10 @@ impl Walk<'_> {
     }
 
     /// Goes back from a node all of whose nodes are in the order.
-    fn leave(&mut self, node: usize) -> Result<(), SchemaFault> {
-        self.path.pop();
+    fn leave(&mut self, node: usize) -> Result<(), NoMemory>
+        requires { node < length (walking_of self.old).marks }
+        ensures { OnOk result (walking_of self.new ≡ left node (walking_of self.old)) }
+    {
         self.marks[node] = Mark::Done;
         self.order.push(node)?;
         Ok(())

@@ -3,11 +3,22 @@
 //! A node's parts have smaller numbers than the node, so that one walk from the whole down meets each grammar before what
 //! stands in it. Definitions that were replaced are never met.
 
+ghost use Rattle.std.specs.Prelude.{◌≡◌, ℕ, ◌+◌, ◌<◌, ◌&&◌, ◌||◌, List, [], ◌∷◌, length, map, replicate, Some, Contains, IfOk, OnOk};
+ghost use Rattle.rng_simplify.specs.declared.node.Clause.{Clause};
+ghost use Rattle.rng_simplify.specs.Broken.{is_alone as says_nothing};
+ghost use Rattle.rng_simplify.specs.Breaking.{cells_of, OkOrRefused};
+ghost use Rattle.rng_simplify.specs.Cells.{cell_of};
+ghost use Rattle.rng_simplify.specs.Keeping.{kept_for};
+ghost use Rattle.rng_simplify.specs.Resolving.{IsResolved};
+ghost use Rattle.rng_simplify.specs.Scoping.{AddsTo, both_say, HasSigns, IsGathered, GathersOne, Gathers, given, with_given, findings_of, findings_at_first, outer_in, join_in, Links, TakesGrammar, TakesCell, IsMidway, numbering_of, with_number, with_numbered, AreNumbered};
+ghost use Rattle.rng_simplify.specs.Standing.{AreWellFormed, bodies_of, inner_nodes};
+
 use crate::compose::Whole;
 use crate::fault::SchemaFault;
 use crate::names::Names;
 use crate::node::{Clause, Node};
 use nx_base::cause::Cause;
+use nx_base::memory::NoMemory;
 use nx_base::sequence::Bytes;
 use rnc_parse::surface::{Combine, Defined};
 use std::alloc::Global;
@@ -59,11 +70,15 @@ pub(crate) struct Resolved {
 struct Resolver {
     alloc: Global,
     tables: Vec<Table>,
-    found: Resolved,
+    scopes: Vec<Scope>,
+    links: Vec<usize>,
+    joins: Vec<Join>,
 }
 
 /// A list of so many times the same value.
-fn filled<T: Copy + Drop>(alloc: Global, value: T, count: usize) -> Result<Vec<T>, SchemaFault> {
+fn filled<T: Copy + Drop>(alloc: Global, value: T, count: usize) -> Result<Vec<T>, NoMemory>
+    ensures { IfOk result (λ values. values.items ≡ replicate count value) }
+{
     let mut values = Vec::with_capacity(alloc, count)?;
     for _ in 0..count {
         values.push(value)?;
@@ -72,147 +87,335 @@ fn filled<T: Copy + Drop>(alloc: Global, value: T, count: usize) -> Result<Vec<T
 }
 
 /// Resolves the references of a whole schema.
-pub(crate) fn resolve(alloc: Global, whole: &Whole) -> Result<Resolved, SchemaFault> {
-    let count = whole.nodes.len();
-    let mut resolver = Resolver {
-        alloc,
-        tables: Vec::new(alloc),
-        found: Resolved {
-            scopes: filled(alloc, Scope::Nowhere, count)?,
-            links: filled(alloc, 0, count)?,
-            joins: Vec::new(alloc),
-            elements: Vec::new(alloc),
-        },
-    };
-    resolver.found.scopes[whole.root] = Scope::Outside;
-    for i in (0..count).rev() {
-        resolver.node(i, &whole.nodes[i])?;
-    }
-    for i in 0..count {
-        resolver.number(i, &whole.nodes[i])?;
-    }
-    let Resolver { found, .. } = resolver;
-    Ok(found)
+pub(crate) fn resolve(alloc: Global, whole: &Whole) -> Result<Resolved, SchemaFault>
+    requires { AreWellFormed (cells_of whole.now) whole.now.root }
+    ensures { OkOrRefused (cells_of whole.now) whole.now.root (IsResolved (cells_of whole.now) whole.now.root) result }
+{
+    let mut resolver = Resolver::begin(alloc, whole.nodes.len(), whole.root)?;
+    resolver.walk(whole)?;
+    let Resolver {
+        scopes,
+        links,
+        joins,
+        ..
+    } = resolver;
+    let mut links = links;
+    let elements = numbered(alloc, whole.nodes.as_slice(), scopes.as_slice(), &mut links)?;
+    Ok(Resolved {
+        scopes,
+        links,
+        joins,
+        elements,
+    })
 }
 
-/// How definitions are joined, where some are joined in the one way and another in the other way.
-fn both(before: Combine, combine: Combine) -> Result<Combine, SchemaFault> {
-    match (before, combine) {
-        (before, Combine::Alone) => Ok(before),
-        (Combine::Alone, combine) => Ok(combine),
-        (Combine::Choice, Combine::Choice) => Ok(Combine::Choice),
-        (Combine::Interleave, Combine::Interleave) => Ok(Combine::Interleave),
-        (Combine::Choice, Combine::Interleave) | (Combine::Interleave, Combine::Choice) => {
-            Err(SchemaFault::Unreadable(Cause::CombineClash))
-        }
+/// The elements that stand somewhere, in order; each is linked to its number.
+fn numbered(
+    alloc: Global,
+    nodes: &[Node],
+    scopes: &[Scope],
+    links: &mut Vec<usize>,
+) -> Result<Vec<usize>, NoMemory>
+    requires within { length scopes.now ≡ length nodes.now }
+    requires known { length links.old.items ≡ length nodes.now }
+    ensures { IfOk result (λ elements. AreNumbered (map cell_of nodes.now) scopes.now (length nodes.now) links.old.items (numbering_of links.new elements)) }
+{
+    let mut elements = Vec::new(alloc);
+    for i in 0..nodes.len() {
+        number(i, &nodes[i], scopes[i], links, &mut elements)?;
     }
+    Ok(elements)
+}
+
+/// Numbers a node that stands in this scope, if it is an element that stands somewhere.
+fn number(
+    i: usize,
+    node: &Node,
+    scope: Scope,
+    links: &mut Vec<usize>,
+    elements: &mut Vec<usize>,
+) -> Result<(), NoMemory>
+    requires { i < length links.old.items }
+    ensures { OnOk result (numbering_of links.new elements.new ≡ with_numbered i scope (cell_of node.now) (numbering_of links.old elements.old)) }
+{
+    match scope {
+        Scope::Nowhere => Ok(()),
+        Scope::Outside | Scope::In(_) => number_standing(i, node, links, elements),
+    }
+}
+
+/// Numbers a node, if it is an element.
+fn number_standing(
+    i: usize,
+    node: &Node,
+    links: &mut Vec<usize>,
+    elements: &mut Vec<usize>,
+) -> Result<(), NoMemory>
+    requires { i < length links.old.items }
+    ensures { OnOk result (numbering_of links.new elements.new ≡ with_number i (cell_of node.now) (numbering_of links.old elements.old)) }
+{
+    match node {
+        Node::Element(_, _) => {
+            links[i] = elements.len();
+            elements.push(i)?;
+            Ok(())
+        }
+        _ => Ok(()),
+    }
+}
+
+/// How definitions are joined; nothing, where some are joined in the one way and another in the other way.
+fn both(before: Combine, combine: Combine) -> Option<Combine>
+    ensures { result ≡ both_say before combine }
+{
+    match (before, combine) {
+        (before, Combine::Alone) => Some(before),
+        (Combine::Alone, combine) => Some(combine),
+        (Combine::Choice, Combine::Choice) => Some(Combine::Choice),
+        (Combine::Interleave, Combine::Interleave) => Some(Combine::Interleave),
+        (Combine::Choice, Combine::Interleave) | (Combine::Interleave, Combine::Choice) => None,
+    }
+}
+
+/// Whether a definition says nothing of how it is joined.
+fn is_alone(combine: Combine) -> bool
+    ensures { result ≡ says_nothing combine }
+{
+    match combine {
+        Combine::Alone => true,
+        Combine::Choice | Combine::Interleave => false,
+    }
+}
+
+/// Whether one of several definitions, or one more, says nothing of how it is joined.
+fn one_alone(has_alone: bool, combine: Combine) -> bool
+    ensures { result ≡ (has_alone || says_nothing combine) }
+{
+    has_alone || is_alone(combine)
+}
+
+/// Whether one of several definitions and one more say nothing of how they are joined.
+fn two_alone(has_alone: bool, combine: Combine) -> bool
+    ensures { result ≡ (has_alone && says_nothing combine) }
+{
+    has_alone && is_alone(combine)
 }
 
 impl Join {
+    /// The join of one definition.
+    fn of(alloc: Global, combine: Combine, body: usize) -> Result<Join, NoMemory>
+        ensures { IfOk result (λ join. (join.bodies.items ≡ body ∷ []) × HasSigns (combine ∷ []) join) }
+    {
+        let mut bodies = Vec::new(alloc);
+        bodies.push(body)?;
+        Ok(Join {
+            combine,
+            has_alone: is_alone(combine),
+            bodies,
+        })
+    }
+
     /// Adds a definition behind those that are there.
-    fn add(&mut self, combine: Combine, body: usize) -> Result<(), SchemaFault> {
-        if combine == Combine::Alone {
-            if self.has_alone {
-                return Err(SchemaFault::Unreadable(Cause::CombineClash));
-            }
-            self.has_alone = true;
+    fn add(&mut self, combine: Combine, body: usize) -> Result<(), SchemaFault>
+        ensures { AddsTo combine body self.old self.new result }
+    {
+        if two_alone(self.has_alone, combine) {
+            return Err(SchemaFault::Unreadable(Cause::CombineClash));
         }
-        self.combine = both(self.combine, combine)?;
-        self.bodies.push(body)?;
-        Ok(())
+        match both(self.combine, combine) {
+            Some(joined) => {
+                self.combine = joined;
+                self.has_alone = one_alone(self.has_alone, combine);
+                self.bodies.push(body)?;
+                Ok(())
+            }
+            None => Err(SchemaFault::Unreadable(Cause::CombineClash)),
+        }
+    }
+}
+
+/// Adds a definition to those of its name.
+fn gather(
+    alloc: Global,
+    names: &mut Names<usize>,
+    joins: &mut Vec<Join>,
+    clause: &Clause,
+) -> Result<(), SchemaFault>
+    requires { (number : ℕ) → kept_for names.old clause.now.name ≡ Some number → number < length joins.old.items }
+    ensures { (first : ℕ) (before : List Clause) → IsGathered first before names.old joins.old.items → GathersOne first before clause.now joins.old.items names.new joins.new.items result }
+{
+    match names.get(&clause.name).copied() {
+        Some(number) => joins[number].add(clause.combine, clause.body),
+        None => {
+            let join = Join::of(alloc, clause.combine, clause.body)?;
+            names.add(&clause.name, joins.len())?;
+            joins.push(join)?;
+            Ok(())
+        }
+    }
+}
+
+/// The joins of definitions, by names.
+fn gathered(
+    alloc: Global,
+    joins: &mut Vec<Join>,
+    clauses: &[Clause],
+) -> Result<Names<usize>, SchemaFault>
+    ensures { Gathers clauses.now joins.old.items joins.new.items result }
+{
+    let mut names = Names::new(alloc);
+    for clause in clauses {
+        gather(alloc, &mut names, joins, clause)?;
+    }
+    Ok(names)
+}
+
+/// What definitions are stands in this scope.
+fn give(scopes: &mut Vec<Scope>, clauses: &[Clause], scope: Scope)
+    requires { (body : ℕ) → Contains (bodies_of clauses.now) body → body < length scopes.old.items }
+    ensures { scopes.new.items ≡ given (bodies_of clauses.now) scope scopes.old.items }
+{
+    for clause in clauses {
+        scopes[clause.body] = scope;
     }
 }
 
 impl Resolver {
-    /// Takes a node with all that is known of what stands around it.
-    fn node(&mut self, i: usize, node: &Node) -> Result<(), SchemaFault> {
-        let scope = self.found.scopes[i];
-        if scope == Scope::Nowhere {
-            return Ok(());
+    /// Nothing is known of so many nodes, but that one of them is the whole schema.
+    fn begin(alloc: Global, count: usize, root: usize) -> Result<Resolver, NoMemory>
+        requires { root < count }
+        ensures { IfOk result (λ resolver. findings_of resolver ≡ findings_at_first count root) }
+    {
+        let mut scopes = filled(alloc, Scope::Nowhere, count)?;
+        scopes[root] = Scope::Outside;
+        let links = filled(alloc, 0, count)?;
+        Ok(Resolver {
+            alloc,
+            tables: Vec::new(alloc),
+            scopes,
+            links,
+            joins: Vec::new(alloc),
+        })
+    }
+
+    /// Takes all nodes, from the last one on.
+    fn walk(&mut self, whole: &Whole) -> Result<(), SchemaFault>
+        requires formed { AreWellFormed (cells_of whole.now) whole.now.root }
+        requires begun { IsMidway (cells_of whole.now) whole.now.root (length whole.now.nodes.items) (findings_of self.old) }
+        ensures { OkOrRefused (cells_of whole.now) whole.now.root (λ done. IsMidway (cells_of whole.now) whole.now.root 0 (findings_of self.new)) result }
+    {
+        let mut rest = whole.nodes.len();
+        while rest > 0 {
+            rest -= 1;
+            self.node(whole, rest)?;
         }
+        Ok(())
+    }
+
+    /// Takes a node with all that is known of what stands around it.
+    fn node(&mut self, whole: &Whole, i: usize) -> Result<(), SchemaFault>
+        requires within { i < length whole.now.nodes.items }
+        requires formed { AreWellFormed (cells_of whole.now) whole.now.root }
+        requires behind { IsMidway (cells_of whole.now) whole.now.root (i + 1) (findings_of self.old) }
+        ensures { OkOrRefused (cells_of whole.now) whole.now.root (λ done. IsMidway (cells_of whole.now) whole.now.root i (findings_of self.new)) result }
+    {
+        match self.scopes[i] {
+            Scope::Nowhere => Ok(()),
+            scope => self.standing(i, scope, &whole.nodes[i]),
+        }
+    }
+
+    /// Takes a node that stands in this scope.
+    fn standing(&mut self, i: usize, scope: Scope, node: &Node) -> Result<(), SchemaFault>
+        requires known { i < length (findings_of self.old).links }
+        requires within { (inner : ℕ) → Contains (inner_nodes (cell_of node.now)) inner → inner < length (findings_of self.old).scopes }
+        ensures { TakesCell i scope (cell_of node.now) (findings_of self.old) (findings_of self.new) result }
+    {
         match node {
-            Node::Element(_, part)
-            | Node::Attribute(_, part)
-            | Node::List(part)
-            | Node::Typed(_, _, part)
-            | Node::OneOrMore(part) => self.found.scopes[*part] = scope,
+            Node::Element(_, part) => self.part(*part, scope),
+            Node::Attribute(_, part) => self.part(*part, scope),
+            Node::List(part) => self.part(*part, scope),
+            Node::Typed(_, _, part) => self.part(*part, scope),
+            Node::OneOrMore(part) => self.part(*part, scope),
             Node::Joined(_, first, second) => {
-                self.found.scopes[*first] = scope;
-                self.found.scopes[*second] = scope;
+                self.part(*first, scope);
+                self.part(*second, scope);
             }
-            Node::Ref(name) => self.found.links[i] = self.join_of(scope, name)?,
-            Node::ParentRef(name) => {
-                let outer = self.outer(scope);
-                self.found.links[i] = self.join_of(outer, name)?;
-            }
-            Node::Grammar(clauses) => {
-                self.found.links[i] = self.grammar(scope, clauses.as_slice())?;
-            }
+            Node::Ref(name) => return self.refer(i, scope, name),
+            Node::ParentRef(name) => return self.refer(i, self.outer(scope), name),
+            Node::Grammar(clauses) => return self.grammar(i, scope, clauses.as_slice()),
             Node::Empty | Node::Text | Node::NotAllowed | Node::Value(_, _) => {}
         }
         Ok(())
     }
 
-    /// Numbers an element that stands somewhere.
-    fn number(&mut self, i: usize, node: &Node) -> Result<(), SchemaFault> {
-        if let Node::Element(_, _) = node
-            && self.found.scopes[i] != Scope::Nowhere
-        {
-            self.found.links[i] = self.found.elements.len();
-            self.found.elements.push(i)?;
-        }
-        Ok(())
+    /// A part of a node stands in this scope.
+    fn part(&mut self, part: usize, scope: Scope)
+        requires { part < length (findings_of self.old).scopes }
+        ensures { findings_of self.new ≡ with_given (part ∷ []) scope (findings_of self.old) }
+    {
+        self.scopes[part] = scope;
     }
 
     /// The grammar around a grammar.
-    fn outer(&self, scope: Scope) -> Scope {
+    fn outer(&self, scope: Scope) -> Scope
+        ensures { result ≡ outer_in (findings_of self.now).tables scope }
+    {
         match scope {
-            Scope::In(grammar) => self.tables[grammar].outer,
+            Scope::In(grammar) => match self.tables.get(grammar) {
+                Some(table) => table.outer,
+                None => Scope::Outside,
+            },
             Scope::Outside | Scope::Nowhere => Scope::Outside,
         }
     }
 
     /// The join of a name in a grammar.
-    fn join_of(&self, scope: Scope, name: &Bytes) -> Result<usize, SchemaFault> {
-        if let Scope::In(grammar) = scope
-            && let Some(join) = self.tables[grammar].joins.named(name)
-        {
-            return Ok(*join);
+    fn join_of(&self, scope: Scope, name: &Bytes) -> Option<usize>
+        ensures { result ≡ join_in (findings_of self.now).tables scope name.now }
+    {
+        match scope {
+            Scope::In(grammar) => match self.tables.get(grammar) {
+                Some(table) => table.joins.named(name).copied(),
+                None => None,
+            },
+            Scope::Outside | Scope::Nowhere => None,
         }
-        Err(SchemaFault::Unreadable(Cause::NoDefinition))
     }
 
-    /// Takes a grammar, and answers the join of its start.
-    fn grammar(&mut self, outer: Scope, clauses: &[Clause]) -> Result<usize, SchemaFault> {
-        let scope = Scope::In(self.tables.len());
-        let mut joins = Names::new(self.alloc);
-        for clause in clauses {
-            self.found.scopes[clause.body] = scope;
-            self.clause(&mut joins, clause)?;
-        }
-        let start = match joins.get(&Defined::Start) {
-            Some(start) => *start,
-            None => return Err(SchemaFault::Unreadable(Cause::NoStart)),
-        };
-        self.tables.push(Table { outer, joins })?;
-        Ok(start)
-    }
-
-    /// Adds a definition to those of its name.
-    fn clause(&mut self, joins: &mut Names<usize>, clause: &Clause) -> Result<(), SchemaFault> {
-        let join = match joins.get(&clause.name) {
-            Some(join) => *join,
-            None => {
-                let join = self.found.joins.len();
-                self.found.joins.push(Join {
-                    combine: Combine::Alone,
-                    has_alone: false,
-                    bodies: Vec::new(self.alloc),
-                })?;
-                joins.add(&clause.name, join)?;
-                join
+    /// Links a reference to the join of the name in a grammar.
+    fn refer(&mut self, i: usize, scope: Scope, name: &Bytes) -> Result<(), SchemaFault>
+        requires { i < length (findings_of self.old).links }
+        ensures { Links i (join_in (findings_of self.old).tables scope name.now) (findings_of self.old) (findings_of self.new) result }
+    {
+        match self.join_of(scope, name) {
+            Some(join) => {
+                self.links[i] = join;
+                Ok(())
             }
-        };
-        self.found.joins[join].add(clause.combine, clause.body)
+            None => Err(SchemaFault::Unreadable(Cause::NoDefinition)),
+        }
+    }
+
+    /// Takes a grammar, and links it to the join of its start.
+    fn grammar(&mut self, i: usize, outer: Scope, clauses: &[Clause]) -> Result<(), SchemaFault>
+        requires known { i < length (findings_of self.old).links }
+        requires within { (body : ℕ) → Contains (bodies_of clauses.now) body → body < length (findings_of self.old).scopes }
+        ensures { TakesGrammar i outer clauses.now (findings_of self.old) (findings_of self.new) result }
+    {
+        let scope = Scope::In(self.tables.len());
+        let names = gathered(self.alloc, &mut self.joins, clauses)?;
+        match names.get(&Defined::Start).copied() {
+            Some(start) => {
+                give(&mut self.scopes, clauses, scope);
+                self.links[i] = start;
+                self.tables.push(Table {
+                    outer,
+                    joins: names,
+                })?;
+                Ok(())
+            }
+            None => Err(SchemaFault::Unreadable(Cause::NoStart)),
+        }
     }
 }

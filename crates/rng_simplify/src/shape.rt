@@ -4,9 +4,16 @@
 //! A shape is a form by the numbers of its parts. A form that stands in many places is one shape, so that even a form of very
 //! many nodes is known by few shapes; how large it is, is known without spelling it out.
 
+ghost use Rattle.std.specs.Prelude.{◌≡◌, ◌≢◌, ◌<◌, ℕ, [], Some, length, slice_get};
+ghost use Rattle.rng_simplify.specs.Forms.{list_of, attribute_of, one_or_more_of};
+ghost use Rattle.rng_simplify.specs.Shown.{size_alone, size_around, size_beside, values_beside, class_in, joined_of, IsBehindParts, IsSizeAt, IsSizeOf, head_by, IsHeadAt, Shows, Adds};
+ghost use Rattle.rng_simplify.specs.declared.shape.Shape.TheVariants as variant;
+ghost use Rattle.rng_simplify.specs.declared.node.Sign.TheVariants as signs;
+
 use crate::fault::SchemaFault;
 use crate::node::Sign;
 use std::alloc::Global;
+use std::marker::Model;
 
 /// A form, whose parts are shapes with smaller numbers.
 #[derive(Clone, Copy, Debug, PartialEq, Eq)]
@@ -38,15 +45,43 @@ pub(crate) struct Size {
     pub(crate) values: Option<u64>,
 }
 
-/// Shapes with their sizes.
+/// What a form counts for in others.
+#[derive(Clone, Copy, Debug, PartialEq, Eq)]
+enum Head {
+    NotAllowed,
+    Empty,
+    Other,
+}
+
+/// A shape with its size.
+#[derive(Clone, Copy, Debug, PartialEq, Eq)]
+struct Entry {
+    shape: Shape,
+    size: Size,
+}
+
+/// Shapes with their sizes. To a contract they are the list of the shapes.
 #[derive(Drop)]
 pub(crate) struct Shapes {
-    shapes: Vec<Shape>,
-    sizes: Vec<Size>,
+    entries: Vec<Entry>,
+}
+
+impl Model for Shapes {
+    ghost use Rattle.std.specs.Prelude.{List};
+    ghost use Rattle.rng_simplify.specs.declared.shape.Shape.{Shape};
+    ghost use Rattle.rng_simplify.specs.Shown.{shapes_of, AreSized};
+
+    ghost Value = { List Shape };
+
+    ghost view = { λ s. shapes_of s.entries.items };
+
+    ghost invariant = { λ s. AreSized s.entries.items };
 }
 
 /// The size of a form without parts.
-fn single(values: Option<u64>) -> Size {
+fn single(values: Option<u64>) -> Size
+    ensures { result ≡ size_alone values }
+{
     Size {
         nodes: 1,
         depth: 1,
@@ -55,7 +90,9 @@ fn single(values: Option<u64>) -> Size {
 }
 
 /// The size of a form with one part, which is no choice.
-fn around(part: Size) -> Size {
+fn around(part: Size) -> Size
+    ensures { result ≡ size_around part }
+{
     Size {
         nodes: part.nodes.saturating_add(1),
         depth: part.depth.saturating_add(1),
@@ -63,46 +100,93 @@ fn around(part: Size) -> Size {
     }
 }
 
+/// How many values a form with two parts has.
+fn values_of(sign: Sign, first: Option<u64>, second: Option<u64>) -> Option<u64>
+    ensures { result ≡ values_beside sign first second }
+{
+    match sign {
+        Sign::Choice => match first {
+            Some(first) => match second {
+                Some(second) => Some(first.saturating_add(second)),
+                None => None,
+            },
+            None => None,
+        },
+        Sign::Group => None,
+        Sign::Interleave => None,
+    }
+}
+
 /// The size of a form with two parts.
-fn beside(sign: Sign, first: Size, second: Size) -> Size {
-    let values = match (sign, first.values, second.values) {
-        (Sign::Choice, Some(first), Some(second)) => Some(first.saturating_add(second)),
-        _ => None,
-    };
+fn beside(sign: Sign, first: Size, second: Size) -> Size
+    ensures { result ≡ size_beside sign first second }
+{
     Size {
         nodes: first.nodes.saturating_add(second.nodes).saturating_add(1),
         depth: first.depth.max(second.depth).saturating_add(1),
-        values,
+        values: values_of(sign, first.values, second.values),
+    }
+}
+
+/// What a form of this shape counts for.
+fn head_of(shape: Shape) -> Head
+    ensures { result ≡ head_by shape }
+{
+    match shape {
+        Shape::NotAllowed => Head::NotAllowed,
+        Shape::Empty => Head::Empty,
+        Shape::Text => Head::Other,
+        Shape::Value(_) => Head::Other,
+        Shape::Typed(_) => Head::Other,
+        Shape::Ref(_) => Head::Other,
+        Shape::List(_) => Head::Other,
+        Shape::Attribute(_, _) => Head::Other,
+        Shape::OneOrMore(_) => Head::Other,
+        Shape::Joined(_, _, _) => Head::Other,
     }
 }
 
 impl Shapes {
-    pub(crate) fn new(alloc: Global) -> Shapes {
+    pub(crate) fn new(alloc: Global) -> Shapes
+        ensures { result ≡ [] }
+    {
         Shapes {
-            shapes: Vec::new(alloc),
-            sizes: Vec::new(alloc),
+            entries: Vec::new(alloc),
         }
     }
 
     /// The shape of a number.
-    pub(crate) fn shape(&self, number: usize) -> Shape {
-        self.shapes[number]
+    pub(crate) fn shape(&self, number: usize) -> Shape
+        requires { number < length self.now }
+        ensures there { slice_get self.now number ≡ Some result }
+        ensures behind { IsBehindParts number result }
+    {
+        self.entries[number].shape
     }
 
     /// Its size.
-    pub(crate) fn size(&self, number: usize) -> Size {
-        self.sizes[number]
+    pub(crate) fn size(&self, number: usize) -> Size
+        requires { number < length self.now }
+        ensures { IsSizeAt self.now number result }
+    {
+        self.entries[number].size
     }
 
-    /// The size of a form of these parts.
-    fn size_of(&self, shape: Shape) -> Size {
+    /// The size of a form of this shape.
+    fn size_of(&self, shape: Shape) -> Size
+        requires { IsBehindParts (length self.now) shape }
+        ensures { IsSizeOf self.now shape result }
+    {
         match shape {
             Shape::NotAllowed => single(Some(0)),
+            Shape::Empty => single(None),
+            Shape::Text => single(None),
             Shape::Value(_) => single(Some(1)),
-            Shape::Empty | Shape::Text | Shape::Typed(_) | Shape::Ref(_) => single(None),
-            Shape::List(part) | Shape::Attribute(_, part) | Shape::OneOrMore(part) => {
-                around(self.size(part))
-            }
+            Shape::Typed(_) => single(None),
+            Shape::Ref(_) => single(None),
+            Shape::List(part) => around(self.size(part)),
+            Shape::Attribute(_, part) => around(self.size(part)),
+            Shape::OneOrMore(part) => around(self.size(part)),
             Shape::Joined(sign, first, second) => {
                 beside(sign, self.size(first), self.size(second))
             }
@@ -110,35 +194,57 @@ impl Shapes {
     }
 
     /// A further shape, by its number.
-    pub(crate) fn add(&mut self, shape: Shape) -> Result<usize, SchemaFault> {
-        let number = self.shapes.len();
+    pub(crate) fn add(&mut self, shape: Shape) -> Result<usize, SchemaFault>
+        requires { IsBehindParts (length self.old) shape }
+        ensures { Adds self.old self.new shape result }
+    {
+        let number = self.entries.len();
         let size = self.size_of(shape);
-        self.sizes.push(size)?;
-        self.shapes.push(shape)?;
+        self.entries.push(Entry { shape, size })?;
         Ok(number)
     }
 
+    /// What a form counts for in others.
+    fn head(&self, number: usize) -> Head
+        requires { number < length self.now }
+        ensures { IsHeadAt self.now number result }
+    {
+        head_of(self.shape(number))
+    }
+
     /// Words of this form.
-    pub(crate) fn list(&mut self, part: usize) -> Result<usize, SchemaFault> {
-        match self.shape(part) {
-            Shape::NotAllowed => Ok(part),
-            _ => self.add(Shape::List(part)),
+    pub(crate) fn list(&mut self, part: usize) -> Result<usize, SchemaFault>
+        requires { part < length self.old }
+        ensures { Shows self.old self.new variant.Empty (λ cells at. list_of (at part)) result }
+    {
+        match self.head(part) {
+            Head::NotAllowed => Ok(part),
+            Head::Empty => self.add(Shape::List(part)),
+            Head::Other => self.add(Shape::List(part)),
         }
     }
 
     /// An attribute with the class of the node and this value.
-    pub(crate) fn attribute(&mut self, node: usize, part: usize) -> Result<usize, SchemaFault> {
-        match self.shape(part) {
-            Shape::NotAllowed => Ok(part),
-            _ => self.add(Shape::Attribute(node, part)),
+    pub(crate) fn attribute(&mut self, node: usize, part: usize) -> Result<usize, SchemaFault>
+        requires { part < length self.old }
+        ensures { Shows self.old self.new (variant.Attribute node part) (λ cells at. attribute_of (class_in (slice_get cells node)) (at part)) result }
+    {
+        match self.head(part) {
+            Head::NotAllowed => Ok(part),
+            Head::Empty => self.add(Shape::Attribute(node, part)),
+            Head::Other => self.add(Shape::Attribute(node, part)),
         }
     }
 
     /// One or more of this form.
-    pub(crate) fn one_or_more(&mut self, part: usize) -> Result<usize, SchemaFault> {
-        match self.shape(part) {
-            Shape::NotAllowed | Shape::Empty => Ok(part),
-            _ => self.add(Shape::OneOrMore(part)),
+    pub(crate) fn one_or_more(&mut self, part: usize) -> Result<usize, SchemaFault>
+        requires { part < length self.old }
+        ensures { Shows self.old self.new variant.Empty (λ cells at. one_or_more_of (at part)) result }
+    {
+        match self.head(part) {
+            Head::NotAllowed => Ok(part),
+            Head::Empty => Ok(part),
+            Head::Other => self.add(Shape::OneOrMore(part)),
         }
     }
 
@@ -148,30 +254,54 @@ impl Shapes {
         sign: Sign,
         first: usize,
         second: usize,
-    ) -> Result<usize, SchemaFault> {
+    ) -> Result<usize, SchemaFault>
+        requires one { first < length self.old }
+        requires other { second < length self.old }
+        ensures { Shows self.old self.new variant.Empty (λ cells at. joined_of sign (at first) (at second)) result }
+    {
         match sign {
             Sign::Choice => self.choice(first, second),
-            Sign::Group | Sign::Interleave => self.beside(sign, first, second),
+            Sign::Group => self.both(sign, first, second),
+            Sign::Interleave => self.both(sign, first, second),
         }
     }
 
-    fn choice(&mut self, first: usize, second: usize) -> Result<usize, SchemaFault> {
-        match (self.shape(first), self.shape(second)) {
-            (Shape::NotAllowed, _) => Ok(second),
-            (_, Shape::NotAllowed) => Ok(first),
-            (Shape::Empty, Shape::Empty) => Ok(first),
-            (_, Shape::Empty) => self.add(Shape::Joined(Sign::Choice, second, first)),
-            (_, _) => self.add(Shape::Joined(Sign::Choice, first, second)),
+    /// Either of the two.
+    fn choice(&mut self, first: usize, second: usize) -> Result<usize, SchemaFault>
+        requires one { first < length self.old }
+        requires other { second < length self.old }
+        ensures { Shows self.old self.new variant.Empty (λ cells at. joined_of signs.Choice (at first) (at second)) result }
+    {
+        match self.head(first) {
+            Head::NotAllowed => Ok(second),
+            Head::Empty => match self.head(second) {
+                Head::NotAllowed => Ok(first),
+                Head::Empty => Ok(first),
+                Head::Other => self.add(Shape::Joined(Sign::Choice, first, second)),
+            },
+            Head::Other => match self.head(second) {
+                Head::NotAllowed => Ok(first),
+                Head::Empty => self.add(Shape::Joined(Sign::Choice, second, first)),
+                Head::Other => self.add(Shape::Joined(Sign::Choice, first, second)),
+            },
         }
     }
 
-    fn beside(&mut self, sign: Sign, first: usize, second: usize) -> Result<usize, SchemaFault> {
-        match (self.shape(first), self.shape(second)) {
-            (Shape::NotAllowed, _) => Ok(first),
-            (_, Shape::NotAllowed) => Ok(second),
-            (Shape::Empty, _) => Ok(second),
-            (_, Shape::Empty) => Ok(first),
-            (_, _) => self.add(Shape::Joined(sign, first, second)),
+    /// The two of them, by a sign that is no choice.
+    fn both(&mut self, sign: Sign, first: usize, second: usize) -> Result<usize, SchemaFault>
+        requires no_choice { sign ≢ signs.Choice }
+        requires one { first < length self.old }
+        requires other { second < length self.old }
+        ensures { Shows self.old self.new variant.Empty (λ cells at. joined_of sign (at first) (at second)) result }
+    {
+        match self.head(first) {
+            Head::NotAllowed => Ok(first),
+            Head::Empty => Ok(second),
+            Head::Other => match self.head(second) {
+                Head::NotAllowed => Ok(second),
+                Head::Empty => Ok(first),
+                Head::Other => self.add(Shape::Joined(sign, first, second)),
+            },
         }
     }
 }

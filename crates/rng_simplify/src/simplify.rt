@@ -1,15 +1,14 @@
 //! The grammar that schema files define.
 
 use crate::build::Builder;
-use crate::class::{check_attribute_class, check_element_class};
 use crate::compose::Whole;
 use crate::fault::SchemaFault;
-use crate::form::{Forms, forms_of};
+use crate::form::forms_of;
+use crate::judge::check_classes;
 use crate::limit::check_size;
-use crate::node::Node;
 use crate::order::order;
-use crate::resolve::{Resolved, Scope, resolve};
-use crate::types::{NodeType, type_of};
+use crate::resolve::resolve;
+use crate::types::types_of;
 use crate::whole::whole_schema;
 use nx_host::files::Files;
 use rng_core::grammar::Grammar;
@@ -26,10 +25,10 @@ pub fn simplify<F: Files>(alloc: Global, uri: &str, files: &mut F) -> Result<Gra
 fn grammar_of(alloc: Global, whole: &Whole) -> Result<Grammar, SchemaFault> {
     let nodes = whole.nodes.as_slice();
     let found = resolve(alloc, whole)?;
-    check_classes(nodes, &found)?;
-    let order = order(alloc, nodes, &found)?;
+    check_classes(whole, &found)?;
+    let order = order(alloc, whole, &found)?;
     let forms = forms_of(alloc, nodes, &found, order.as_slice())?;
-    let types = types_of(alloc, nodes, &found, &forms)?;
+    let types = types_of(alloc, nodes, &forms, order.as_slice())?;
     check_size(nodes, &forms, whole.root, found.elements.as_slice())?;
     let builder = Builder {
         alloc,
@@ -38,36 +37,4 @@ fn grammar_of(alloc: Global, whole: &Whole) -> Result<Grammar, SchemaFault> {
         types: types.as_slice(),
     };
     builder.grammar(whole.root, found.elements.as_slice())
-}
-
-/// Refuses a class that no schema may have.
-fn check_classes(nodes: &[Node], found: &Resolved) -> Result<(), SchemaFault> {
-    for i in 0..nodes.len() {
-        if found.scopes[i] != Scope::Nowhere {
-            match &nodes[i] {
-                Node::Element(class, _) => check_element_class(class)?,
-                Node::Attribute(class, _) => check_attribute_class(class)?,
-                _ => {}
-            }
-        }
-    }
-    Ok(())
-}
-
-/// The types of the nodes that stand in the schema and have one.
-fn types_of(
-    alloc: Global,
-    nodes: &[Node],
-    found: &Resolved,
-    forms: &Forms,
-) -> Result<Vec<Option<NodeType>>, SchemaFault> {
-    let mut types = Vec::with_capacity(alloc, nodes.len())?;
-    for i in 0..nodes.len() {
-        if found.scopes[i] == Scope::Nowhere {
-            types.push(None)?;
-        } else {
-            types.push(type_of(alloc, nodes, forms, &nodes[i])?)?;
-        }
-    }
-    Ok(types)
 }

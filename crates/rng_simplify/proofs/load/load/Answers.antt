@@ -11,32 +11,54 @@ pub returns-in_err-open : goal.returns-in_err-open
 returns-in_err-open g c =
     let f = g.F.Files in
     let p = err_from_is_err_and c.from_residual-in_err-open.result c.from_residual-in_err-open.ensures.1 in
-    rw (p.1, p.2) (begins_from {A = Unit {0}} (f.told c.args.files.now) c.args.uri.now c.from_vec-first.result c.new-3.result (f.faults c.args.files.now) (f.faults c.open.new.files) c.new.result.items c.open.new.self.chain.items c.new-2.result.items c.open.new.self.loaded.items (Err c.in_err-open.field-0.0)
-    (c.from_vec-first.ensures ∙ c.in_ok-from_slice.ensures.items ∙ c.as_bytes.ensures.value) c.new-3.ensures c.new.ensures.items c.new-2.ensures.items c.in_err-open.ensures.opened)
+    rw (p.1, p.2) (begins_from {A = Unit {0}} (f.told c.args.files.now) c.args.uri.now c.from_vec-first.result c.new-3.result
+    (f.faults c.args.files.now) (f.faults c.open.new.files) c.new.result.items c.open.new.self.chain.items c.new-2.result.items
+    c.open.new.self.loaded.items (Err c.in_err-open.field-0.0)
+    (c.from_vec-first.ensures ∙ c.in_ok-from_slice.ensures.items ∙ c.as_bytes.ensures.value) c.new-3.ensures c.new.ensures.items
+    c.new-2.ensures.items c.in_err-open.ensures.opened)
 
 pub follow-requires : goal.follow-requires
 follow-requires g c =
     let f = g.F.Files in
-    opened_texts (f.told c.args.files.now) c.from_vec-first.result c.new-3.result (f.faults c.args.files.now) (f.faults c.open.new.files) c.new.result.items c.open.new.self.chain.items c.new-2.result.items c.open.new.self.loaded.items (Ok c.in_ok-open.field-0) (subst (λ ns. IsUtf8 ns) (sym c.new-3.ensures) IsUtf8-nil)
-    (subst (λ u. IsUtf8 u) (sym (c.from_vec-first.ensures ∙ c.in_ok-from_slice.ensures.items)) c.as_bytes.ensures.utf8) (subst (λ links. AreTextLinks (reverse links)) (sym c.new.ensures.items) tt) c.in_ok-open.ensures.opened
+    opened_texts (f.told c.args.files.now) c.from_vec-first.result c.new-3.result (f.faults c.args.files.now) (f.faults c.open.new.files)
+    c.new.result.items c.open.new.self.chain.items c.new-2.result.items c.open.new.self.loaded.items (Ok c.in_ok-open.field-0)
+    (subst (λ ns. IsUtf8 ns) (sym c.new-3.ensures) IsUtf8-nil)
+    (subst (λ u. IsUtf8 u) (sym (c.from_vec-first.ensures ∙ c.in_ok-from_slice.ensures.items)) c.as_bytes.ensures.utf8)
+    (subst (λ links. AreTextLinks (reverse links)) (sym c.new.ensures.items) tt) c.in_ok-open.ensures.opened
 
 pub returns-in_err-follow : goal.returns-in_err-follow
 returns-in_err-follow g c =
     let f = g.F.Files in
     let p = err_from_is_err_and c.from_residual-in_err-follow.result c.from_residual-in_err-follow.ensures.1 in
-    let under : IsUnderWay (f.told c.args.files.now) c.args.uri.now (reverse c.open.new.self.chain.items) c.open.new.self.loaded.items = begins_from (f.told c.args.files.now) c.args.uri.now c.from_vec-first.result c.new-3.result (f.faults c.args.files.now) (f.faults c.open.new.files) c.new.result.items c.open.new.self.chain.items c.new-2.result.items c.open.new.self.loaded.items (Ok c.in_ok-open.field-0)
-    (c.from_vec-first.ensures ∙ c.in_ok-from_slice.ensures.items ∙ c.as_bytes.ensures.value) c.new-3.ensures c.new.ensures.items c.new-2.ensures.items c.in_ok-open.ensures.opened in
-    let at_files : IsUnderWay (f.told c.open.new.files) c.args.uri.now (reverse c.open.new.self.chain.items) c.open.new.self.loaded.items = subst (λ told. IsUnderWay told c.args.uri.now (reverse c.open.new.self.chain.items) c.open.new.self.loaded.items) (sym c.in_ok-open.ensures.map) under in
-    rw (p.1, p.2) (answers_alike (f.told c.open.new.files) (f.told c.args.files.now) c.args.uri.now (f.faults c.open.new.files) (f.faults c.args.files.now) (f.faults c.follow.new.files) c.in_err-follow.field-0.0 c.in_ok-open.ensures.map c.in_ok-open.ensures.opened.4 (c.in_err-follow.ensures c.args.uri.now at_files))
+    let under : IsUnderWay (f.told c.args.files.now) c.args.uri.now (reverse c.open.new.self.chain.items) c.open.new.self.loaded.items =
+    begins_from (f.told c.args.files.now) c.args.uri.now c.from_vec-first.result c.new-3.result (f.faults c.args.files.now)
+    (f.faults c.open.new.files) c.new.result.items c.open.new.self.chain.items c.new-2.result.items c.open.new.self.loaded.items
+    (Ok c.in_ok-open.field-0)
+    (c.from_vec-first.ensures ∙ c.in_ok-from_slice.ensures.items ∙ c.as_bytes.ensures.value) c.new-3.ensures c.new.ensures.items
+    c.new-2.ensures.items c.in_ok-open.ensures.opened in
+    let at_files : IsUnderWay (f.told c.open.new.files) c.args.uri.now (reverse c.open.new.self.chain.items) c.open.new.self.loaded.items =
+    subst (λ told. IsUnderWay told c.args.uri.now (reverse c.open.new.self.chain.items) c.open.new.self.loaded.items)
+    (sym c.in_ok-open.ensures.map) under in
+    rw (p.1, p.2) (answers_alike (f.told c.open.new.files) (f.told c.args.files.now) c.args.uri.now (f.faults c.open.new.files)
+    (f.faults c.args.files.now) (f.faults c.follow.new.files) c.in_err-follow.field-0.0 c.in_ok-open.ensures.map
+    c.in_ok-open.ensures.opened.4 (c.in_err-follow.ensures c.args.uri.now at_files))
 
 pub returns : goal.returns
 returns g c =
     let f = g.F.Files in
-    let under : IsUnderWay (f.told c.args.files.now) c.args.uri.now (reverse c.open.new.self.chain.items) c.open.new.self.loaded.items = begins_from (f.told c.args.files.now) c.args.uri.now c.from_vec-first.result c.new-3.result (f.faults c.args.files.now) (f.faults c.open.new.files) c.new.result.items c.open.new.self.chain.items c.new-2.result.items c.open.new.self.loaded.items (Ok c.in_ok-open.field-0)
-    (c.from_vec-first.ensures ∙ c.in_ok-from_slice.ensures.items ∙ c.as_bytes.ensures.value) c.new-3.ensures c.new.ensures.items c.new-2.ensures.items c.in_ok-open.ensures.opened in
-    let at_files : IsUnderWay (f.told c.open.new.files) c.args.uri.now (reverse c.open.new.self.chain.items) c.open.new.self.loaded.items = subst (λ told. IsUnderWay told c.args.uri.now (reverse c.open.new.self.chain.items) c.open.new.self.loaded.items) (sym c.in_ok-open.ensures.map) under in
+    let under : IsUnderWay (f.told c.args.files.now) c.args.uri.now (reverse c.open.new.self.chain.items) c.open.new.self.loaded.items =
+    begins_from (f.told c.args.files.now) c.args.uri.now c.from_vec-first.result c.new-3.result (f.faults c.args.files.now)
+    (f.faults c.open.new.files) c.new.result.items c.open.new.self.chain.items c.new-2.result.items c.open.new.self.loaded.items
+    (Ok c.in_ok-open.field-0)
+    (c.from_vec-first.ensures ∙ c.in_ok-from_slice.ensures.items ∙ c.as_bytes.ensures.value) c.new-3.ensures c.new.ensures.items
+    c.new-2.ensures.items c.in_ok-open.ensures.opened in
+    let at_files : IsUnderWay (f.told c.open.new.files) c.args.uri.now (reverse c.open.new.self.chain.items) c.open.new.self.loaded.items =
+    subst (λ told. IsUnderWay told c.args.uri.now (reverse c.open.new.self.chain.items) c.open.new.self.loaded.items)
+    (sym c.in_ok-open.ensures.map) under in
     let done = c.in_ok-follow.ensures c.args.uri.now at_files in
-    let back : reverse c.reverse.new.self.items ≡ c.follow.new.self.loaded.items = ap reverse c.reverse.ensures.items ∙ reverse-reverse c.follow.new.self.loaded.items in (
-      subst (λ files. AllLoaded (f.told c.args.files.now) c.args.uri.now files) (sym back) (subst (λ told. AllLoaded told c.args.uri.now c.follow.new.self.loaded.items) c.in_ok-open.ensures.map done.0),
+    let back : reverse c.reverse.new.self.items ≡ c.follow.new.self.loaded.items =
+    ap reverse c.reverse.ensures.items ∙ reverse-reverse c.follow.new.self.loaded.items in (
+      subst (λ files. AllLoaded (f.told c.args.files.now) c.args.uri.now files) (sym back)
+          (subst (λ told. AllLoaded told c.args.uri.now c.follow.new.self.loaded.items) c.in_ok-open.ensures.map done.0),
       done.1 ∙ c.in_ok-open.ensures.opened.4,
     )

@@ -8,5 +8,6 @@ invariant-loop-turn g l = record {
   texts : AreTextLinks (reverse l.self.chain.items);
   map : g.F.Files.told l.files ≡ g.F.Files.told l.fn.files;
   faults : g.F.Files.faults l.files ≡ g.F.Files.faults l.fn.files;
-  under_way : (uri : List ℕ) → IsUnderWay (g.F.Files.told l.fn.files) uri (reverse l.fn.self.chain.items) l.fn.self.loaded.items → IsUnderWay (g.F.Files.told l.fn.files) uri (reverse l.self.chain.items) l.self.loaded.items;
+  under_way : (uri : List ℕ) → IsUnderWay (g.F.Files.told l.fn.files) uri (reverse l.fn.self.chain.items) l.fn.self.loaded.items →
+      IsUnderWay (g.F.Files.told l.fn.files) uri (reverse l.self.chain.items) l.self.loaded.items;
 }

@@ -1,0 +1,44 @@
+use Rattle.std.proofs.Common.{◌≡◌, ◌-◌, ◌<◌, ◌≤◌, sym, ◌∙◌, length, arith}
+use Rattle.std.proofs.lemmas.List.{get_or_read, length-map}
+use Rattle.rng_simplify.specs.Cells.{cell_of}
+use Rattle.rng_simplify.proofs.WalkTurns.{leads_linked, leads_parts, leads_bodies, link_fits, join_there}
+use Rattle.rng_simplify.proofs.order.next.Goals as goal
+
+pub overflow_add-len : goal.overflow_add-len
+overflow_add-len c =
+    let nodes = c.args.whole.now.nodes.items in
+    let links = c.args.found.now.links.items in
+    let within : c.args.node < length nodes = omega (arith, c.if-node-len.true, c.len.ensures, c.args.whole.now.nodes.ok.0) in
+    let known : c.args.node < length links = omega (arith, within, c.requires.resolved.all_links, length-map nodes cell_of) in
+    let link = get_or_read links c.args.node c.index.result.now known c.index.ensures 0 in
+    let fits = link_fits nodes c.args.whole.now.root c.args.found.now c.args.node c.index-here.result.now c.requires.formed c.requires.resolved c.requires.met within c.index-here.ensures (sym c.is_linked.ensures ∙ c.if-is_linked.true) in
+    omega (arith, link, fits, c.requires.room, c.len-then-is_linked.ensures, c.args.whole.now.nodes.ok.0)
+
+pub index-requires-else-node-len : goal.index-requires-else-node-len
+index-requires-else-node-len c =
+    let nodes = c.args.whole.now.nodes.items in
+    let past : length nodes ≤ c.args.node = omega (arith, c.if-node-len.false, c.len.ensures, c.args.whole.now.nodes.ok.0) in
+    let there = join_there nodes c.args.whole.now.root c.args.found.now c.args.node c.requires.formed c.requires.met past in
+    omega (arith, there, c.len-else-node-len.ensures, c.args.whole.now.nodes.ok.0, c.args.found.now.joins.ok.0)
+
+pub returns-then-is_linked-clause-next_is : goal.returns-then-is_linked-clause-next_is
+returns-then-is_linked-clause-next_is c =
+    let nodes = c.args.whole.now.nodes.items in
+    let links = c.args.found.now.links.items in
+    let within : c.args.node < length nodes = omega (arith, c.if-node-len.true, c.len.ensures, c.args.whole.now.nodes.ok.0) in
+    let known : c.args.node < length links = omega (arith, within, c.requires.resolved.all_links, length-map nodes cell_of) in
+    c.only.ensures ∙ leads_linked nodes c.args.found.now c.args.node c.index.result.now c.args.k c.index-here.result.now within c.index-here.ensures (sym c.is_linked.ensures ∙ c.if-is_linked.true) (get_or_read links c.args.node c.index.result.now known c.index.ensures 0) _ (omega (arith, c.len-then-is_linked.ensures, c.args.whole.now.nodes.ok.0))
+
+pub returns-else-is_linked-clause-next_is : goal.returns-else-is_linked-clause-next_is
+returns-else-is_linked-clause-next_is c =
+    let nodes = c.args.whole.now.nodes.items in
+    let within : c.args.node < length nodes = omega (arith, c.if-node-len.true, c.len.ensures, c.args.whole.now.nodes.ok.0) in
+    c.part.ensures ∙ leads_parts nodes c.args.found.now c.args.node c.args.k c.index-here.result.now within c.index-here.ensures (sym c.is_linked.ensures ∙ c.if-is_linked.false)
+
+pub returns-else-node-len-clause-next_is : goal.returns-else-node-len-clause-next_is
+returns-else-node-len-clause-next_is c =
+    let nodes = c.args.whole.now.nodes.items in
+    let past : length nodes ≤ c.args.node = omega (arith, c.if-node-len.false, c.len.ensures, c.args.whole.now.nodes.ok.0) in
+    let there = join_there nodes c.args.whole.now.root c.args.found.now c.args.node c.requires.formed c.requires.met past in
+    let number : c.args.node - c.len-else-node-len.result ≡ c.args.node - length nodes = omega (arith, c.len-else-node-len.ensures, c.args.whole.now.nodes.ok.0) in
+    c.body.ensures.body_is ∙ leads_bodies nodes c.args.found.now c.args.node (c.args.node - c.len-else-node-len.result) c.args.k c.index-else-node-len.result.now past number (omega (arith, number, there)) c.index-else-node-len.ensures

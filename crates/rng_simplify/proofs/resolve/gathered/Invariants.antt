@@ -1,0 +1,10 @@
+-- the definitions so far are gathered
+use Rattle.std.proofs.Common.{take, length}
+use Rattle.rng_simplify.specs.Scoping.{IsGathered, KeepsFirst}
+use Rattle.rng_simplify.proofs.resolve.gathered.Given as goal
+
+abbrev pub invariant-loop-clause : goal.invariant-loop-clause
+invariant-loop-clause l = record {
+  so_far : IsGathered (length l.initial.joins.items) (take l.clause-index l.clauses) l.names l.joins.items;
+  kept : KeepsFirst (length l.initial.joins.items) l.initial.joins.items l.joins.items;
+}

@@ -1,0 +1,251 @@
+-- What is known while references are resolved: the nodes behind some number are taken, each with what stands around it.
+use Rattle.std.specs.Prelude.{◌≡◌, ◌≢◌, ℕ, ◌<◌, ◌≤◌, Bool, true, false, List, [], ◌∷◌, ◌++◌, length, set, replicate, slice_get, slice_index, slice_index_or, Option, Some, None, Result, Ok, Err, Contains, Vec}
+use Rattle.std.specs.List.{list_any}
+use Rattle.std.specs.declared.alloc.Global.{Global}
+use Rattle.rng_core.specs.Names.{Class}
+use Rattle.nx_base.specs.declared.cause.Cause.TheVariants as cause
+use Rattle.rnc_parse.specs.declared.surface.Defined.{Defined}
+use Rattle.rnc_parse.specs.declared.surface.Defined.TheVariants as defined
+use Rattle.rnc_parse.specs.declared.surface.Combine.{Combine}
+use Rattle.rnc_parse.specs.declared.surface.Combine.TheVariants as combine
+use Rattle.rng_simplify.specs.declared.fault.SchemaFault.{SchemaFault}
+use Rattle.rng_simplify.specs.declared.fault.SchemaFault.TheVariants.{NoMemory, Unreadable}
+use Rattle.rng_simplify.specs.declared.names.Names.{Names}
+use Rattle.rng_simplify.specs.declared.node.Clause.{Clause}
+use Rattle.rng_simplify.specs.declared.resolve.Join.{Join}
+use Rattle.rng_simplify.specs.declared.resolve.Table.{Table}
+use Rattle.rng_simplify.specs.declared.resolve.Resolver.{Resolver}
+use Rattle.rng_simplify.specs.declared.resolve.Scope.{Scope}
+use Rattle.rng_simplify.specs.declared.resolve.Scope.TheVariants.{Nowhere, Outside, In}
+use Rattle.rng_simplify.specs.Broken.{clash, is_alone}
+use Rattle.rng_simplify.specs.Cells.{Cell}
+use Rattle.rng_simplify.specs.Cells as cell
+use Rattle.rng_simplify.specs.Denoting.{IsCell}
+use Rattle.rng_simplify.specs.Forms.{combine_of}
+use Rattle.rng_simplify.specs.Keeping.{kept_named, kept_for}
+use Rattle.rng_simplify.specs.Standing.{bodies_of, inner_nodes, Stands, IsStanding}
+use Rattle.rng_simplify.specs.Resolving.{clauses_of, combines_of, IsJoined, IsJoinedIn, IsJoinedOutside, IsOfGrammar}
+
+-- ---- joins
+
+-- how a join is joined is what these say
+pub record HasSigns (combines : List Combine) (join : Join) : Type 0 where
+  pub combine_is : join.combine ≡ combine_of combines
+  pub alone_is : join.has_alone ≡ list_any is_alone combines
+  pub no_clash : clash combines ≡ false
+
+-- what two say together, if they don't say it in two ways
+abbrev pub both_say : Combine → Combine → Option Combine
+both_say before combine.Alone = Some before
+both_say combine.Alone combine.Choice = Some combine.Choice
+both_say combine.Alone combine.Interleave = Some combine.Interleave
+both_say combine.Choice combine.Choice = Some combine.Choice
+both_say combine.Choice combine.Interleave = None
+both_say combine.Interleave combine.Choice = None
+both_say combine.Interleave combine.Interleave = Some combine.Interleave
+
+-- one more definition in a join
+abbrev pub AddsTo : {A : Type 0} → Combine → ℕ → Join → Join → Result A SchemaFault → Type 0
+AddsTo combine body old new (Ok done) =
+    (new.bodies.items ≡ old.bodies.items ++ body ∷ []) × ((combines : List Combine) → HasSigns combines old → HasSigns (combines ++ combine ∷ []) new)
+AddsTo combine body old new (Err NoMemory) = Unit {0}
+AddsTo combine body old new (Err (Unreadable cause.CombineClash)) = (combines : List Combine) → HasSigns combines old → clash (combines ++ combine ∷ []) ≡ true
+AddsTo combine body old new (Err other) = ⊥
+
+-- the join of these definitions of a name
+pub record IsJoinOf (clauses : List Clause) (join : Join) : Type 0 where
+  pub some : clauses ≢ []
+  pub bodies_are : join.bodies.items ≡ bodies_of clauses
+  pub signs : HasSigns (combines_of clauses) join
+
+-- the join of a name among definitions is behind others
+abbrev pub IsGatheredAs : ℕ → List Clause → List Join → Defined → Option ℕ → Type 0
+IsGatheredAs first clauses joins name None = clauses_of name clauses ≡ []
+IsGatheredAs first clauses joins name (Some number) =
+    (join : Join) × (first ≤ number) × (slice_get joins number ≡ Some join) × IsJoinOf (clauses_of name clauses) join
+
+-- the names that are defined have their joins, which are those from a number on
+pub record IsGathered (first : ℕ) (clauses : List Clause) (names : Names ℕ) (joins : List Join) : Type 0 where
+  pub behind : first ≤ length joins
+  pub gathered : (name : Defined) → IsGatheredAs first clauses joins name (kept_for names name)
+  pub apart : (name other : Defined) (number : ℕ) → kept_for names name ≡ Some number → kept_for names other ≡ Some number → name ≡ other
+  pub each : (number : ℕ) → first ≤ number → number < length joins → (name : Defined) × (kept_for names name ≡ Some number)
+
+-- joins before this number are as they were
+abbrev pub KeepsFirst : ℕ → List Join → List Join → Type 0
+KeepsFirst first old new = (number : ℕ) → number < first → slice_get new number ≡ slice_get old number
+
+-- one more definition is gathered
+abbrev pub GathersOne : {A : Type 0} → ℕ → List Clause → Clause → List Join → Names ℕ → List Join → Result A SchemaFault → Type 0
+GathersOne first clauses clause old names new (Ok done) = IsGathered first (clauses ++ clause ∷ []) names new × KeepsFirst first old new
+GathersOne first clauses clause old names new (Err NoMemory) = Unit {0}
+GathersOne first clauses clause old names new (Err (Unreadable cause.CombineClash)) = clash (combines_of (clauses_of clause.name (clauses ++ clause ∷ []))) ≡ true
+GathersOne first clauses clause old names new (Err other) = ⊥
+
+-- definitions are gathered behind the joins that there are
+abbrev pub Gathers : List Clause → List Join → List Join → Result (Names ℕ) SchemaFault → Type 0
+Gathers clauses old new (Ok names) = IsGathered (length old) clauses names new × KeepsFirst (length old) old new
+Gathers clauses old new (Err NoMemory) = Unit {0}
+Gathers clauses old new (Err (Unreadable cause.CombineClash)) = (name : Defined) × (clash (combines_of (clauses_of name clauses)) ≡ true)
+Gathers clauses old new (Err other) = ⊥
+
+-- ---- what is found so far
+
+pub record Findings : Type 0 where
+  pub tables : List Table
+  pub scopes : List Scope
+  pub links : List ℕ
+  pub joins : List Join
+
+abbrev pub findings_of : Resolver → Findings
+findings_of resolver = record { tables = resolver.tables.items; scopes = resolver.scopes.items; links = resolver.links.items; joins = resolver.joins.items }
+
+-- nothing is known but that the root stands outside of all grammars
+abbrev pub findings_at_first : ℕ → ℕ → Findings
+findings_at_first count root = record { tables = []; scopes = set (replicate count Nowhere) root Outside; links = replicate count 0; joins = [] }
+
+-- these nodes have this scope
+abbrev pub given : List ℕ → Scope → List Scope → List Scope
+given [] scope scopes = scopes
+given (i ∷ more) scope scopes = given more scope (set scopes i scope)
+
+abbrev pub with_given : List ℕ → Scope → Findings → Findings
+with_given nodes scope now = record now { scopes = given nodes scope now.scopes }
+
+abbrev pub with_link : ℕ → ℕ → Findings → Findings
+with_link i link now = record now { links = set now.links i link }
+
+-- the grammar around a grammar
+abbrev pub outer_of : Option Table → Scope
+outer_of (Some table) = table.outer
+outer_of None = Outside
+
+abbrev pub outer_in : List Table → Scope → Scope
+outer_in tables Nowhere = Outside
+outer_in tables Outside = Outside
+outer_in tables (In k) = outer_of (slice_get tables k)
+
+-- the join of a name in a grammar
+abbrev pub join_of_table : List ℕ → Option Table → Option ℕ
+join_of_table name (Some table) = kept_named table.joins name
+join_of_table name None = None
+
+abbrev pub join_in : List Table → Scope → List ℕ → Option ℕ
+join_in tables Nowhere name = None
+join_in tables Outside name = None
+join_in tables (In k) name = join_of_table name (slice_get tables k)
+
+-- a reference is linked to this join
+abbrev pub Links : {A : Type 0} → ℕ → Option ℕ → Findings → Findings → Result A SchemaFault → Type 0
+Links i (Some join) old new (Ok done) = new ≡ with_link i join old
+Links i None old new (Err (Unreadable cause.NoDefinition)) = Unit {0}
+Links i join old new result = ⊥
+
+-- a grammar is taken, of which these are the names
+pub record HasTable (i : ℕ) (outer : Scope) (clauses : List Clause) (old new : Findings) : Type 0 where
+  pub names : Names ℕ
+  pub start : ℕ
+  pub gathered : IsGathered (length old.joins) clauses names new.joins
+  pub kept : KeepsFirst (length old.joins) old.joins new.joins
+  pub start_is : kept_for names defined.Start ≡ Some start
+  pub tables_are : new.tables ≡ old.tables ++ record { outer = outer; joins = names } ∷ []
+  pub scopes_are : new.scopes ≡ given (bodies_of clauses) (In (length old.tables)) old.scopes
+  pub links_are : new.links ≡ set old.links i start
+
+abbrev pub TakesGrammar : {A : Type 0} → ℕ → Scope → List Clause → Findings → Findings → Result A SchemaFault → Type 0
+TakesGrammar i outer clauses old new (Ok done) = HasTable i outer clauses old new
+TakesGrammar i outer clauses old new (Err NoMemory) = Unit {0}
+TakesGrammar i outer clauses old new (Err (Unreadable cause.NoStart)) = clauses_of defined.Start clauses ≡ []
+TakesGrammar i outer clauses old new (Err (Unreadable cause.CombineClash)) = (name : Defined) × (clash (combines_of (clauses_of name clauses)) ≡ true)
+TakesGrammar i outer clauses old new (Err other) = ⊥
+
+-- a node that stands in the schema is taken, where all that comes behind is
+abbrev pub TakesCell : {A : Type 0} → ℕ → Scope → Cell → Findings → Findings → Result A SchemaFault → Type 0
+TakesCell i scope (cell.ref name) old new result = Links i (join_in old.tables scope name) old new result
+TakesCell i scope (cell.parent_ref name) old new result = Links i (join_in old.tables (outer_in old.tables scope) name) old new result
+TakesCell i scope (cell.grammar clauses) old new result = TakesGrammar i scope clauses old new result
+TakesCell i scope c old new (Ok done) = new ≡ with_given (inner_nodes c) scope old
+TakesCell i scope c old new (Err other) = ⊥
+
+-- ---- what it says
+
+-- the names of a grammar's table have the joins of what it defines
+abbrev pub IsKept : List Cell → List Join → ℕ → List Clause → Defined → Option ℕ → Type 0
+IsKept cells joins grammar clauses name None = clauses_of name clauses ≡ []
+IsKept cells joins grammar clauses name (Some number) = IsJoined cells joins grammar name number
+
+pub record IsTable (cells : List Cell) (joins : List Join) (grammar : ℕ) (names : Names ℕ) : Type 0 where
+  pub clauses : List Clause
+  pub is_grammar : IsCell cells grammar (cell.grammar clauses)
+  pub kept : (name : Defined) → IsKept cells joins grammar clauses name (kept_for names name)
+
+-- a scope is these grammars
+pub data IsScope (cells : List Cell) (joins : List Join) (tables : List Table) : Scope → List ℕ → Type 0 where
+  outside : IsScope cells joins tables Outside []
+  inside : {k grammar : ℕ} {table : Table} {outers : List ℕ} → slice_get tables k ≡ Some table → IsTable cells joins grammar table.joins → IsScope cells joins tables table.outer outers → IsScope cells joins tables (In k) (grammar ∷ outers)
+
+-- the node stands in the schema, in the grammars of the scope
+pub record IsPosted (cells : List Cell) (root : ℕ) (now : Findings) (scope : Scope) (i : ℕ) : Type 0 where
+  pub outers : List ℕ
+  pub stands : Stands cells root outers i
+  pub is_scope : IsScope cells now.joins now.tables scope outers
+
+-- what is known of a node that was taken
+abbrev pub IsTaken : List Cell → List Join → List ℕ → ℕ → ℕ → Cell → Type 0
+IsTaken cells joins outers i link (cell.ref name) = IsJoinedIn cells joins outers (defined.Name name) link
+IsTaken cells joins outers i link (cell.parent_ref name) = IsJoinedOutside cells joins outers (defined.Name name) link
+IsTaken cells joins outers i link (cell.grammar clauses) =
+    IsJoined cells joins i defined.Start link × ((name : Defined) → clash (combines_of (clauses_of name clauses)) ≡ false)
+IsTaken cells joins outers i link c = Unit {0}
+
+-- the nodes from a number on are taken
+pub record IsMidway (cells : List Cell) (root from : ℕ) (now : Findings) : Type 0 where
+  pub all_scopes : length now.scopes ≡ length cells
+  pub all_links : length now.links ≡ length cells
+  -- a scope says where a node stands
+  pub posted : (i : ℕ) → slice_index_or now.scopes i Nowhere ≢ Nowhere → IsPosted cells root now (slice_index_or now.scopes i Nowhere) i
+  -- what stands directly in those that are taken has its scope, and so has the root
+  pub root_known : slice_index_or now.scopes root Nowhere ≢ Nowhere
+  pub inner_known : (i j : ℕ) (c : Cell) → from ≤ i → IsStanding cells root i → IsCell cells i c → Contains (inner_nodes c) j → slice_index_or now.scopes j Nowhere ≢ Nowhere
+  pub taken : (outers : List ℕ) (i : ℕ) (c : Cell) → from ≤ i → Stands cells root outers i → IsCell cells i c → IsTaken cells now.joins outers i (slice_index now.links i) c
+  pub each_join : (number : ℕ) → number < length now.joins → IsOfGrammar cells root now.joins number
+
+-- ---- the numbers of elements
+
+-- the nodes' links, and the elements' nodes
+pub record Numbering : Type 0 where
+  pub links : List ℕ
+  pub elements : List ℕ
+
+abbrev pub numbering_of : Vec ℕ Global → Vec ℕ Global → Numbering
+numbering_of links elements = record { links = links.items; elements = elements.items }
+
+-- an element has the next number
+abbrev pub with_number : ℕ → Cell → Numbering → Numbering
+with_number i (cell.element class part) now = record { links = set now.links i (length now.elements); elements = now.elements ++ i ∷ [] }
+with_number i c now = now
+
+-- if it stands somewhere
+abbrev pub with_numbered : ℕ → Scope → Cell → Numbering → Numbering
+with_numbered i Nowhere c now = now
+with_numbered i Outside c now = with_number i c now
+with_numbered i (In k) c now = with_number i c now
+
+abbrev pub is_element : Cell → Bool
+is_element (cell.element class part) = true
+is_element c = false
+
+-- an element with a number
+pub record IsElementOf (cells : List Cell) (scopes : List Scope) (links : List ℕ) (number i : ℕ) : Type 0 where
+  pub class : Class
+  pub part : ℕ
+  pub is_element : IsCell cells i (cell.element class part)
+  pub stands : slice_index_or scopes i Nowhere ≢ Nowhere
+  pub linked : slice_index links i ≡ number
+
+-- the elements among the first nodes are numbered, and all other links are as they were
+pub record AreNumbered (cells : List Cell) (scopes : List Scope) (upto : ℕ) (old : List ℕ) (new : Numbering) : Type 0 where
+  pub all_links : length new.links ≡ length old
+  pub other_links : (i : ℕ) (c : Cell) → IsCell cells i c → is_element c ≡ false → slice_index new.links i ≡ slice_index old i
+  pub numbered : (i : ℕ) (class : Class) (part : ℕ) → i < upto → slice_index_or scopes i Nowhere ≢ Nowhere → IsCell cells i (cell.element class part) → slice_get new.elements (slice_index new.links i) ≡ Some i
+  pub each_number : (number i : ℕ) → slice_get new.elements number ≡ Some i → (i < upto) × IsElementOf cells scopes new.links number i
