@@ -62,18 +62,23 @@ impl Printer {
                 self.namespace(&name.ns)?;
                 self.bytes(&name.local)
             }
-            NameClass::Choice(first, second) => self.classes(first, "|", second),
-            NameClass::Except(all, taken) => self.classes(all, "-", taken),
+            NameClass::Choice(first, second) => {
+                self.part_of_class("(", first)?;
+                self.part_of_class("|", second)?;
+                self.word(")")
+            }
+            NameClass::Except(all, taken) => {
+                self.part_of_class("(", all)?;
+                self.part_of_class("-", taken)?;
+                self.word(")")
+            }
         }
     }
 
     #[cycle(print_class)]
-    fn classes(&mut self, first: &NameClass, sign: &str, second: &NameClass) -> Result<(), Fail> {
-        self.word("(")?;
-        self.class(first)?;
-        self.word(sign)?;
-        self.class(second)?;
-        self.word(")")
+    fn part_of_class(&mut self, word: &str, class: &NameClass) -> Result<(), Fail> {
+        self.word(word)?;
+        self.class(class)
     }
 
     fn except(&mut self, except: &Except) -> Result<(), Fail> {
@@ -98,23 +103,6 @@ impl Printer {
     }
 
     #[cycle(print)]
-    fn attribute(&mut self, class: &NameClass, value: &Pat) -> Result<(), Fail> {
-        self.word("@")?;
-        self.class(class)?;
-        self.word(" ")?;
-        self.pattern(value)
-    }
-
-    #[cycle(print)]
-    fn pair(&mut self, first: &Pat, sign: &str, second: &Pat) -> Result<(), Fail> {
-        self.word("(")?;
-        self.pattern(first)?;
-        self.word(sign)?;
-        self.pattern(second)?;
-        self.word(")")
-    }
-
-    #[cycle(print)]
     fn pattern(&mut self, pattern: &Pat) -> Result<(), Fail> {
         match pattern {
             Pat::NotAllowed => self.word("none"),
@@ -122,29 +110,45 @@ impl Printer {
             Pat::Text => self.word("text"),
             Pat::Typed(_, excepts) => self.excepts(excepts.as_slice()),
             Pat::Value(_, text) => self.value(text),
-            Pat::List(body) => {
-                self.word("list ")?;
-                self.pattern(body)
+            Pat::List(body) => self.part("list ", body),
+            Pat::Attribute(class, value) => {
+                self.part_of_class("@", class)?;
+                self.part(" ", value)
             }
-            Pat::Attribute(class, value) => self.attribute(class, value),
             Pat::Ref(number) => self.number(*number as usize),
             Pat::OneOrMore(body) => {
-                self.pattern(body)?;
+                self.part("", body)?;
                 self.word("+")
             }
-            Pat::Choice(first, second) => self.pair(first, "|", second),
-            Pat::Group(first, second) => self.pair(first, ",", second),
-            Pat::Interleave(first, second) => self.pair(first, "&", second),
+            Pat::Choice(first, second) => {
+                self.part("(", first)?;
+                self.part("|", second)?;
+                self.word(")")
+            }
+            Pat::Group(first, second) => {
+                self.part("(", first)?;
+                self.part(",", second)?;
+                self.word(")")
+            }
+            Pat::Interleave(first, second) => {
+                self.part("(", first)?;
+                self.part("&", second)?;
+                self.word(")")
+            }
         }
+    }
+
+    #[cycle(print)]
+    fn part(&mut self, word: &str, pattern: &Pat) -> Result<(), Fail> {
+        self.word(word)?;
+        self.pattern(pattern)
     }
 
     fn def(&mut self, number: usize, def: &Def) -> Result<(), Fail> {
         self.word("; ")?;
         self.number(number)?;
-        self.word(" ")?;
-        self.class(&def.class)?;
-        self.word(" = ")?;
-        self.pattern(&def.content)
+        self.part_of_class(" ", &def.class)?;
+        self.part(" = ", &def.content)
     }
 
     fn grammar(&mut self, grammar: &Grammar) -> Result<(), Fail> {
@@ -741,6 +745,8 @@ fn files_that_are_not_read_are_told(rt: HostRuntime) -> Result<(), Fail> {
         told(alloc, &mut files)?.as_str(),
         "NotUtf8 file:///work/p.rnc 11"
     );
+    let brackets = "(".repeat(alloc, 201)?;
+    assert_eq!(rt; ending(alloc, brackets.as_str())?.as_str(), "TooDeep");
     Ok(())
 }
 
