@@ -24,7 +24,7 @@ use Rattle.rng_simplify.specs.Cells as cell
 use Rattle.rng_simplify.specs.Denoting.{IsCell}
 use Rattle.rng_simplify.specs.Forms.{Form, Value, list_of, attribute_of, one_or_more_of, join_of}
 use Rattle.rng_simplify.specs.Forms as form
-use Rattle.rng_simplify.specs.Forming.{cell_form, bodies_form, join_form, form_in, form_of, IsKnown, IsBefore, IsInOrder, AreFormed, AreForms, IsNumberedBelow, IsCellMade, MakesCell, IsJoinMade, MakesJoin, AreAllJoined, JoinsAll, IsMade, Makes, IsPlaced, Places, MakesForms}
+use Rattle.rng_simplify.specs.Forming.{cell_form, bodies_form, join_form, form_in, form_of, IsKnown, IsBefore, IsInOrder, AreAlike, AreFormed, AreForms, IsNumberedBelow, IsCellMade, MakesCell, IsJoinMade, MakesJoin, AreAllJoined, JoinsAll, IsMade, Makes, IsPlaced, Places, MakesForms}
 use Rattle.rng_simplify.specs.Resolving.{cell_leads, join_leads, leads_if, leads, link_at}
 use Rattle.rng_simplify.specs.Shown.{value_in, type_in, params_in, class_in, joined_of, form_by, form_at, IsBehindParts, shape_parts, IsOfSchema, AreOfSchema, IsShown, Shows, Adds}
 use Rattle.rng_simplify.proofs.Nodes.{in_none, in_cases, in_first, in_more, in_one}
@@ -308,9 +308,9 @@ module _ (nodes : List Node) (found : Resolved) (i : ℕ) (old new : List Shape)
           let R : Cell → Type 0 = λ d. form_at cells taken new number ≡ cell_form (form_in cells taken old of) (length nodes) link (taken i) d in
           subst P (sym all) (subst Q same (subst R (same_Some _ _ (sym there ∙ at)) (made.shows cells taken there)));
         join_is = λ k join taken place joins. absurd (omega arith);
-        kept = λ elements below are.
+        kept = λ others elements alike below are.
           let P : ℕ → Type 0 = λ k. IsNumberedBelow elements k (cell_of n) in
-          made.kept cells elements there (subst P (sym same) (below (cell_of n) there)) are;
+          made.kept others elements (alike (cell_of n) there) (subst P (sym same) (below (cell_of n) there)) are;
       }
   node_made link n (Err fault.NoMemory) within links is linked made = tt
   node_made link n (Err fault.Failed) within links is linked made = made
@@ -333,7 +333,7 @@ module _ (nodes : List Node) (found : Resolved) (i : ℕ) (old new : List Shape)
           let number_is : i - length nodes ≡ k = omega arith in
           let Q : ℕ → Type 0 = λ m. join ≡ get_or found.joins.items m join in
           subst P (subst Q number_is is ∙ get_or_from_slice_get found.joins.items k other join there) (made.shows cells taken);
-        kept = λ elements below are. made.kept cells elements are;
+        kept = λ others elements alike below are. made.kept others elements are;
       }
   join_made join (Err fault.NoMemory) behind within is made = tt
   join_made join (Err fault.Failed) behind within is made = made
@@ -415,7 +415,7 @@ module _ (cells : List Cell) (found : Resolved) (order : List ℕ) (ordered : Is
       known = λ i h. absurd (none_before order i h);
       node_is = λ i c taken h at. absurd (none_before order i h);
       join_is = λ number join taken h there. absurd (none_before order _ h);
-      of_schema = record {
+      of_schema = λ others alike. record {
           each_is = λ n s h.
             let P : List Shape → Type 0 = λ shapes. slice_get shapes n ≡ Some s in
             let never : ⊥ = let nothing : slice_get [] n ≡ Some s = subst P none h in cc in
@@ -505,7 +505,11 @@ module _ (cells : List Cell) (found : Resolved) (order : List ℕ) (ordered : Is
             ∙ same_join_form (form_of cells taken old) (form_of cells taken new) join (λ j within.
                 sym (form_before taken j (ordered.behind end (length cells + number) j (subst P (sym is) place) (let S : List ℕ → Type 0 = λ all. Contains all j in subst S (sym (join_leads_are cells found number join there)) within))))
           ];
-        of_schema = placed.made.kept (length found.elements.items) (λ c at. numbered_below c at) formed.of_schema;
+        of_schema = λ others alike.
+          placed.made.kept others (length found.elements.items)
+            (λ c at. alike.alike here c (record { place = end; before = omega arith; there = place }) at)
+            (λ c at. numbered_below c at)
+            (formed.of_schema others (record { alike = λ i c h at. alike.alike i c (before_later order end (end + 1) i (omega arith) h) at }));
       } where
         numbered_below : (c : Cell) → IsCell cells here c → IsNumberedBelow (length found.elements.items) (link_at found here) c
         numbered_below (cell.element class part) at = ordered.numbered end here class part place at

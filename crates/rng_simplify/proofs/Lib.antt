@@ -37,3 +37,9 @@ pub mod Forming
 pub mod Simplifying
 pub mod Limiting
 pub mod Typing
+pub mod Spelling
+pub mod Typed
+pub mod RefusedTypes
+pub mod OneForm
+pub mod Grammars
+pub mod Answered

@@ -77,7 +77,7 @@ taken_before order end j (m, within, is) =
       there = slice_get-get_or order m j inside ∙ ap (λ k. Some k) (sym (get_or-take end order m j less) ∙ is);
     }
 
-in_place : (order : List ℕ) (place i : ℕ) → slice_get order place ≡ Some i → Contains order i
+pub in_place : (order : List ℕ) (place i : ℕ) → slice_get order place ≡ Some i → Contains order i
 in_place order place i there = (place, slice_get_within order place i there, get_or_from_slice_get order place i i there)
 
 module _ (cells : List Cell) (root : ℕ) (found : Resolved) (resolved : IsResolved cells root found) where
@@ -421,7 +421,7 @@ values_or_none (Some values) = values
 values_or_none None = []
 
 -- the values of what is taken from each type, and none where that is no choice of values
-pub taken_of : List Cell → Forms → ℕ → List Value
+unfoldable pub taken_of : List Cell → Forms → ℕ → List Value
 taken_of cells forms i = values_or_none (values_of (form_of cells (λ k. []) forms (part_in (slice_get cells i))))
 
 pub values_known : (o : Option (List Value)) → (o ≡ None → ⊥) → o ≡ Some (values_or_none o)

@@ -33,7 +33,7 @@ module _ (ns : List ℕ) (is_text : IsUtf8 ns) where
     pattern_texts written.not_allowed h = tt
     pattern_texts (written.value type text) h = tt
     pattern_texts (written.typed type params) h = tt
-    pattern_texts (written.typed_but type params except) h = pattern_texts except h.1
+    pattern_texts (written.typed_but type params except) h = pattern_texts except h.2
     pattern_texts (written.external reference) h = ((h.0, namespace_text reference.namespace h.1), tt)
     pattern_texts (written.grammar items) h = items_texts items h
     pattern_texts (written.optional p) h = pattern_texts p h

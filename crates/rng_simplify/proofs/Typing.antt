@@ -43,7 +43,8 @@ use Rattle.rng_simplify.specs.Forms.{Form, Value, values_of}
 use Rattle.rng_simplify.specs.Forms as form
 use Rattle.rng_simplify.specs.Forming.{IsBefore, IsKnown}
 use Rattle.rng_simplify.specs.Shown.{joined_form, value_in, form_by, form_at, IsBehindParts, IsOfSchema, AreOfSchema, stopped, IsSizeAt}
-use Rattle.rng_simplify.specs.Typing.{IsText, AreTexts, IsRefusalOf, Names, value_of, IsValue, AreValues, IsListed, HasValues, HasNoValues, IsTakenBehind, TakesBehind, AreTakenFrom, TakesFrom, AreTakenBy, HasManyValues, HasForeignValue, Takes, IsTypeOfValue, IsTypeTaken, IsTypeOf, HasNoType, MakesType, known_at, AreTypesBefore, IsTypeSet, SetsType, IsFirstRefused, MakesTypes}
+use Rattle.rng_simplify.specs.CellTexts.{IsText, AreTexts}
+use Rattle.rng_simplify.specs.Typing.{IsRefusalOf, Names, value_of, IsValue, AreValues, IsListed, HasValues, HasNoValues, IsTakenBehind, TakesBehind, AreTakenFrom, TakesFrom, AreTakenBy, HasManyValues, HasForeignValue, Takes, IsTypeOfValue, IsTypeTaken, IsTypeOf, HasNoType, MakesType, known_at, AreTypesBefore, IsTypeSet, SetsType, IsFirstRefused, MakesTypes}
 use Rattle.rng_simplify.specs.Standing.{cell_parts}
 use Rattle.rng_simplify.proofs.Forming.{before_next, before_later, none_before, cell_there}
 use Rattle.rng_simplify.proofs.Nodes.{in_none, in_first, in_more, one_cell}
@@ -389,6 +390,7 @@ all_taken cells shapes type datatype number size count start listed nodes result
         values = known.values;
         has_values = known.has_values;
         takes = let P : List Value → Type 0 = λ values. AreExcepts type datatype values excepts in subst P values_are taken.takes;
+        allowed = let counted = known.count_is in omega arith;
         few =
           let all = length-map nodes (value_of cells) in
           let same = ap length values_are in

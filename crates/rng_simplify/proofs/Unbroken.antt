@@ -30,7 +30,7 @@ use Rattle.rng_simplify.proofs.Walks.{place_in}
 -- ---- what nodes stand for such patterns
 
 -- the cell of a node that stands for such a pattern
-abbrev CellOf : List Cell → (ℕ → ℕ) → ℕ → Composed → Type 0
+abbrev pub CellOf : List Cell → (ℕ → ℕ) → ℕ → Composed → Type 0
 CellOf cells number i (composed.ref name) = IsCell cells i (cell.ref name)
 CellOf cells number i (composed.parent_ref name) = IsCell cells i (cell.parent_ref name)
 CellOf cells number i (composed.grammar all) = (clauses : List Clause) × IsCell cells i (cell.grammar clauses) × DenoteAll cells number clauses all
@@ -43,7 +43,7 @@ joined_cell cells number i sign.Choice p q = tt
 joined_cell cells number i sign.Group p q = tt
 joined_cell cells number i sign.Interleave p q = tt
 
-cell_of_pattern : {cells : List Cell} {number : ℕ → ℕ} {i : ℕ} {p : Composed} → Denotes cells number i p → CellOf cells number i p
+pub cell_of_pattern : {cells : List Cell} {number : ℕ → ℕ} {i : ℕ} {p : Composed} → Denotes cells number i p → CellOf cells number i p
 cell_of_pattern (is_element at part) = (_, at)
 cell_of_pattern (is_attribute at part) = (_, at)
 cell_of_pattern (is_list at part) = tt
@@ -171,7 +171,7 @@ taken_place (y ∷ xs) (suc k) (suc m) x h =
     (let lt = rest.0 in omega (arith, lt), rest.1)
 
 -- a part is led to
-part_lead : (count link : ℕ) (c : Cell) (j : ℕ) → Contains (cell_parts c) j → Contains (cell_leads count link c) j
+pub part_lead : (count link : ℕ) (c : Cell) (j : ℕ) → Contains (cell_parts c) j → Contains (cell_leads count link c) j
 part_lead count link (cell.element class part) j among = among
 part_lead count link (cell.attribute class part) j among = among
 part_lead count link (cell.listed part) j among = among

@@ -117,9 +117,9 @@ module _ (ns : List ℕ) (is_text : IsUtf8 ns) where
     make_writes (written.value type text) now h texts = cell_writes (cell.value type text) now (h.0.0, h.0.1, h.1) texts
     make_writes (written.typed type params) now h texts =
         then_writes (cell_made cell.not_allowed now) (λ i. cell_made (cell.typed type params i)) (cell_writes cell.not_allowed now tt texts)
-        (λ i mid ts. cell_writes (cell.typed type params i) mid h ts)
+        (λ i mid ts. cell_writes (cell.typed type params i) mid h.0 ts)
     make_writes (written.typed_but type params p) now h texts =
-        then_writes (make ns p now) (λ i. cell_made (cell.typed type params i)) (make_writes p now h.1 texts)
+        then_writes (make ns p now) (λ i. cell_made (cell.typed type params i)) (make_writes p now h.2 texts)
         (λ i mid ts. cell_writes (cell.typed type params i) mid h.0 ts)
     make_writes (written.external reference) now h texts = pattern_writes now.cells now.pieces texts
     make_writes (written.grammar items) now h texts =

@@ -1,12 +1,13 @@
 -- Laws of composing what was loaded: what is made is the schema in one piece.
-use Rattle.std.specs.Prelude.{◌≡◌, ◌≢◌, ℕ, List, Option, Some, Result, Ok, Err, map, reverse}
+use Rattle.std.specs.Prelude.{◌≡◌, ◌≢◌, ℕ, List, Option, Some, Result, Ok, Err, reverse}
 use Rattle.nx_base.specs.declared.cause.Cause.{Cause}
 use Rattle.nx_host.specs.Files.{FileMap}
 use Rattle.rng_simplify.specs.declared.compose.Whole.{Whole}
 use Rattle.rng_simplify.specs.declared.fault.SchemaFault.{SchemaFault}
 use Rattle.rng_simplify.specs.declared.load.Loaded.{Loaded}
+use Rattle.rng_simplify.specs.Breaking.{cells_of}
 use Rattle.rng_simplify.specs.Broken.{IsBroken}
-use Rattle.rng_simplify.specs.Cells.{Cell, cell_of}
+use Rattle.rng_simplify.specs.Cells.{Cell}
 use Rattle.rng_simplify.specs.CellTexts.{AreTexts}
 use Rattle.rng_simplify.specs.Composed.{Composed}
 use Rattle.rng_simplify.specs.Composing.{ComposesSchema}
@@ -54,10 +55,6 @@ abbrev pub RefusedIsBroken : Type 0
 RefusedIsBroken =
     (files : FileMap) (uri : List ℕ) (loaded : List Loaded) → AllLoaded (Some files) uri (reverse loaded) → (why : Cause) →
     whole_made loaded ≡ refused why → IsBroken files uri why
-
--- the nodes of a schema in one piece, as cells
-abbrev pub cells_of : Whole → List Cell
-cells_of whole = map cell_of whole.nodes.items
 
 -- What composing answers, where the files told this and the count of faults went from `before` to `after`.
 abbrev pub GivesWhole : Option FileMap → List ℕ → ℕ → ℕ → Result Whole SchemaFault → Type 0

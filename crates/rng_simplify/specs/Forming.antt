@@ -75,13 +75,18 @@ pub record IsInOrder (cells : List Cell) (found : Resolved) (order : List ℕ) :
   pub once : (place other i : ℕ) → slice_get order place ≡ Some i → slice_get order other ≡ Some i → place ≡ other
   pub behind : (place i j : ℕ) → slice_get order place ≡ Some i → Contains (leads cells found i) j → IsBefore order place j
 
+-- these other cells have the cells in front of this place
+pub record AreAlike (cells others : List Cell) (order : List ℕ) (end : ℕ) : Type 0 where
+  pub alike : (i : ℕ) (c : Cell) → IsBefore order end i → IsCell cells i c → IsCell others i c
+
 -- the nodes and joins in front of this place have their forms
 pub record AreFormed (cells : List Cell) (found : Resolved) (order : List ℕ) (end : ℕ) (forms : Forms) : Type 0 where
   pub all : length forms.of.items ≡ length cells + length found.joins.items
   pub known : (i : ℕ) → IsBefore order end i → IsKnown forms.shapes forms.of.items i
   pub node_is : (i : ℕ) (c : Cell) (taken : ℕ → List Value) → IsBefore order end i → IsCell cells i c → form_of cells taken forms i ≡ cell_form (form_of cells taken forms) (length cells) (link_at found i) (taken i) c
   pub join_is : (number : ℕ) (join : Join) (taken : ℕ → List Value) → IsBefore order end (length cells + number) → slice_get found.joins.items number ≡ Some join → form_of cells taken forms (length cells + number) ≡ join_form (form_of cells taken forms) join
-  pub of_schema : AreOfSchema cells (length found.elements.items) forms.shapes
+  -- their shapes are of nodes in front of the place alone
+  pub of_schema : (others : List Cell) → AreAlike cells others order end → AreOfSchema others (length found.elements.items) forms.shapes
 
 -- all of the order have
 pub record AreForms (cells : List Cell) (found : Resolved) (order : List ℕ) (forms : Forms) : Type 0 where
@@ -150,7 +155,7 @@ pub record IsMade (cells : List Cell) (found : Resolved) (i : ℕ) (old new : Li
   pub within : number < length new
   pub node_is : (c : Cell) (taken : ℕ → List Value) → IsCell cells i c → form_at cells taken new number ≡ cell_form (form_in cells taken old of) (length cells) (link_at found i) (taken i) c
   pub join_is : (n : ℕ) (join : Join) (taken : ℕ → List Value) → i ≡ length cells + n → slice_get found.joins.items n ≡ Some join → form_at cells taken new number ≡ join_form (form_in cells taken old of) join
-  pub kept : (elements : ℕ) → ((c : Cell) → IsCell cells i c → IsNumberedBelow elements (link_at found i) c) → AreOfSchema cells elements old → AreOfSchema cells elements new
+  pub kept : (others : List Cell) (elements : ℕ) → ((c : Cell) → IsCell cells i c → IsCell others i c) → ((c : Cell) → IsCell cells i c → IsNumberedBelow elements (link_at found i) c) → AreOfSchema others elements old → AreOfSchema others elements new
 
 abbrev pub Makes : List Cell → Resolved → ℕ → List Shape → List Shape → List ℕ → Result ℕ SchemaFault → Type 0
 Makes cells found i old new of (Ok number) = IsMade cells found i old new of number

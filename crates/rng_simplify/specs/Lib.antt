@@ -31,3 +31,5 @@ pub mod Shown
 pub mod Forming
 pub mod Limiting
 pub mod Typing
+pub mod Spelling
+pub mod Grammars

@@ -1,7 +1,7 @@
 -- How large the forms of a schema are, by its nodes.
 use Rattle.std.specs.Prelude.{◌≡◌, ℕ, ◌+◌, ◌<◌, ◌≤◌, ◌⊎◌, List, length, sum_by, slice_get, Option, Some, None, Result, Ok, Err}
 use Rattle.nx_base.specs.declared.cause.Cause.TheVariants.{TooLarge}
-use Rattle.rng_core.specs.Names.{Class}
+use Rattle.rng_core.specs.Names.{Class, any_name}
 use Rattle.rng_simplify.specs.declared.fault.SchemaFault.{SchemaFault}
 use Rattle.rng_simplify.specs.declared.fault.SchemaFault.TheVariants as fault
 use Rattle.rng_simplify.specs.declared.form.Forms.{Forms}
@@ -16,6 +16,11 @@ use Rattle.rng_simplify.specs.Forms.{Form, Value, nodes, depth}
 abbrev pub content_in : Option Cell → ℕ
 content_in (Some (cell.element class part)) = part
 content_in _ = 0
+
+-- and its class
+abbrev pub class_of_element : Option Cell → Class
+class_of_element (Some (cell.element class part)) = class
+class_of_element _ = any_name
 
 abbrev pub content_of : List Cell → ℕ → ℕ
 content_of cells i = content_in (slice_get cells i)

@@ -1,6 +1,5 @@
 -- Types of nodes: what their names stand for, and what is taken from them.
 use Rattle.std.specs.Prelude.{◌≡◌, ◌≢◌, ℕ, ◌+◌, ◌<◌, ◌≤◌, ◌⊎◌, List, [], ◌∷◌, ◌++◌, length, map, slice_get, slice_index, slice_index_or, Option, Some, None, Result, Ok, Err, Vec, Contains}
-use Rattle.std.specs.Str.{IsUtf8}
 use Rattle.std.specs.declared.alloc.Global.{Global}
 use Rattle.std.specs.List.{AllByRecursion}
 use Rattle.nx_base.specs.declared.cause.Cause.{Cause}
@@ -11,8 +10,7 @@ use Rattle.rng_types.specs.declared.datatype.Datatype.{Datatype}
 use Rattle.rng_types.specs.declared.datatype.Except.{Except}
 use Rattle.rng_types.specs.declared.fault.TypeFault.{TypeFault}
 use Rattle.rng_types.specs.declared.fault.TypeFault.TheVariants as type_fault
-use Rattle.rng_core.specs.Names.{Class}
-use Rattle.rng_core.specs.Soundness.{IsSoundClass, IsSoundExcept}
+use Rattle.rng_core.specs.Soundness.{IsSoundExcept}
 use Rattle.rng_simplify.specs.declared.fault.SchemaFault.{SchemaFault}
 use Rattle.rng_simplify.specs.declared.fault.SchemaFault.TheVariants as fault
 use Rattle.rng_simplify.specs.declared.form.Forms.{Forms}
@@ -27,19 +25,6 @@ use Rattle.rng_simplify.specs.Forming.{IsBefore, IsKnown}
 use Rattle.rng_simplify.specs.Forms.{Form, Value, values_of}
 use Rattle.rng_simplify.specs.Standing.{cell_parts}
 use Rattle.rng_simplify.specs.Shown.{value_in, form_at, AreOfSchema}
-
--- ---- texts of cells
-
--- what is written in a cell is UTF-8
-abbrev pub IsText : Cell → Type 0
-IsText (cell.element class part) = IsSoundClass class
-IsText (cell.attribute class part) = IsSoundClass class
-IsText (cell.value type text) = IsUtf8 type.library × IsUtf8 type.name × IsUtf8 text
-IsText (cell.typed type params part) = IsUtf8 type.library × IsUtf8 type.name
-IsText c = Unit {0}
-
-pub record AreTexts (cells : List Cell) : Type 0 where
-  pub each_is : (i : ℕ) (c : Cell) → IsCell cells i c → IsText c
 
 -- ---- types by their names
 
@@ -136,6 +121,7 @@ pub record AreTakenBy (cells : List Cell) (shapes : List Shape) (type : TypeName
   pub values : List Value
   pub has_values : HasValues cells shapes number values
   pub takes : AreExcepts type datatype values excepts
+  pub allowed : length values ≤ except_limit
   pub few : length excepts ≤ except_limit
   pub sound : AllByRecursion (IsSoundExcept datatype) excepts
 

@@ -4,13 +4,14 @@ ghost use Rattle.std.specs.Prelude.{◌≡◌, ◌≢◌, ◌↔◌, ◌<◌, �
 ghost use Rattle.std.specs.Str.{IsUtf8};
 ghost use Rattle.rnc_parse.specs.declared.surface.TypeName.{TypeName};
 ghost use Rattle.rng_types.specs.declared.fault.TypeFault.TheVariants.{TooManyExcepts as TooMany};
+ghost use Rattle.rng_simplify.specs.CellTexts.{IsText, AreTexts};
 ghost use Rattle.rng_simplify.specs.Cells.{cell_of, Cell};
 ghost use Rattle.rng_simplify.specs.Denoting.{IsCell};
 ghost use Rattle.rng_simplify.specs.Datatypes.{params_of, MayWrite, builtin_string, builtin_token};
 ghost use Rattle.rng_simplify.specs.Forming.{IsKnown};
 ghost use Rattle.rng_simplify.specs.Shown.{AreOfSchema};
 ghost use Rattle.rng_simplify.specs.Standing.{cell_parts};
-ghost use Rattle.rng_simplify.specs.Typing.{IsText, AreTexts, IsRefusalOf, Names, NamesValue, IsValue, AreValues, value_of, Lists, TakesBehind, TakesFrom, Takes, MakesValueType, MakesTypeTaken, MakesType, SetsType, MakesTypes, AreKnown};
+ghost use Rattle.rng_simplify.specs.Typing.{IsRefusalOf, Names, NamesValue, IsValue, AreValues, value_of, Lists, TakesBehind, TakesFrom, Takes, MakesValueType, MakesTypeTaken, MakesType, SetsType, MakesTypes, AreKnown};
 
 use crate::fault::SchemaFault;
 use crate::form::Forms;
