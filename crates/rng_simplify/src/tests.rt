@@ -232,20 +232,26 @@ fn add(alloc: Global, files: &mut SureFiles, name: &str, text: &str) -> Result<(
     Ok(())
 }
 
-/// Files behind one another: the first one, and each other one behind `# ` and its name in a line of its own.
-fn files_of(alloc: Global, schema: &str) -> Result<SureFiles, Fail> {
-    let mut files = SureFiles::new(alloc);
+/// Adds a file whose name stands in a line of its own before its text.
+fn add_named(alloc: Global, files: &mut SureFiles, part: &str) -> Result<(), Fail> {
+    let (name, text) = part.split_once("\n").unwrap_or(("none", ""));
+    add(alloc, files, name, text)
+}
+
+/// Adds files behind one another: the first one, and each other one behind `# ` and its name in a line of its own.
+fn add_all(alloc: Global, files: &mut SureFiles, schema: &str) -> Result<(), Fail> {
     let (first, others) = schema.split_once("\n# ").unwrap_or((schema, ""));
     files.add(FIRST, first.as_bytes())?;
     for other in others.split("\n# ") {
-        let (name, text) = other.split_once("\n").unwrap_or(("none", ""));
-        add(alloc, &mut files, name, text)?;
+        add_named(alloc, files, other)?;
     }
-    Ok(files)
+    Ok(())
 }
 
+/// The grammar of a schema, or why there is none.
 fn told_of(alloc: Global, schema: &str) -> Result<String, Fail> {
-    let mut files = files_of(alloc, schema)?;
+    let mut files = SureFiles::new(alloc);
+    add_all(alloc, &mut files, schema)?;
     told(alloc, &mut files)
 }
 
@@ -393,6 +399,11 @@ start = nowhere include "d/p.rnc" include "q.rnc"
 # q.rnc
 start = 
 => Absent file:///work/d/p.rnc
+
+include "p.rnc" include "q.rnc"
+# p.rnc
+include "d/r.rnc"
+=> Absent file:///work/d/r.rnc
 
 external "http://["
 => BadUri http://[
@@ -730,23 +741,35 @@ fn types_are_found(rt: HostRuntime) -> Result<(), Fail> {
     compare(&rt, rt.alloc(), TYPES)
 }
 
-#[test]
-fn files_that_are_not_read_are_told(rt: HostRuntime) -> Result<(), Fail> {
-    let alloc = rt.alloc();
-    compare(&rt, alloc, UNREAD)?;
+/// What is told of no files.
+fn told_of_none(alloc: Global) -> Result<String, Fail> {
+    told(alloc, &mut SureFiles::new(alloc))
+}
+
+/// What is told where the second file ends being text at its offset 11, behind two bytes that begin a character.
+fn told_of_bytes(alloc: Global) -> Result<String, Fail> {
     let mut files = SureFiles::new(alloc);
-    assert_eq!(rt;
-        told(alloc, &mut files)?.as_str(),
-        "Absent file:///work/m.rnc"
-    );
     files.add(FIRST, b"external \"p.rnc\"")?;
     files.add("file:///work/p.rnc", b"element a\xE2\x82A")?;
-    assert_eq!(rt;
-        told(alloc, &mut files)?.as_str(),
-        "NotUtf8 file:///work/p.rnc 11"
-    );
-    let brackets = "(".repeat(alloc, 201)?;
-    assert_eq!(rt; ending(alloc, brackets.as_str())?.as_str(), "TooDeep");
+    told(alloc, &mut files)
+}
+
+#[test]
+fn files_that_are_not_read_are_told(rt: HostRuntime) -> Result<(), Fail> {
+    compare(&rt, rt.alloc(), UNREAD)
+}
+
+#[test]
+fn files_that_are_not_there_are_told(rt: HostRuntime) -> Result<(), Fail> {
+    let found = told_of_none(rt.alloc())?;
+    assert_eq!(rt; found.as_str(), "Absent file:///work/m.rnc");
+    Ok(())
+}
+
+#[test]
+fn files_that_are_no_text_are_told(rt: HostRuntime) -> Result<(), Fail> {
+    let found = told_of_bytes(rt.alloc())?;
+    assert_eq!(rt; found.as_str(), "NotUtf8 file:///work/p.rnc 11");
     Ok(())
 }
 
@@ -805,48 +828,66 @@ fn fronts_of_a_schema_are_refused(rt: HostRuntime) -> Result<(), Fail> {
     Ok(())
 }
 
-/// An element with so many texts behind a first one, which are as many nodes on one path, and one more.
-fn deep(alloc: Global, count: usize) -> Result<String, Fail> {
+/// How an element ends with so many texts behind a first one, all on one path.
+fn ending_of_deep(alloc: Global, count: usize) -> Result<String, Fail> {
     let texts = ", text".repeat(alloc, count)?;
-    Ok(format!(in alloc; "element a {{ text{texts} }}")?)
+    let text = format!(in alloc; "element a {{ text{texts} }}")?;
+    ending(alloc, text.as_str())
 }
 
-/// A start, and definitions of which each stands twice in the next, joined by the sign, from a first one on.
-fn doubled(
-    alloc: Global,
-    start: &str,
-    first: &str,
-    sign: &str,
-    count: usize,
-) -> Result<String, Fail> {
+/// How a pattern ends in so many brackets.
+fn ending_of_brackets(alloc: Global, count: usize) -> Result<String, Fail> {
+    let opening = "(".repeat(alloc, count)?;
+    let closing = ")".repeat(alloc, count)?;
+    let text = format!(in alloc; "{opening}empty{closing}")?;
+    ending(alloc, text.as_str())
+}
+
+/// A start, and 400 definitions of which each stands twice in the next, joined by the sign, from a first one on.
+fn doubled(alloc: Global, start: &str, first: &str, sign: &str) -> Result<String, Fail> {
     let mut text = format!(in alloc; "start = {start} x0 = {first}\n")?;
-    for i in 0..count {
+    for i in 0..400_usize {
         let next = i.saturating_add(1);
         write!(text, "x{next} = x{i} {sign} x{i}\n")?;
     }
     Ok(text)
 }
 
-fn ending_of_doubled(
+fn ending_of_doubled(alloc: Global, start: &str, first: &str, sign: &str) -> Result<String, Fail> {
+    let text = doubled(alloc, start, first, sign)?;
+    ending(alloc, text.as_str())
+}
+
+/// Compares how schemas end that have such a start and such doubled definitions, 400 of them.
+fn compare_doubled(
+    rt: &impl Abort,
     alloc: Global,
-    start: &str,
+    rows: &str,
     first: &str,
     sign: &str,
-    count: usize,
-) -> Result<String, Fail> {
-    let text = doubled(alloc, start, first, sign, count)?;
-    ending(alloc, text.as_str())
+) -> Result<(), Fail> {
+    for row in rows.split("\n\n") {
+        let (start, want) = row.split_once("\n=> ").unwrap_or((row, "no row"));
+        let found = ending_of_doubled(alloc, start, first, sign)?;
+        assert_eq!(rt; found.as_str(), want, "at {start}");
+    }
+    Ok(())
 }
 
 #[test]
 fn paths_have_a_limit(rt: HostRuntime) -> Result<(), Fail> {
     for (count, want) in &[(7_999, "a grammar"), (8_000, "TooLarge")] {
-        let text = deep(rt.alloc(), *count)?;
-        assert_eq!(rt;
-            ending(rt.alloc(), text.as_str())?.as_str(),
-            *want,
-            "at {count}"
-        );
+        let found = ending_of_deep(rt.alloc(), *count)?;
+        assert_eq!(rt; found.as_str(), *want, "at {count}");
+    }
+    Ok(())
+}
+
+#[test]
+fn brackets_have_a_limit(rt: HostRuntime) -> Result<(), Fail> {
+    for (count, want) in &[(200, "a grammar"), (201, "TooDeep")] {
+        let found = ending_of_brackets(rt.alloc(), *count)?;
+        assert_eq!(rt; found.as_str(), *want, "at {count}");
     }
     Ok(())
 }
@@ -870,14 +911,12 @@ element a { notAllowed, x400 }
 
 #[test]
 fn grammars_have_a_limit(rt: HostRuntime) -> Result<(), Fail> {
-    for row in LARGE.split("\n\n") {
-        let (start, want) = row.split_once("\n=> ").unwrap_or((row, "no row"));
-        let found = ending_of_doubled(rt.alloc(), start, "text", ",", 400)?;
-        assert_eq!(rt; found.as_str(), want, "at {start}");
-    }
-    let found = ending_of_doubled(rt.alloc(), "x400", "empty", "&", 400)?;
-    assert_eq!(rt; found.as_str(), "a grammar");
-    Ok(())
+    compare_doubled(&rt, rt.alloc(), LARGE, "text", ",")
+}
+
+#[test]
+fn what_is_empty_has_no_limit(rt: HostRuntime) -> Result<(), Fail> {
+    compare_doubled(&rt, rt.alloc(), "x400\n=> a grammar", "empty", "&")
 }
 
 /// Starts over 2 to the power of n values as `xn`.
@@ -893,40 +932,38 @@ token - (x7 | token \"v\")
 string - x400
 => TooManyExcepts";
 
+/// The same of values that a type doesn't accept. They take nothing away, and are counted.
+const OTHER_EXCEPTS: &str = "xsd:int { minInclusive = \"8\" } - x7
+=> a grammar
+
+xsd:int { minInclusive = \"8\" } - x8
+=> TooManyExcepts";
+
 #[test]
 fn excepts_have_a_limit(rt: HostRuntime) -> Result<(), Fail> {
-    for row in EXCEPTS.split("\n\n") {
-        let (start, want) = row.split_once("\n=> ").unwrap_or((row, "no row"));
-        let found = ending_of_doubled(rt.alloc(), start, "\"v\"", "|", 400)?;
-        assert_eq!(rt; found.as_str(), want, "at {start}");
-    }
-    // A value that the type doesn't accept is counted, too.
-    let found = ending_of_doubled(
-        rt.alloc(),
-        "xsd:int { minInclusive = \"8\" } - x8",
-        "xsd:int \"7\"",
-        "|",
-        8,
-    )?;
-    assert_eq!(rt; found.as_str(), "TooManyExcepts");
-    Ok(())
+    compare_doubled(&rt, rt.alloc(), EXCEPTS, "\"v\"", "|")
 }
 
-/// Files of which each includes the next one.
-fn chain_of_files(alloc: Global, count: usize) -> Result<SureFiles, Fail> {
-    let mut files = SureFiles::new(alloc);
-    let text = format!(in alloc; "include \"0.rnc\"")?;
-    files.add(FIRST, text.as_bytes())?;
-    for i in 0..count {
-        let next = i.saturating_add(1);
-        let name = format!(in alloc; "{i}.rnc")?;
-        let text = format!(in alloc; "include \"{next}.rnc\" x{i} = element x{i} {{ x{next} }}")?;
-        add(alloc, &mut files, name.as_str(), text.as_str())?;
+#[test]
+fn other_excepts_have_a_limit(rt: HostRuntime) -> Result<(), Fail> {
+    compare_doubled(&rt, rt.alloc(), OTHER_EXCEPTS, "xsd:int \"7\"", "|")
+}
+
+/// Adds a file that includes the next one.
+fn add_link(alloc: Global, files: &mut SureFiles, i: usize) -> Result<(), Fail> {
+    let next = i.saturating_add(1);
+    let name = format!(in alloc; "{i}.rnc")?;
+    let text = format!(in alloc; "include \"{next}.rnc\" x{i} = element x{i} {{ x{next} }}")?;
+    add(alloc, files, name.as_str(), text.as_str())
+}
+
+/// Adds a first file and 300 others that are included, each by the one before it.
+fn add_chain(alloc: Global, files: &mut SureFiles) -> Result<(), Fail> {
+    add(alloc, files, "m.rnc", "include \"0.rnc\"")?;
+    for i in 0..300 {
+        add_link(alloc, files, i)?;
     }
-    let name = format!(in alloc; "{count}.rnc")?;
-    let text = format!(in alloc; "start = x0 x{count} = empty")?;
-    add(alloc, &mut files, name.as_str(), text.as_str())?;
-    Ok(files)
+    add(alloc, files, "300.rnc", "start = x0 x300 = empty")
 }
 
 fn definitions_of(answer: &Result<Grammar, SchemaFault>) -> usize {
@@ -943,7 +980,8 @@ fn definitions(alloc: Global, files: &mut SureFiles) -> usize {
 
 #[test]
 fn chains_of_files_may_be_long(rt: HostRuntime) -> Result<(), Fail> {
-    let mut files = chain_of_files(rt.alloc(), 300)?;
+    let mut files = SureFiles::new(rt.alloc());
+    add_chain(rt.alloc(), &mut files)?;
     assert_eq!(rt; definitions(rt.alloc(), &mut files), 300);
     Ok(())
 }
