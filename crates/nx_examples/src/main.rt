@@ -1,8 +1,13 @@
-//! Runs the example scripts, one behind another, as `nxml` would.
+//! Runs the example scripts, one behind another, as `nxml` would, and tells of each example schema whether it can be used.
 #![tactic(auto)]
 
 use nx_base::sequence::Bytes;
+use nx_host::disk::DiskFiles;
 use nx_run::machine::run_on_machine;
+use rng_core::grammar::Grammar;
+use rng_restrict::check::check;
+use rng_simplify::fault::SchemaFault;
+use rng_simplify::simplify::simplify;
 use std::io;
 use std::marker::Brand;
 use std::sync::ledger::Blank;
@@ -16,6 +21,16 @@ const SCRIPTS: [&str; 5] = [
     "examples/broken.nxs",
 ];
 
+/// The schemas, there, too. Each element that is left in a schema has a definition: 12 of manual-inlines.rnc, 12 of
+/// manual-blocks.rnc, each but for the one that is replaced, and 15 of manual.rnc; 10 of config.rnc. The parts of a schema
+/// have no start.
+const SCHEMAS: [&str; 4] = [
+    "schemas/manual.rnc",
+    "schemas/manual-blocks.rnc",
+    "schemas/manual-inlines.rnc",
+    "schemas/config.rnc",
+];
+
 fn main(rt: HostRuntime) -> io::Result<()> {
     for script in &SCRIPTS {
         let script = *script;
@@ -25,5 +40,40 @@ fn main(rt: HostRuntime) -> io::Result<()> {
         let code = status.code();
         println!(rt; "== status {code}")?;
     }
+    for schema in &SCHEMAS {
+        let schema = *schema;
+        judge_schema(&rt, schema)?;
+    }
     Ok(())
+}
+
+/// Prints what becomes of the schema.
+fn judge_schema(rt: &HostRuntime, schema: &str) -> io::Result<()> {
+    let uri = format!(in rt.alloc(); "file:///work/{schema}")?;
+    let mut files = DiskFiles::new(rt);
+    print_answer(rt, schema, &simplify(rt.alloc(), uri.as_str(), &mut files))
+}
+
+/// Prints what was answered for the schema.
+fn print_answer(
+    rt: &HostRuntime,
+    schema: &str,
+    answer: &Result<Grammar, SchemaFault>,
+) -> io::Result<()> {
+    match answer {
+        Ok(grammar) => print_grammar(rt, schema, grammar),
+        Err(SchemaFault::Unreadable(cause)) => println!(rt; "{schema}: {cause:?}"),
+        Err(_) => println!(rt; "{schema}: not read"),
+    }
+}
+
+/// Prints how many definitions the schema's grammar has, or which restriction it breaks.
+fn print_grammar(rt: &HostRuntime, schema: &str, grammar: &Grammar) -> io::Result<()> {
+    match check(rt.alloc(), grammar) {
+        Ok(()) => {
+            let count = grammar.defs.len();
+            println!(rt; "{schema}: {count} definitions")
+        }
+        Err(fault) => println!(rt; "{schema}: {fault:?}"),
+    }
 }

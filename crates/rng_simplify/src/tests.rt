@@ -1,22 +1,28 @@
 use crate::fault::SchemaFault;
 use crate::simplify::simplify;
-use nx_base::cause::Cause;
 use nx_base::sequence::Bytes;
+use nx_host::files::Files;
 use nx_host::memory_files::{MemFiles, SureFiles};
-use rng_core::grammar::{Grammar, Pat};
+use rng_core::grammar::{Def, Grammar, Pat};
 use rng_core::name_class::NameClass;
 use rng_types::datatype::Except;
 use std::alloc::Global;
 use std::process::Abort;
 use std::test::Fail;
 
-/// A grammar as one line: the start, and then each definition by its number.
+/// A grammar as one line: the start, and then each definition by its number. Of a type only the excepts are told.
 #[derive(Drop)]
 struct Printer {
     line: String,
 }
 
 impl Printer {
+    fn new(alloc: Global) -> Printer {
+        Printer {
+            line: String::new(alloc),
+        }
+    }
+
     fn word(&mut self, word: &str) -> Result<(), Fail> {
         self.line.push_str(word)?;
         Ok(())
@@ -24,6 +30,11 @@ impl Printer {
 
     fn bytes(&mut self, bytes: &Bytes) -> Result<(), Fail> {
         self.word(str::from_utf8(bytes.as_slice())?)
+    }
+
+    fn told(&mut self, word: &str, bytes: &Bytes) -> Result<(), Fail> {
+        self.word(word)?;
+        self.bytes(bytes)
     }
 
     fn number(&mut self, number: usize) -> Result<(), Fail> {
@@ -39,6 +50,7 @@ impl Printer {
         Ok(())
     }
 
+    #[cycle(print_class)]
     fn class(&mut self, class: &NameClass) -> Result<(), Fail> {
         match class {
             NameClass::AnyName => self.word("*"),
@@ -51,588 +63,739 @@ impl Printer {
                 self.bytes(&name.local)
             }
             NameClass::Choice(first, second) => {
-                self.class(first)?;
-                self.word("/")?;
-                self.class(second)
+                self.part_of_class("(", first)?;
+                self.part_of_class("|", second)?;
+                self.word(")")
             }
             NameClass::Except(all, taken) => {
-                self.class(all)?;
-                self.word("-")?;
-                self.class(taken)
+                self.part_of_class("(", all)?;
+                self.part_of_class("-", taken)?;
+                self.word(")")
             }
         }
     }
 
-    fn pair(&mut self, first: &Pat, sign: &str, second: &Pat) -> Result<(), Fail> {
-        self.word("(")?;
-        self.pattern(first)?;
-        self.word(sign)?;
-        self.pattern(second)?;
-        self.word(")")
+    #[cycle(print_class)]
+    fn part_of_class(&mut self, word: &str, class: &NameClass) -> Result<(), Fail> {
+        self.word(word)?;
+        self.class(class)
     }
 
     fn except(&mut self, except: &Except) -> Result<(), Fail> {
         match except {
-            Except::Own(text) => {
-                self.word(" own ")?;
-                self.bytes(text)
-            }
-            Except::BuiltinString(text) => {
-                self.word(" string ")?;
-                self.bytes(text)
-            }
-            Except::BuiltinToken(text) => {
-                self.word(" token ")?;
-                self.bytes(text)
-            }
+            Except::Own(text) => self.told(" own ", text),
+            Except::BuiltinString(text) => self.told(" string ", text),
+            Except::BuiltinToken(text) => self.told(" token ", text),
         }
     }
 
+    fn excepts(&mut self, excepts: &[Except]) -> Result<(), Fail> {
+        self.word("type")?;
+        for except in excepts {
+            self.except(except)?;
+        }
+        Ok(())
+    }
+
+    fn value(&mut self, text: &Bytes) -> Result<(), Fail> {
+        self.told("'", text)?;
+        self.word("'")
+    }
+
+    #[cycle(print)]
     fn pattern(&mut self, pattern: &Pat) -> Result<(), Fail> {
         match pattern {
             Pat::NotAllowed => self.word("none"),
             Pat::Empty => self.word("empty"),
             Pat::Text => self.word("text"),
-            Pat::Typed(_, excepts) => {
-                self.word("type")?;
-                for except in excepts.as_slice() {
-                    self.except(except)?;
-                }
-                Ok(())
-            }
-            Pat::Value(_, text) => {
-                self.word("'")?;
-                self.bytes(text)?;
-                self.word("'")
-            }
-            Pat::List(body) => {
-                self.word("list ")?;
-                self.pattern(body)
-            }
+            Pat::Typed(_, excepts) => self.excepts(excepts.as_slice()),
+            Pat::Value(_, text) => self.value(text),
+            Pat::List(body) => self.part("list ", body),
             Pat::Attribute(class, value) => {
-                self.word("@")?;
-                self.class(class)?;
-                self.word(" ")?;
-                self.pattern(value)
+                self.part_of_class("@", class)?;
+                self.part(" ", value)
             }
             Pat::Ref(number) => self.number(*number as usize),
             Pat::OneOrMore(body) => {
-                self.pattern(body)?;
+                self.part("", body)?;
                 self.word("+")
             }
-            Pat::Choice(first, second) => self.pair(first, "|", second),
-            Pat::Group(first, second) => self.pair(first, ",", second),
-            Pat::Interleave(first, second) => self.pair(first, "&", second),
+            Pat::Choice(first, second) => {
+                self.part("(", first)?;
+                self.part("|", second)?;
+                self.word(")")
+            }
+            Pat::Group(first, second) => {
+                self.part("(", first)?;
+                self.part(",", second)?;
+                self.word(")")
+            }
+            Pat::Interleave(first, second) => {
+                self.part("(", first)?;
+                self.part("&", second)?;
+                self.word(")")
+            }
         }
+    }
+
+    #[cycle(print)]
+    fn part(&mut self, word: &str, pattern: &Pat) -> Result<(), Fail> {
+        self.word(word)?;
+        self.pattern(pattern)
+    }
+
+    fn def(&mut self, number: usize, def: &Def) -> Result<(), Fail> {
+        self.word("; ")?;
+        self.number(number)?;
+        self.part_of_class(" ", &def.class)?;
+        self.part(" = ", &def.content)
     }
 
     fn grammar(&mut self, grammar: &Grammar) -> Result<(), Fail> {
         self.pattern(&grammar.start)?;
         for (number, def) in grammar.defs.as_slice().iter().enumerate() {
-            self.word("; ")?;
-            self.number(number)?;
-            self.word(" ")?;
-            self.class(&def.class)?;
-            self.word(" = ")?;
-            self.pattern(&def.content)?;
+            self.def(number, def)?;
         }
         Ok(())
+    }
+
+    fn not_utf8(&mut self, uri: &Bytes, at: usize) -> Result<(), Fail> {
+        self.told("NotUtf8 ", uri)?;
+        write!(self.line, " {at}")?;
+        Ok(())
+    }
+
+    fn fault(&mut self, fault: &SchemaFault) -> Result<(), Fail> {
+        match fault {
+            SchemaFault::Absent(uri) => self.told("Absent ", uri),
+            SchemaFault::NotUtf8(uri, at) => self.not_utf8(uri, *at),
+            SchemaFault::BadUri(text) => self.told("BadUri ", text),
+            SchemaFault::Failed => self.word("Failed"),
+            SchemaFault::NoMemory => self.word("NoMemory"),
+            SchemaFault::Unreadable(cause) => {
+                write!(self.line, "{cause:?}")?;
+                Ok(())
+            }
+        }
     }
 
     fn answer(&mut self, answer: &Result<Grammar, SchemaFault>) -> Result<(), Fail> {
         match answer {
-            Ok(grammar) => self.grammar(grammar)?,
-            Err(SchemaFault::Absent(uri)) => {
-                self.word("Absent ")?;
-                self.bytes(uri)?;
-            }
-            Err(SchemaFault::NotUtf8(uri, at)) => {
-                self.word("NotUtf8 ")?;
-                self.bytes(uri)?;
-                write!(self.line, " {at}")?;
-            }
-            Err(SchemaFault::BadUri(text)) => {
-                self.word("BadUri ")?;
-                self.bytes(text)?;
-            }
-            Err(SchemaFault::Failed) => self.word("Failed")?,
-            Err(SchemaFault::NoMemory) => self.word("NoMemory")?,
-            Err(SchemaFault::Unreadable(cause)) => write!(self.line, "{cause:?}")?,
+            Ok(grammar) => self.grammar(grammar),
+            Err(fault) => self.fault(fault),
         }
-        Ok(())
+    }
+
+    fn ending(&mut self, answer: &Result<Grammar, SchemaFault>) -> Result<(), Fail> {
+        match answer {
+            Ok(_) => self.word("a grammar"),
+            Err(fault) => self.fault(fault),
+        }
     }
 }
 
-/// The URI of a file by its name.
-fn uri_of(alloc: Global, name: &str) -> Result<String, Fail> {
-    Ok(format!(in alloc; "file:///work/{name}")?)
+fn written(alloc: Global, answer: &Result<Grammar, SchemaFault>) -> Result<String, Fail> {
+    let mut printer = Printer::new(alloc);
+    printer.answer(answer)?;
+    Ok(printer.line)
 }
 
-/// A schema's files, the first one first, and what `simplify` answers.
-struct Row {
-    files: &'static [(&'static str, &'static [u8])],
-    answer: &'static str,
+fn ending_written(alloc: Global, answer: &Result<Grammar, SchemaFault>) -> Result<String, Fail> {
+    let mut printer = Printer::new(alloc);
+    printer.ending(answer)?;
+    Ok(printer.line)
 }
 
-/// Files that are included or external.
-const FILES: &[Row] = &[
-    Row {
-        files: &[
-            ("m.rnc", b"include \"i.rnc\" { start = element a { x } }"),
-            ("i.rnc", b"start = element b { x }\nx = element c { empty }"),
-        ],
-        answer: "#1; #0 c = empty; #1 a = #0",
-    },
-    Row {
-        files: &[("m.rnc", b"include \"m.rnc\"")],
-        answer: "IncludeLoop",
-    },
-    Row {
-        files: &[
-            ("m.rnc", b"element a { external \"d/p.rnc\" }"),
-            ("d/p.rnc", b"external \"q.rnc\" | external \"q.rnc\""),
-            ("d/q.rnc", b"element b { text }"),
-        ],
-        answer: "#2; #0 b = text; #1 b = text; #2 a = (#1|#0)",
-    },
-    Row {
-        files: &[
-            (
-                "m.rnc",
-                b"start = external \"p.rnc\" x = element x { empty }",
-            ),
-            ("p.rnc", b"element p { x, grammar { start = parent x } }"),
-        ],
-        answer: "#0; #0 p = (#1,#1); #1 x = empty",
-    },
-    Row {
-        files: &[
-            (
-                "m.rnc",
-                b"default namespace = \"u\" namespace v = \"w\" start = external \"p.rnc\" | external \"p.rnc\" inherit = v",
-            ),
-            ("p.rnc", b"element p { attribute q { text } }"),
-        ],
-        answer: "(#1|#0); #0 w:p = @q text; #1 u:p = @q text",
-    },
-    Row {
-        files: &[("m.rnc", b"include \"p.rnc\""), ("p.rnc", b"empty")],
-        answer: "NotGrammar",
-    },
-    Row {
-        files: &[
-            ("m.rnc", b"include \"p.rnc\" { x = empty }"),
-            ("p.rnc", b"((grammar { start = x x = text }))"),
-        ],
-        answer: "empty",
-    },
-    Row {
-        files: &[
-            ("m.rnc", b"include \"p.rnc\" { y = empty }"),
-            ("p.rnc", b"start = x x = text"),
-        ],
-        answer: "NoDefinition",
-    },
-    Row {
-        files: &[
-            (
-                "m.rnc",
-                b"x |= empty include \"p.rnc\" { div { x |= text } } start = x x |= list { empty }",
-            ),
-            (
-                "p.rnc",
-                b"x = y x &= external \"q.rnc\" y |= element y { y }",
-            ),
-            ("q.rnc", b"element q { nowhere }"),
-        ],
-        answer: "((empty|text)|list empty); #0 y = #0",
-    },
-    Row {
-        files: &[
-            ("m.rnc", b"include \"p.rnc\" { x = empty } start = x"),
-            ("p.rnc", b"x = external \"q.rnc\""),
-        ],
-        answer: "Absent file:///work/q.rnc",
-    },
-    Row {
-        files: &[
-            ("m.rnc", b"external \"p.rnc\""),
-            ("p.rnc", b"element a\xE2\x82A"),
-        ],
-        answer: "NotUtf8 file:///work/p.rnc 11",
-    },
-    Row {
-        files: &[("m.rnc", b"external \"http://[\"")],
-        answer: "BadUri http://[",
-    },
-    Row {
-        files: &[("m.rnc", b"external \"p.rnc\""), ("p.rnc", b"element")],
-        answer: "Syntax",
-    },
-];
+/// The first file of each schema.
+const FIRST: &str = "file:///work/m.rnc";
 
-/// Grammars in one file.
-const GRAMMARS: &[Row] = &[
-    Row {
-        files: &[("m.rnc", b"")],
-        answer: "NoStart",
-    },
-    Row {
-        files: &[("m.rnc", b"start = x\nx = element a { empty } | x")],
-        answer: "RefLoop",
-    },
-    Row {
-        files: &[(
-            "m.rnc",
-            b"start = empty x = attribute x { (y, text)? } y = list { x* }",
-        )],
-        answer: "RefLoop",
-    },
-    Row {
-        files: &[(
-            "m.rnc",
-            b"start = element a { empty }\nstart = element a { empty }",
-        )],
-        answer: "CombineClash",
-    },
-    Row {
-        files: &[("m.rnc", b"start = empty x |= empty x = text x &= text")],
-        answer: "CombineClash",
-    },
-    Row {
-        files: &[(
-            "m.rnc",
-            b"start = x x &= text x = element a { x } x &= empty x &= text",
-        )],
-        answer: "((text&#0)&text); #0 a = ((text&#0)&text)",
-    },
-    Row {
-        files: &[("m.rnc", b"start = empty x = y")],
-        answer: "NoDefinition",
-    },
-    Row {
-        files: &[("m.rnc", b"element a { x }")],
-        answer: "NoDefinition",
-    },
-    Row {
-        files: &[("m.rnc", b"start = parent x x = empty")],
-        answer: "NoDefinition",
-    },
-    Row {
-        files: &[("m.rnc", b"start = grammar { x = empty }")],
-        answer: "NoStart",
-    },
-    Row {
-        files: &[(
-            "m.rnc",
-            b"start = x x = grammar { start = x, parent y x = text } y = list { text }",
-        )],
-        answer: "(text,list text)",
-    },
-    Row {
-        files: &[(
-            "m.rnc",
-            b"element a { element b { text }*, mixed { attribute c { text }? }, element d { notAllowed }+ }",
-        )],
-        answer: "#2; #0 b = text; #1 d = none; #2 a = (((empty|#0+),(text&(empty|@c text))),#1+)",
-    },
-];
+/// The grammar that these files define, or why they define none.
+fn told<F: Files>(alloc: Global, files: &mut F) -> Result<String, Fail> {
+    written(alloc, &simplify(alloc, FIRST, files))
+}
 
-/// What is not allowed, and what is empty.
-const NORMAL_FORMS: &[Row] = &[
-    Row {
-        files: &[(
-            "m.rnc",
-            b"(text, notAllowed, text) | (empty & text & empty) | notAllowed",
-        )],
-        answer: "text",
-    },
-    Row {
-        files: &[(
-            "m.rnc",
-            b"list { notAllowed } | attribute a { notAllowed } | notAllowed+",
-        )],
-        answer: "none",
-    },
-    Row {
-        files: &[(
-            "m.rnc",
-            b"(text | empty), (empty | empty), empty+, (empty, empty), empty?",
-        )],
-        answer: "(empty|text)",
-    },
-    Row {
-        files: &[("m.rnc", b"(empty | text) | empty | list { empty }")],
-        answer: "((empty|(empty|text))|list empty)",
-    },
-    Row {
-        files: &[("m.rnc", b"text* & attribute a { empty }")],
-        answer: "((empty|text+)&@a empty)",
-    },
-];
+/// Whether they define a grammar, or why not.
+fn ending_of_files(alloc: Global, files: &mut SureFiles) -> Result<String, Fail> {
+    ending_written(alloc, &simplify(alloc, FIRST, files))
+}
 
-/// Names and datatypes.
-const NAMES: &[Row] = &[
-    Row {
-        files: &[(
-            "m.rnc",
-            b"namespace u = \"v\" element a | u:b | u:* - (u:c | d) { empty }",
-        )],
-        answer: "Syntax",
-    },
-    Row {
-        files: &[(
-            "m.rnc",
-            b"namespace u = \"v\" element a | u:b | (u:* - (u:c | d)) { empty }",
-        )],
-        answer: "#0; #0 a/v:b/v:*-v:c/d = empty",
-    },
-    Row {
-        files: &[("m.rnc", b"element * - (a | *) { empty }")],
-        answer: "BadExcept",
-    },
-    Row {
-        files: &[(
-            "m.rnc",
-            b"namespace u = \"v\" attribute u:* - u:* { empty }",
-        )],
-        answer: "BadExcept",
-    },
-    Row {
-        files: &[("m.rnc", b"namespace u = \"v\" attribute * - u:* { empty }")],
-        answer: "@*-v:* empty",
-    },
-    Row {
-        files: &[("m.rnc", b"start = empty x = attribute xmlns { empty }")],
-        answer: "XmlnsName",
-    },
-    Row {
-        files: &[("m.rnc", b"element xmlns { empty }")],
-        answer: "#0; #0 xmlns = empty",
-    },
-    Row {
-        files: &[(
-            "m.rnc",
-            b"namespace u = \"http://www.w3.org/2000/xmlns\" attribute * - u:* { empty }",
-        )],
-        answer: "XmlnsName",
-    },
-    Row {
-        files: &[(
-            "m.rnc",
-            b"namespace u = \"http://www.w3.org/2000/xmlns/\" element a | u:b { empty }",
-        )],
-        answer: "XmlnsName",
-    },
-    Row {
-        files: &[("m.rnc", b"start = empty x = xsd:QName")],
-        answer: "UnknownType",
-    },
-    Row {
-        files: &[("m.rnc", b"xsd:boolean { length = \"1\" }")],
-        answer: "UnknownParam",
-    },
-    Row {
-        files: &[("m.rnc", b"xsd:int { minInclusive = \"x\" }")],
-        answer: "BadParam",
-    },
-    Row {
-        files: &[("m.rnc", b"xsd:int \"x\"")],
-        answer: "BadValue",
-    },
-    Row {
-        files: &[("m.rnc", b"xsd:integer \"1234567890123456789012345678901\"")],
-        answer: "BadValue",
-    },
-    Row {
-        files: &[("m.rnc", b"xsd:int \" 7 \" | \"x\" | string \"\"")],
-        answer: "((' 7 '|'x')|'')",
-    },
-    Row {
-        files: &[(
-            "m.rnc",
-            b"xsd:int { minInclusive = \"2\" } - (xsd:int \"3\" | x)\nx = \"y\"",
-        )],
-        answer: "Syntax",
-    },
-    Row {
-        files: &[(
-            "m.rnc",
-            b"start = xsd:int { minInclusive = \"2\" } - (xsd:int \"1\" | xsd:int \"3\" | x | notAllowed)\nx = (\"y\" | string \"z\"), empty",
-        )],
-        answer: "type own 3 token y string z",
-    },
-    Row {
-        files: &[("m.rnc", b"token - \"y\" | string - string \"z\"")],
-        answer: "Syntax",
-    },
-    Row {
-        files: &[(
-            "m.rnc",
-            b"(token - \"y\") | (string - (string \"z\" | \"w\")) | (token - notAllowed)",
-        )],
-        answer: "((type own y|type own z token w)|type)",
-    },
-    Row {
-        files: &[("m.rnc", b"xsd:ID - xsd:NCName \"a\"")],
-        answer: "UnsupportedExcept",
-    },
-    Row {
-        files: &[("m.rnc", b"token - (\"y\" | token)")],
-        answer: "UnsupportedExcept",
-    },
-    Row {
-        files: &[("m.rnc", b"token - (\"y\"?)")],
-        answer: "UnsupportedExcept",
-    },
-];
+/// The same of one file of this text.
+fn ending(alloc: Global, text: &str) -> Result<String, Fail> {
+    let mut files = SureFiles::new(alloc);
+    files.add(FIRST, text.as_bytes())?;
+    ending_of_files(alloc, &mut files)
+}
 
-/// Compares each row's answer.
-fn check_rows(rt: &impl Abort, alloc: Global, rows: &[Row]) -> Result<(), Fail> {
-    for row in rows {
-        let mut files = SureFiles::new(alloc);
-        for (name, bytes) in row.files {
-            files.add(uri_of(alloc, name)?.as_str(), bytes)?;
-        }
-        let mut printer = Printer {
-            line: String::new(alloc),
-        };
-        printer.answer(&simplify(alloc, "file:///work/m.rnc", &mut files))?;
-        assert_eq!(rt; printer.line.as_str(), row.answer);
+fn add(alloc: Global, files: &mut SureFiles, name: &str, text: &str) -> Result<(), Fail> {
+    let uri = format!(in alloc; "file:///work/{name}")?;
+    files.add(uri.as_str(), text.as_bytes())?;
+    Ok(())
+}
+
+/// Adds a file whose name stands in a line of its own before its text.
+fn add_named(alloc: Global, files: &mut SureFiles, part: &str) -> Result<(), Fail> {
+    let (name, text) = part.split_once("\n").unwrap_or(("none", ""));
+    add(alloc, files, name, text)
+}
+
+/// Adds files behind one another: the first one, and each other one behind `# ` and its name in a line of its own.
+fn add_all(alloc: Global, files: &mut SureFiles, schema: &str) -> Result<(), Fail> {
+    let (first, others) = schema.split_once("\n# ").unwrap_or((schema, ""));
+    files.add(FIRST, first.as_bytes())?;
+    for other in others.split("\n# ") {
+        add_named(alloc, files, other)?;
     }
     Ok(())
 }
 
+/// The grammar of a schema, or why there is none.
+fn told_of(alloc: Global, schema: &str) -> Result<String, Fail> {
+    let mut files = SureFiles::new(alloc);
+    add_all(alloc, &mut files, schema)?;
+    told(alloc, &mut files)
+}
+
+/// Compares what is told of each schema with what stands behind `=> `. Between rows is a blank line.
+fn compare(rt: &impl Abort, alloc: Global, rows: &str) -> Result<(), Fail> {
+    for row in rows.split("\n\n") {
+        let (schema, want) = row.split_once("\n=> ").unwrap_or((row, "no row"));
+        assert_eq!(rt; told_of(alloc, schema)?.as_str(), want, "at {schema}");
+    }
+    Ok(())
+}
+
+/// Files that are included or external.
+const FILES: &str = r##"include "i.rnc" { start = element a { x } }
+# i.rnc
+start = element b { x }
+x = element c { empty }
+=> #1; #0 c = empty; #1 a = #0
+
+include "m.rnc"
+=> IncludeLoop
+
+element a { external "./m.rnc"? }
+=> IncludeLoop
+
+external "p.rnc" | external "d/q.rnc"
+# p.rnc
+text
+# d/q.rnc
+start = x x = empty include "../m.rnc"
+=> IncludeLoop
+
+element a { external "d/p.rnc" }
+# d/p.rnc
+external "q.rnc" | external "q.rnc"
+# d/q.rnc
+element b { text }
+=> #2; #0 b = text; #1 b = text; #2 a = (#1|#0)
+
+start = external "p.rnc"
+x = element x { empty }
+# p.rnc
+element p { x, grammar { start = parent x } }
+=> #0; #0 p = (#1,#1); #1 x = empty
+
+start = grammar { start = external "p.rnc" }
+x = element x { empty }
+# p.rnc
+parent x
+=> #0; #0 x = empty
+
+external "p.rnc"
+# p.rnc
+element p { x }
+=> NoDefinition
+
+default namespace = "u" namespace v = "w"
+start = external "p.rnc" | external "p.rnc" inherit = v
+# p.rnc
+element p { attribute q { text } }
+=> (#1|#0); #0 w:p = @q text; #1 u:p = @q text
+
+default namespace = "u" external "p.rnc"
+# p.rnc
+external "q.rnc"
+# q.rnc
+namespace i = inherit default namespace = "v"
+element i:a { element b { empty } }
+=> #1; #0 v:b = empty; #1 u:a = #0
+
+default namespace = "u" include "p.rnc" { x = element x { empty } }
+# p.rnc
+default namespace = "v" start = element p { x } x = empty include "q.rnc"
+# q.rnc
+y = element y { empty }
+=> #1; #0 v:y = empty; #1 v:p = #2; #2 u:x = empty
+
+include "p.rnc"
+# p.rnc
+empty
+=> NotGrammar
+
+include "p.rnc"
+# p.rnc
+grammar { start = empty }?
+=> NotGrammar
+
+include "p.rnc" { x = empty }
+# p.rnc
+((grammar { start = x x = text }))
+=> empty
+
+external "p.rnc"
+# p.rnc
+start = text
+=> text
+
+include "p.rnc" { y = empty }
+# p.rnc
+start = x x = text
+=> NoDefinition
+
+x = text include "p.rnc" { x = empty }
+# p.rnc
+start = text
+=> NoDefinition
+
+include "p.rnc" { start = empty }
+# p.rnc
+x = text
+=> NoDefinition
+
+include "p.rnc" { x = empty }
+# p.rnc
+start = x include "q.rnc"
+# q.rnc
+x = text
+=> empty
+
+include "p.rnc" { x = empty }
+# p.rnc
+start = x include "q.rnc" { x = text }
+# q.rnc
+x = nowhere
+=> empty
+
+include "p.rnc" { start = text }
+# p.rnc
+start |= x start |= y x = empty y = empty
+=> text
+
+x |= empty include "p.rnc" { div { x |= text } } start = x x |= list { empty }
+# p.rnc
+x = y x &= external "q.rnc" y |= element y { y }
+# q.rnc
+element q { nowhere }
+=> ((empty|text)|list empty); #0 y = #0
+
+include "p.rnc" { x = empty } start = x
+# p.rnc
+x = external "q.rnc"
+=> Absent file:///work/q.rnc
+
+start = nowhere include "d/p.rnc" include "q.rnc"
+# q.rnc
+start = 
+=> Absent file:///work/d/p.rnc
+
+include "p.rnc" include "q.rnc"
+# p.rnc
+include "d/r.rnc"
+=> Absent file:///work/d/r.rnc
+
+external "http://["
+=> BadUri http://[
+
+external "p.rnc"
+# p.rnc
+element
+=> Syntax"##;
+
+/// Definitions and references.
+const DEFINITIONS: &str = r#"
+=> NoStart
+
+x = empty
+=> NoStart
+
+start = grammar { x = empty }
+=> NoStart
+
+start = empty x = grammar { }
+=> NoStart
+
+start = element a { empty }
+start = element a { empty }
+=> CombineClash
+
+start = empty x |= empty x = text x &= text
+=> CombineClash
+
+start = empty x = grammar { start &= text start |= text }
+=> CombineClash
+
+start |= text div { start |= list { text } div { start = empty } }
+=> (empty|(text|list text))
+
+start = x x &= text x = element a { x } x &= empty x &= text
+=> ((text&#0)&text); #0 a = ((text&#0)&text)
+
+start = empty x = y
+=> NoDefinition
+
+element a { x }
+=> NoDefinition
+
+parent x
+=> NoDefinition
+
+start = parent x x = empty
+=> NoDefinition
+
+start = grammar { start = parent x x = empty } y = empty
+=> NoDefinition
+
+start = x x = grammar { start = x, parent y x = text } y = list { text }
+=> (text,list text)
+
+start = grammar { start = grammar { start = parent x, x x = text } x = list { text } } x = y y = empty
+=> (list text,text)
+
+start = x
+x = element a { empty } | x
+=> RefLoop
+
+start = empty x = attribute x { (y, text)? } y = list { x* }
+=> RefLoop
+
+start = x x = grammar { start = parent x }
+=> RefLoop
+
+start = empty x = token - (y | "a") y = x
+=> RefLoop
+
+start = x x = element a { x?, y } y = element b { x }
+=> #0; #0 a = ((empty|#0),#1); #1 b = #0
+
+element a { element b { text }*, mixed { attribute c { text }? }, element d { notAllowed }+ }
+=> #2; #0 b = text; #1 d = none; #2 a = (((empty|#0+),(text&(empty|@c text))),#1+)"#;
+
+/// What is short for something else, what is not allowed, and what is empty.
+const NORMAL_FORMS: &str = r#"text?
+=> (empty|text)
+
+text*
+=> (empty|text+)
+
+text+
+=> text+
+
+mixed { list { text } }
+=> (text&list text)
+
+text | list { text } | text+
+=> ((text|list text)|text+)
+
+text, list { text }, text+
+=> ((text,list text),text+)
+
+text & list { text } & text+
+=> ((text&list text)&text+)
+
+text, (list { text }, text+)
+=> (text,(list text,text+))
+
+text, notAllowed
+=> none
+
+notAllowed & text
+=> none
+
+notAllowed+
+=> none
+
+list { notAllowed }
+=> none
+
+attribute a { notAllowed }
+=> none
+
+element a { notAllowed }
+=> #0; #0 a = none
+
+notAllowed | text
+=> text
+
+text | notAllowed
+=> text
+
+notAllowed | notAllowed
+=> none
+
+notAllowed*
+=> empty
+
+token - notAllowed
+=> type
+
+token - (notAllowed | "y" | list { notAllowed })
+=> type own y
+
+(text, notAllowed, text) | (empty & text & empty) | notAllowed
+=> text
+
+empty, text
+=> text
+
+text & empty
+=> text
+
+empty, empty
+=> empty
+
+empty | empty
+=> empty
+
+empty+
+=> empty
+
+mixed { empty }
+=> text
+
+text | empty
+=> (empty|text)
+
+(text | empty), (empty | empty), empty+, (empty, empty), empty?
+=> (empty|text)
+
+(empty | text) | empty | list { empty }
+=> ((empty|(empty|text))|list empty)
+
+text* & attribute a { empty }
+=> ((empty|text+)&@a empty)"#;
+
+/// Classes of names.
+const CLASSES: &str = r#"namespace u = "v"
+element a | u:b | (u:* - (u:c | d)) { empty }
+=> #0; #0 ((a|v:b)|(v:*-(v:c|d))) = empty
+
+element * - (a | *) { empty }
+=> BadExcept
+
+start = empty x = attribute * - (a | (* - b)) { empty }
+=> BadExcept
+
+namespace u = "v"
+attribute u:* - u:* { empty }
+=> BadExcept
+
+namespace u = "v"
+attribute u:* - (a | *) { empty }
+=> BadExcept
+
+namespace u = "v"
+attribute * - (u:* - u:a) { empty }
+=> @(*-(v:*-v:a)) empty
+
+attribute * { text }+
+=> @* text+
+
+start = empty x = attribute xmlns { empty }
+=> XmlnsName
+
+element xmlns { attribute * - (a | xmlns) { empty } }
+=> XmlnsName
+
+element xmlns { empty }
+=> #0; #0 xmlns = empty
+
+namespace u = "http://www.w3.org/2000/xmlns"
+attribute * - u:* { empty }
+=> XmlnsName
+
+namespace u = "http://www.w3.org/2000/xmlns"
+element u:a { empty }
+=> #0; #0 http://www.w3.org/2000/xmlns:a = empty
+
+namespace u = "http://www.w3.org/2000/xmlns/"
+element a | u:b { empty }
+=> XmlnsName
+
+namespace u = "http://www.w3.org/2000/xmlns/"
+element * - (a | u:*) { empty }
+=> XmlnsName"#;
+
+/// Datatypes and what is taken from them.
+const TYPES: &str = r#"element n { xsd:int { minInclusive = "5" maxInclusive = "4" } }
+=> #0; #0 n = type
+
+start = empty x = xsd:QName
+=> UnknownType
+
+xsd:QName "a"
+=> UnknownType
+
+datatypes d = "http://example.org/types" d:string
+=> UnknownType
+
+xsd:boolean { length = "1" }
+=> UnknownParam
+
+start = empty x = token { length = "1" }
+=> UnknownParam
+
+xsd:int { minInclusive = "x" }
+=> BadParam
+
+xsd:string { length = "1" length = "-1" }
+=> BadParam
+
+xsd:int "x"
+=> BadValue
+
+xsd:integer "1234567890123456789012345678901"
+=> BadValue
+
+xsd:int - xsd:int "x"
+=> BadValue
+
+xsd:int " 7 " | "x" | string ""
+=> ((' 7 '|'x')|'')
+
+start = xsd:int { minInclusive = "2" } - (xsd:int "1" | xsd:int "3" | x | notAllowed)
+x = ("y" | string "z"), empty
+=> type own 3 token y string z
+
+(token - "y") | (string - (string "z" | "w")) | (token - notAllowed)
+=> ((type own y|type own z token w)|type)
+
+xsd:ID - xsd:NCName "a"
+=> UnsupportedExcept
+
+token - (text | "y")
+=> UnsupportedExcept
+
+token - (list { "y" })
+=> UnsupportedExcept
+
+token - (attribute a { text })
+=> UnsupportedExcept
+
+start = token - x x = element x { text }
+=> UnsupportedExcept
+
+token - ("y" | token)
+=> UnsupportedExcept
+
+token - ("y"?)
+=> UnsupportedExcept"#;
+
+/// Files that can't be read.
+const UNREAD: &str = r##"a \x{}
+=> BadEscape
+
+a 'b
+=> BadLiteral
+
+a $ b
+=> BadCharacter
+
+element a { empty }, element b { empty } | element c { empty }
+=> Syntax
+
+element r:a { empty }
+=> UndeclaredPrefix
+
+default namespace = "u" default namespace = "v" a
+=> Twice
+
+external "p.rnc"
+# p.rnc
+element a { text } text
+=> Syntax"##;
+
 #[test]
 fn files_are_put_together(rt: HostRuntime) -> Result<(), Fail> {
-    check_rows(&rt, rt.alloc(), FILES)
+    compare(&rt, rt.alloc(), FILES)
 }
 
 #[test]
 fn references_are_resolved(rt: HostRuntime) -> Result<(), Fail> {
-    check_rows(&rt, rt.alloc(), GRAMMARS)
+    compare(&rt, rt.alloc(), DEFINITIONS)
 }
 
 #[test]
 fn forms_are_normal(rt: HostRuntime) -> Result<(), Fail> {
-    check_rows(&rt, rt.alloc(), NORMAL_FORMS)
+    compare(&rt, rt.alloc(), NORMAL_FORMS)
 }
 
 #[test]
 fn names_are_judged(rt: HostRuntime) -> Result<(), Fail> {
-    check_rows(&rt, rt.alloc(), NAMES)
-}
-
-/// What `simplify` answers for one file of this text.
-fn answer_of(alloc: Global, text: &str) -> Result<Result<Grammar, SchemaFault>, Fail> {
-    let mut files = SureFiles::new(alloc);
-    files.add("file:///work/m.rnc", text.as_bytes())?;
-    Ok(simplify(alloc, "file:///work/m.rnc", &mut files))
-}
-
-/// Whether the answer is a refusal for this cause.
-fn is_refused(answer: &Result<Grammar, SchemaFault>, cause: Cause) -> bool {
-    match answer {
-        Err(SchemaFault::Unreadable(found)) => *found == cause,
-        _ => false,
-    }
-}
-
-/// A text, a part so many times, and an end.
-fn repeated(
-    alloc: Global,
-    start: &str,
-    part: &str,
-    count: usize,
-    end: &str,
-) -> Result<String, Fail> {
-    let mut text = String::from_str(alloc, start)?;
-    for _ in 0..count {
-        text.push_str(part)?;
-    }
-    text.push_str(end)?;
-    Ok(text)
-}
-
-/// Definitions of which each stands twice in the next, joined by the sign, from a first one on.
-fn doubled(
-    alloc: Global,
-    start: &str,
-    first: &str,
-    sign: &str,
-    count: usize,
-) -> Result<String, Fail> {
-    let mut text = format!(in alloc; "start = {start} x0 = {first}\n")?;
-    for i in 0..count {
-        write!(text, "x{} = x{i} {sign} x{i}\n", i + 1)?;
-    }
-    Ok(text)
+    compare(&rt, rt.alloc(), CLASSES)
 }
 
 #[test]
-fn grammars_have_limits(rt: HostRuntime) -> Result<(), Fail> {
-    let alloc = rt.alloc();
-    let deep = repeated(alloc, "element a { text", ", text", 7_999, " }")?;
-    assert!(rt; answer_of(alloc, deep.as_str())?.is_ok());
-    let too_deep = repeated(alloc, "element a { text", ", text", 8_000, " }")?;
-    assert!(rt; is_refused(&answer_of(alloc, too_deep.as_str())?, Cause::TooLarge));
-    // 2^19 texts make 2^20 - 1 nodes, half as many 524,287, beside those of the start.
-    for (levels, fits) in [(18, true), (19, false), (400, false)] {
-        let large = doubled(alloc, "element a { x18 }", "text", ",", levels)?;
-        let grown = doubled(alloc, "x19", "text", ",", levels)?;
-        assert!(rt; answer_of(alloc, large.as_str())?.is_ok());
-        if !fits {
-            assert!(rt; is_refused(&answer_of(alloc, grown.as_str())?, Cause::TooLarge));
-        }
-    }
-    // Nothing is left of what is empty, however often it stands there.
-    let empty = doubled(alloc, "x400", "empty", "&", 400)?;
-    assert!(rt; answer_of(alloc, empty.as_str())?.is_ok());
-    for (levels, fits) in [(7, true), (8, false), (400, false)] {
-        let start = format!(in alloc; "token - x{levels}")?;
-        let values = doubled(alloc, start.as_str(), "\"v\"", "|", levels)?;
-        let answer = answer_of(alloc, values.as_str())?;
-        assert!(rt;
-            if fits {
-                answer.is_ok()
-            } else {
-                is_refused(&answer, Cause::TooManyExcepts)
-            }
-        );
-    }
+fn types_are_found(rt: HostRuntime) -> Result<(), Fail> {
+    compare(&rt, rt.alloc(), TYPES)
+}
+
+/// What is told of no files.
+fn told_of_none(alloc: Global) -> Result<String, Fail> {
+    told(alloc, &mut SureFiles::new(alloc))
+}
+
+/// What is told where the second file ends being text at its offset 11, behind two bytes that begin a character.
+fn told_of_bytes(alloc: Global) -> Result<String, Fail> {
+    let mut files = SureFiles::new(alloc);
+    files.add(FIRST, b"external \"p.rnc\"")?;
+    files.add("file:///work/p.rnc", b"element a\xE2\x82A")?;
+    told(alloc, &mut files)
+}
+
+#[test]
+fn files_that_are_not_read_are_told(rt: HostRuntime) -> Result<(), Fail> {
+    compare(&rt, rt.alloc(), UNREAD)
+}
+
+#[test]
+fn files_that_are_not_there_are_told(rt: HostRuntime) -> Result<(), Fail> {
+    let found = told_of_none(rt.alloc())?;
+    assert_eq!(rt; found.as_str(), "Absent file:///work/m.rnc");
     Ok(())
 }
 
 #[test]
-fn chains_of_files_may_be_long(rt: HostRuntime) -> Result<(), Fail> {
-    let alloc = rt.alloc();
-    let mut files = SureFiles::new(alloc);
-    for i in 0..300_usize {
-        let text = format!(in alloc;
-            "include \"{}.rnc\" x{i} = element x{i} {{ x{} }}",
-            i + 1,
-            i + 1
-        )?;
-        let name = format!(in alloc; "{i}.rnc")?;
-        files.add(uri_of(alloc, name.as_str())?.as_str(), text.as_bytes())?;
-    }
-    files.add("file:///work/300.rnc", b"start = x0 x300 = empty")?;
-    let answer = simplify(alloc, "file:///work/0.rnc", &mut files);
-    assert!(rt; matches!(answer, Ok(grammar) if grammar.defs.len() == 300));
+fn files_that_are_no_text_are_told(rt: HostRuntime) -> Result<(), Fail> {
+    let found = told_of_bytes(rt.alloc())?;
+    assert_eq!(rt; found.as_str(), "NotUtf8 file:///work/p.rnc 11");
     Ok(())
+}
+
+/// What is told of two files where the call of this number fails.
+fn told_with_fault(alloc: Global, failing: u64) -> Result<String, Fail> {
+    let mut files = MemFiles::new(alloc, &[failing])?;
+    files.add(FIRST, b"include \"i.rnc\" { start = element a { x } }")?;
+    files.add(
+        "file:///work/i.rnc",
+        b"start = element b { x }\nx = element c { empty }",
+    )?;
+    told(alloc, &mut files)
 }
 
 #[test]
 fn files_that_fail_are_told(rt: HostRuntime) -> Result<(), Fail> {
-    let alloc = rt.alloc();
-    for (failing, failed) in [(1, true), (2, true), (3, false)] {
-        let mut files = MemFiles::new(alloc, &[failing])?;
-        for (name, bytes) in FILES[0].files {
-            files.add(uri_of(alloc, name)?.as_str(), bytes)?;
-        }
-        let answer = simplify(alloc, "file:///work/m.rnc", &mut files);
-        assert_eq!(rt; matches!(answer, Err(SchemaFault::Failed)), failed);
-        assert_eq!(rt; answer.is_ok(), !failed);
+    for (failing, want) in &[
+        (1, "Failed"),
+        (2, "Failed"),
+        (3, "#1; #0 c = empty; #1 a = #0"),
+    ] {
+        assert_eq!(rt;
+            told_with_fault(rt.alloc(), *failing)?.as_str(),
+            *want,
+            "at {failing}"
+        );
     }
     Ok(())
 }
@@ -641,30 +804,184 @@ fn files_that_fail_are_told(rt: HostRuntime) -> Result<(), Fail> {
 const DOCUMENT: &str =
     "start = element doc { attribute id { xsd:NCName }, element title { text }, element para { (text | element em { text })* }* }";
 
-/// Why a front of it is refused.
-fn cause_of_front(front: &str) -> Cause {
-    let rest = front.strip_prefix("start = ").unwrap_or(front);
-    if front.is_empty() {
-        Cause::NoStart
-    } else if rest.len() < front.len() && !rest.is_empty() && "elemen".starts_with(rest) {
-        Cause::NoDefinition
-    } else if rest.len() == front.len() && "star".starts_with(front) {
-        Cause::NoDefinition
-    } else if front.ends_with("xsd:") {
-        Cause::BadCharacter
-    } else {
-        Cause::Syntax
+/// Why so many bytes of it are refused.
+fn ending_of_front(len: usize) -> &'static str {
+    match len {
+        0 => "NoStart",
+        1..=4 | 9..=14 => "NoDefinition",
+        41 => "BadCharacter",
+        _ => "Syntax",
     }
 }
 
 #[test]
 fn fronts_of_a_schema_are_refused(rt: HostRuntime) -> Result<(), Fail> {
-    let alloc = rt.alloc();
-    assert!(rt; answer_of(alloc, DOCUMENT)?.is_ok());
-    for end in 0..DOCUMENT.len() {
-        let front = &DOCUMENT[..end];
-        let answer = answer_of(alloc, front)?;
-        assert!(rt; is_refused(&answer, cause_of_front(front)), "{front}");
+    assert_eq!(rt; ending(rt.alloc(), DOCUMENT)?.as_str(), "a grammar");
+    for len in 0..DOCUMENT.len() {
+        let front = str::from_utf8(&DOCUMENT.as_bytes()[..len])?;
+        assert_eq!(rt;
+            ending(rt.alloc(), front)?.as_str(),
+            ending_of_front(len),
+            "at {len}"
+        );
     }
+    Ok(())
+}
+
+/// How an element ends with so many texts behind a first one, all on one path.
+fn ending_of_deep(alloc: Global, count: usize) -> Result<String, Fail> {
+    let texts = ", text".repeat(alloc, count)?;
+    let text = format!(in alloc; "element a {{ text{texts} }}")?;
+    ending(alloc, text.as_str())
+}
+
+/// How a pattern ends in so many brackets.
+fn ending_of_brackets(alloc: Global, count: usize) -> Result<String, Fail> {
+    let opening = "(".repeat(alloc, count)?;
+    let closing = ")".repeat(alloc, count)?;
+    let text = format!(in alloc; "{opening}empty{closing}")?;
+    ending(alloc, text.as_str())
+}
+
+/// A start, and 400 definitions of which each stands twice in the next, joined by the sign, from a first one on.
+fn doubled(alloc: Global, start: &str, first: &str, sign: &str) -> Result<String, Fail> {
+    let mut text = format!(in alloc; "start = {start} x0 = {first}\n")?;
+    for i in 0..400_usize {
+        let next = i.saturating_add(1);
+        write!(text, "x{next} = x{i} {sign} x{i}\n")?;
+    }
+    Ok(text)
+}
+
+fn ending_of_doubled(alloc: Global, start: &str, first: &str, sign: &str) -> Result<String, Fail> {
+    let text = doubled(alloc, start, first, sign)?;
+    ending(alloc, text.as_str())
+}
+
+/// Compares how schemas end that have such a start and such doubled definitions, 400 of them.
+fn compare_doubled(
+    rt: &impl Abort,
+    alloc: Global,
+    rows: &str,
+    first: &str,
+    sign: &str,
+) -> Result<(), Fail> {
+    for row in rows.split("\n\n") {
+        let (start, want) = row.split_once("\n=> ").unwrap_or((row, "no row"));
+        let found = ending_of_doubled(alloc, start, first, sign)?;
+        assert_eq!(rt; found.as_str(), want, "at {start}");
+    }
+    Ok(())
+}
+
+#[test]
+fn paths_have_a_limit(rt: HostRuntime) -> Result<(), Fail> {
+    for (count, want) in &[(7_999, "a grammar"), (8_000, "TooLarge")] {
+        let found = ending_of_deep(rt.alloc(), *count)?;
+        assert_eq!(rt; found.as_str(), *want, "at {count}");
+    }
+    Ok(())
+}
+
+#[test]
+fn brackets_have_a_limit(rt: HostRuntime) -> Result<(), Fail> {
+    for (count, want) in &[(200, "a grammar"), (201, "TooDeep")] {
+        let found = ending_of_brackets(rt.alloc(), *count)?;
+        assert_eq!(rt; found.as_str(), *want, "at {count}");
+    }
+    Ok(())
+}
+
+/// Starts over 2 to the power of n texts, or none at all, as `xn`. The texts of the first two are 500,000, whose joined nodes
+/// make 1,000,000 with the start.
+const LARGE: &str = "element a { x18, x17, x16, x15, x13, x8, x5 }
+=> a grammar
+
+element a { (x18, x17, x16, x15, x13, x8, x5)+ }
+=> TooLarge
+
+element a { x19 }
+=> TooLarge
+
+x400
+=> TooLarge
+
+element a { notAllowed, x400 }
+=> a grammar";
+
+#[test]
+fn grammars_have_a_limit(rt: HostRuntime) -> Result<(), Fail> {
+    compare_doubled(&rt, rt.alloc(), LARGE, "text", ",")
+}
+
+#[test]
+fn what_is_empty_has_no_limit(rt: HostRuntime) -> Result<(), Fail> {
+    compare_doubled(&rt, rt.alloc(), "x400\n=> a grammar", "empty", "&")
+}
+
+/// Starts over 2 to the power of n values as `xn`.
+const EXCEPTS: &str = "token - x7
+=> a grammar
+
+token - (x7 | notAllowed)
+=> a grammar
+
+token - (x7 | token \"v\")
+=> TooManyExcepts
+
+string - x400
+=> TooManyExcepts";
+
+/// The same of values that a type doesn't accept. They take nothing away, and are counted.
+const OTHER_EXCEPTS: &str = "xsd:int { minInclusive = \"8\" } - x7
+=> a grammar
+
+xsd:int { minInclusive = \"8\" } - x8
+=> TooManyExcepts";
+
+#[test]
+fn excepts_have_a_limit(rt: HostRuntime) -> Result<(), Fail> {
+    compare_doubled(&rt, rt.alloc(), EXCEPTS, "\"v\"", "|")
+}
+
+#[test]
+fn other_excepts_have_a_limit(rt: HostRuntime) -> Result<(), Fail> {
+    compare_doubled(&rt, rt.alloc(), OTHER_EXCEPTS, "xsd:int \"7\"", "|")
+}
+
+/// Adds a file that includes the next one.
+fn add_link(alloc: Global, files: &mut SureFiles, i: usize) -> Result<(), Fail> {
+    let next = i.saturating_add(1);
+    let name = format!(in alloc; "{i}.rnc")?;
+    let text = format!(in alloc; "include \"{next}.rnc\" x{i} = element x{i} {{ x{next} }}")?;
+    add(alloc, files, name.as_str(), text.as_str())
+}
+
+/// Adds a first file and 300 others that are included, each by the one before it.
+fn add_chain(alloc: Global, files: &mut SureFiles) -> Result<(), Fail> {
+    add(alloc, files, "m.rnc", "include \"0.rnc\"")?;
+    for i in 0..300 {
+        add_link(alloc, files, i)?;
+    }
+    add(alloc, files, "300.rnc", "start = x0 x300 = empty")
+}
+
+fn definitions_of(answer: &Result<Grammar, SchemaFault>) -> usize {
+    match answer {
+        Ok(grammar) => grammar.defs.len(),
+        Err(_) => 0,
+    }
+}
+
+/// How many definitions the grammar of the files has, and 0 where there is none.
+fn definitions(alloc: Global, files: &mut SureFiles) -> usize {
+    definitions_of(&simplify(alloc, FIRST, files))
+}
+
+#[test]
+fn chains_of_files_may_be_long(rt: HostRuntime) -> Result<(), Fail> {
+    let mut files = SureFiles::new(rt.alloc());
+    add_chain(rt.alloc(), &mut files)?;
+    assert_eq!(rt; definitions(rt.alloc(), &mut files), 300);
     Ok(())
 }
