@@ -25,10 +25,10 @@ const SCRIPTS: [&str; 5] = [
 /// manual-blocks.rnc, each but for the one that is replaced, and 15 of manual.rnc; 10 of config.rnc. The parts of a schema
 /// have no start.
 const SCHEMAS: [&str; 4] = [
-    "schemas/manual.rnc",
-    "schemas/manual-blocks.rnc",
-    "schemas/manual-inlines.rnc",
-    "schemas/config.rnc",
+    "examples/schemas/manual.rnc",
+    "examples/schemas/manual-blocks.rnc",
+    "examples/schemas/manual-inlines.rnc",
+    "examples/schemas/config.rnc",
 ];
 
 fn main(rt: HostRuntime) -> io::Result<()> {

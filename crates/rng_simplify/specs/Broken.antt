@@ -110,7 +110,7 @@ pub record Has (whole : Composed) (kind : List Clauses → Composed → Type 0) 
   pub occurs : Occurs whole (place scopes pattern)
   pub is : kind scopes pattern
 
--- a reference to what its grammar, or the one around that, doesn't define, or where there is no such grammar: 4.18
+-- a reference to what its grammar, or the one around that, doesn't define, or where there is no such grammar: 7.19
 abbrev pub IsUndefined : List Clauses → Composed → Type 0
 IsUndefined [] (composed.ref name) = Unit {0}
 IsUndefined (scope ∷ outer) (composed.ref name) = defines (defined.Name name) scope ≡ false
@@ -119,7 +119,7 @@ IsUndefined (inner ∷ []) (composed.parent_ref name) = Unit {0}
 IsUndefined (inner ∷ scope ∷ outer) (composed.parent_ref name) = defines (defined.Name name) scope ≡ false
 IsUndefined scopes p = ⊥
 
--- a grammar without a start: 4.18
+-- a grammar without a start: 7.19
 abbrev pub HasNoStart : List Clauses → Composed → Type 0
 HasNoStart scopes (composed.grammar clauses) = defines defined.Start clauses ≡ false
 HasNoStart scopes p = ⊥
@@ -139,7 +139,7 @@ is_interleave combine.Alone = false
 is_interleave combine.Choice = false
 is_interleave combine.Interleave = true
 
--- two say nothing of how definitions of one name are joined, or two say it in two ways: 4.17
+-- two say nothing of how definitions of one name are joined, or two say it in two ways: 7.18
 abbrev pub clash : List Combine → Bool
 clash all = nat_lt 1 (length (filter is_alone all)) || (list_any is_choice all && list_any is_interleave all)
 
@@ -148,29 +148,29 @@ abbrev pub HasClash : List Clauses → Composed → Type 0
 HasClash scopes (composed.grammar clauses) = (name : Defined) × (clash (combines (defining name clauses)) ≡ true)
 HasClash scopes p = ⊥
 
--- a pattern of which its own simple form would be a part: 4.19
+-- a pattern of which its own simple form would be a part: 7.20
 abbrev pub LeadsBack : List Clauses → Composed → Type 0
 LeadsBack scopes p = LeadsOn (place scopes p) (place scopes p)
 
--- a wildcard taken from a wildcard, in the class of an element or an attribute: 4.16
+-- a wildcard taken from a wildcard, in the class of an element or an attribute: 7.17
 abbrev pub HasBadExcept : List Clauses → Composed → Type 0
 HasBadExcept scopes (composed.element number class p) = has_bad_except class ≡ true
 HasBadExcept scopes (composed.attribute class p) = has_bad_except class ≡ true
 HasBadExcept scopes p = ⊥
 
--- names of namespace declarations in the class of either: 4.16
+-- names of namespace declarations in the class of either: 7.17
 abbrev pub HasXmlnsName : List Clauses → Composed → Type 0
 HasXmlnsName scopes (composed.element number class p) = names_declarations class ≡ true
 HasXmlnsName scopes (composed.attribute class p) = names_declarations_of_attribute class ≡ true
 HasXmlnsName scopes p = ⊥
 
--- a type that is refused: 4.16
+-- a type that is refused: 7.17
 abbrev pub HasRefusedType : TypeFault → List Clauses → Composed → Type 0
 HasRefusedType why scopes (composed.value type text) = datatype_of type [] ≡ Err why
 HasRefusedType why scopes (composed.typed type params except) = datatype_of type params ≡ Err why
 HasRefusedType why scopes p = ⊥
 
--- a literal that isn't in its type: 4.16
+-- a literal that isn't in its type: 7.17
 abbrev pub IsBadValue : List Clauses → Composed → Type 0
 IsBadValue scopes (composed.value type text) = (datatype : Datatype) × (datatype_of type [] ≡ Ok datatype) × ¬ MayWrite datatype text
 IsBadValue scopes p = ⊥

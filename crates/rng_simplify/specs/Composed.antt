@@ -1,5 +1,5 @@
 -- A schema in one piece: each file is in its place, each namespace is known, and what is short for something else is
--- written out (ISO/IEC 19757-2, sections 4.5 to 4.15). References still stand, and so do grammars in grammars.
+-- written out (ISO/IEC 19757-2, sections 7.6 to 7.16). References still stand, and so do grammars in grammars.
 use Rattle.std.specs.Prelude.{ℕ, Bool, true, false, List, [], ◌∷◌, ◌++◌, if◌then◌else◌}
 use Rattle.std.specs.Str.{bytes_eq}
 use Rattle.rnc_parse.specs.declared.surface.TypeName.{TypeName}
@@ -76,7 +76,7 @@ abbrev pub bodies : Clauses → List Composed
 bodies end_of_clauses = []
 bodies (clause_then name combine p more) = p ∷ bodies more
 
--- ---- the numbers of the elements, in the order of the text
+-- ---- the numbers of the elements, in the order of the piece
 
 abbrev mutual
   pub numbers : Composed → List ℕ

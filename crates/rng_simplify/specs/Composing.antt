@@ -1,4 +1,4 @@
--- Schema files put into one piece: ISO/IEC 19757-2, sections 4.5 to 4.15.
+-- Schema files put into one piece: ISO/IEC 19757-2, sections 7.6 to 7.16.
 use Rattle.std.specs.Prelude.{◌≡◌, ℕ, true, List, [], ◌∷◌, Option, Some, None, Contains, IsUtf8}
 use Rattle.std.specs.List.{AllByRecursion}
 use Rattle.nx_host.specs.Files.{FileMap}
@@ -36,7 +36,7 @@ pub record Says (files : FileMap) (uri : List ℕ) (surface : WrittenSurface) : 
   pub is_text : IsUtf8 bytes
   pub reads : Reads bytes surface
 
--- the reference leads to a file that says this, and that doesn't lead back here: sections 4.5 to 4.7
+-- the reference leads to a file that says this, and that isn't one of those that lead here: sections 7.6 to 7.8
 pub record Opens (files : FileMap) (context : Context) (reference : FileReference) (inner : Context) (surface : WrittenSurface) : Type 0 where
   pub uri : List ℕ
   pub joined : Joins context.uri reference.uri uri
@@ -57,7 +57,7 @@ DefinesEach clauses names = AllByRecursion (λ name. defines name clauses ≡ tr
 mutual
   -- a pattern of a file in one piece. The numbers of elements are free
   pub data Composes (files : FileMap) : Context → WrittenPattern → Composed → Type 0 where
-    -- 4.8: a class's namespaces are known
+    -- 7.9: a class's namespaces are known
     by_element : {context : Context} {class : WrittenClass} {p : WrittenPattern} {q : Composed} (number : ℕ) → Composes files context p q → Composes files context (written.element class p) (composed.element number (class_in context.inherited class) q)
     by_attribute : {context : Context} {class : WrittenClass} {p : WrittenPattern} {q : Composed} → Composes files context p q → Composes files context (written.attribute class p) (composed.attribute (class_in context.inherited class) q)
     by_list : {context : Context} {p : WrittenPattern} {q : Composed} → Composes files context p q → Composes files context (written.list p) (composed.listed q)
@@ -69,10 +69,10 @@ mutual
     by_value : {context : Context} {type : TypeName} {text : List ℕ} → Composes files context (written.value type text) (composed.value type text)
     by_type : {context : Context} {type : TypeName} {params : List Param} → Composes files context (written.typed type params) (composed.typed type params composed.not_allowed)
     by_type_but : {context : Context} {type : TypeName} {params : List Param} {except : WrittenPattern} {q : Composed} → Composes files context except q → Composes files context (written.typed_but type params except) (composed.typed type params q)
-    -- 4.6: the other file's pattern in the place of the reference
+    -- 7.7: the other file's pattern in the place of the reference
     by_external : {context inner : Context} {reference : FileReference} {surface : WrittenSurface} {q : Composed} → Opens files context reference inner surface → ComposesFile files inner surface q → Composes files context (written.external reference) q
     by_grammar : {context : Context} {items : WrittenItems} {clauses : Clauses} → Gathers files context items clauses → Composes files context (written.grammar items) (composed.grammar clauses)
-    -- 4.13 to 4.15: what is short for something else
+    -- 7.14 to 7.16: what is short for something else
     by_optional : {context : Context} {p : WrittenPattern} {q : Composed} → Composes files context p q → Composes files context (written.optional p) (composed.choice q composed.empty)
     by_zero_or_more : {context : Context} {p : WrittenPattern} {q : Composed} → Composes files context p q → Composes files context (written.zero_or_more p) (composed.choice (composed.one_or_more q) composed.empty)
     by_one_or_more : {context : Context} {p : WrittenPattern} {q : Composed} → Composes files context p q → Composes files context (written.one_or_more p) (composed.one_or_more q)
@@ -90,9 +90,9 @@ mutual
   pub data Gathers (files : FileMap) : Context → WrittenItems → Clauses → Type 0 where
     no_item : {context : Context} → Gathers files context written.no_items end_of_clauses
     definition : {context : Context} {name : Defined} {combine : Combine} {p : WrittenPattern} {q : Composed} {items : WrittenItems} {clauses : Clauses} → Composes files context p q → Gathers files context items clauses → Gathers files context (written.item_then (written.define name combine p) items) (clause_then name combine q clauses)
-    -- 4.11: a div is what is in it
+    -- 7.12: a div is what is in it
     division : {context : Context} {inside items : WrittenItems} {first clauses all : Clauses} → Gathers files context inside first → Gathers files context items clauses → all ≡ then_clauses first clauses → Gathers files context (written.item_then (written.div inside) items) all
-    -- 4.7: the other grammar's definitions, but for those that are defined anew, of each of which it has one
+    -- 7.8: the other grammar's definitions, but for those that are defined anew, of each of which it has one
     inclusion : {context inner : Context} {reference : FileReference} {surface : WrittenSurface} {replacements : WrittenReplacements} {others items : WrittenItems} {old new clauses all : Clauses} → Opens files context reference inner surface → grammar_items surface ≡ Some others → Gathers files inner others old → GathersAnew files context replacements new → DefinesEach old (names_of new) → Gathers files context items clauses → all ≡ then_clauses (but_for new old) (then_clauses new clauses) → Gathers files context (written.item_then (written.include reference replacements) items) all
 
   -- those in the braces of an include

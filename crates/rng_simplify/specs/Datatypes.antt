@@ -1,4 +1,4 @@
--- Types by their names, and patterns in which they stand: ISO/IEC 19757-2, sections 4.16 and 5.
+-- Types by their names, and patterns in which they stand: ISO/IEC 19757-2, sections 7.17 and 8.
 use Rattle.std.specs.Prelude.{◌≡◌, ◌≢◌, ℕ, List, [], ◌∷◌, codes, IsTrue, Result, Ok}
 use Rattle.nx_base.specs.Characters.{is_of_chars}
 use Rattle.rng_types.specs.declared.datatype.Datatype.{Datatype}

@@ -1,4 +1,4 @@
--- Patterns of the simple form in which a type still has its name: ISO/IEC 19757-2, section 5.
+-- Patterns of the simple form in which a type still has its name: ISO/IEC 19757-2, section 8.
 use Rattle.std.specs.Prelude.{ℕ, ◌+◌, max, List, [], ◌∷◌, ◌++◌, Option, Some, None}
 use Rattle.std.specs.Option.{option_map, option_and_then}
 use Rattle.rnc_parse.specs.declared.surface.TypeName.{TypeName}
@@ -33,9 +33,9 @@ pub record FormDefinition : Type 0 where
   pub class : Class
   pub content : Form
 
--- ---- what is not allowed, and what is empty: sections 4.20 and 4.21
+-- ---- what is not allowed, and what is empty: sections 7.21 and 7.22
 
--- nothing is left of a list, an attribute or a repetition of what is not allowed
+-- a list, an attribute or a repetition of what is not allowed is not allowed
 abbrev pub list_of : Form → Form
 list_of not_allowed = not_allowed
 list_of p = listed p
@@ -50,7 +50,7 @@ one_or_more_of not_allowed = not_allowed
 one_or_more_of empty = empty
 one_or_more_of p = one_or_more p
 
--- a side of a choice that is not allowed is left out, and the empty side stands first
+-- a side of a choice that is not allowed is left out, two empty sides are one, and one empty side stands first
 abbrev pub choice_of : Form → Form → Form
 choice_of not_allowed q = q
 choice_of p not_allowed = p
@@ -58,7 +58,7 @@ choice_of empty empty = empty
 choice_of p empty = choice empty p
 choice_of p q = choice p q
 
--- a side that is empty is left out; nothing is left where one is not allowed
+-- a side that is empty is left out, and the whole is not allowed where one side isn't
 abbrev pub group_of : Form → Form → Form
 group_of not_allowed q = not_allowed
 group_of p not_allowed = not_allowed
@@ -73,7 +73,7 @@ interleave_of empty q = q
 interleave_of p empty = p
 interleave_of p q = interleave p q
 
--- ---- definitions of one name: section 4.17
+-- ---- definitions of one name: section 7.18
 
 -- how they are joined: the first that says how
 abbrev pub combine_of : List Combine → Combine

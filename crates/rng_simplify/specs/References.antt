@@ -1,4 +1,4 @@
--- The files that a schema file refers to, and all that are reached so: ISO/IEC 19757-2, sections 4.5 to 4.7.
+-- The files that a schema file refers to, and all that are reached so: ISO/IEC 19757-2, sections 7.6 to 7.8.
 use Rattle.std.specs.Prelude.{ℕ, List, [], ◌∷◌, ◌++◌, Contains}
 use Rattle.nx_host.specs.Files.{FileMap}
 use Rattle.nx_host.specs.Uri.{Joins}

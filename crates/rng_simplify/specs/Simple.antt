@@ -1,4 +1,4 @@
--- The simple form of a schema in one piece: ISO/IEC 19757-2, sections 4.17 to 4.21.
+-- The simple form of a schema in one piece: ISO/IEC 19757-2, sections 7.18 to 7.22.
 use Rattle.std.specs.Prelude.{◌≡◌, ℕ, List, [], ◌∷◌, Some}
 use Rattle.rnc_parse.specs.declared.surface.TypeName.{TypeName}
 use Rattle.rnc_parse.specs.declared.surface.Param.{Param}
@@ -14,7 +14,7 @@ use Rattle.rng_simplify.specs.Forms as form
 mutual
   -- the simple form of a pattern with these grammars around it, the innermost first
   pub data Simple : List Clauses → Composed → Form → Type 0 where
-    -- 4.19: an element is a definition of its own
+    -- 7.20: an element is a definition of its own
     simple_element : {scopes : List Clauses} {number : ℕ} {class : Class} {p : Composed} → Simple scopes (composed.element number class p) (form.ref number)
     simple_attribute : {scopes : List Clauses} {class : Class} {p : Composed} {q : Form} → Simple scopes p q → Simple scopes (composed.attribute class p) (attribute_of class q)
     simple_list : {scopes : List Clauses} {p : Composed} {q : Form} → Simple scopes p q → Simple scopes (composed.listed p) (list_of q)
@@ -27,12 +27,12 @@ mutual
     simple_choice : {scopes : List Clauses} {p1 p2 : Composed} {q1 q2 : Form} → Simple scopes p1 q1 → Simple scopes p2 q2 → Simple scopes (composed.choice p1 p2) (choice_of q1 q2)
     simple_group : {scopes : List Clauses} {p1 p2 : Composed} {q1 q2 : Form} → Simple scopes p1 q1 → Simple scopes p2 q2 → Simple scopes (composed.group p1 p2) (group_of q1 q2)
     simple_interleave : {scopes : List Clauses} {p1 p2 : Composed} {q1 q2 : Form} → Simple scopes p1 q1 → Simple scopes p2 q2 → Simple scopes (composed.interleave p1 p2) (interleave_of q1 q2)
-    -- 4.18 and 4.19: a grammar is its start, and a reference what the grammar defines, or the one around it
+    -- 7.19 and 7.20: a grammar is its start, and a reference what the grammar defines, or the one around it
     simple_grammar : {scopes : List Clauses} {clauses : Clauses} {q : Form} → Defines clauses scopes defined.Start q → Simple scopes (composed.grammar clauses) q
     simple_ref : {scope : Clauses} {outer : List Clauses} {name : List ℕ} {q : Form} → Defines scope outer (defined.Name name) q → Simple (scope ∷ outer) (composed.ref name) q
     simple_parent_ref : {inner scope : Clauses} {outer : List Clauses} {name : List ℕ} {q : Form} → Defines scope outer (defined.Name name) q → Simple (inner ∷ scope ∷ outer) (composed.parent_ref name) q
 
-  -- 4.17: what a grammar defines under the name, joined in order; it nests to the left
+  -- 7.18: what a grammar defines under the name, joined in order; it nests to the left
   pub data Defines : Clauses → List Clauses → Defined → Form → Type 0 where
     joined_in_order : {scope : Clauses} {outer : List Clauses} {name : Defined} {first q : Form} {more : List Form} → AreSimple (scope ∷ outer) (bodies (defining name scope)) (first ∷ more) → q ≡ joined (join_of (combine_of (combines (defining name scope)))) first more → Defines scope outer name q
 

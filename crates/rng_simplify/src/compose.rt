@@ -1,4 +1,4 @@
-//! Files put into one piece (ISO/IEC 19757-2, sections 4.5 to 4.15).
+//! Files put into one piece (ISO/IEC 19757-2, sections 7.6 to 7.16).
 //!
 //! The files that a file mentions stand before it, the last one that it mentions first. Each file leaves a piece on a stack.
 //! Where a file mentions another one, the piece of that one is the next on the stack.

@@ -1,4 +1,4 @@
-//! The simple form of each node (ISO/IEC 19757-2, sections 4.17 to 4.21).
+//! The simple form of each node (ISO/IEC 19757-2, sections 7.18 to 7.22).
 
 ghost use Rattle.std.specs.Prelude.{◌≡◌, ◌+◌, ◌<◌, ℕ, length, map, slice_index, slice_get, Some, Contains};
 ghost use Rattle.rng_simplify.specs.Cells.{cell_of};

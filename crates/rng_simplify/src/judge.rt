@@ -1,4 +1,4 @@
-//! Name classes that no schema may have, in a schema in one piece (ISO/IEC 19757-2, section 4.16).
+//! Name classes that no schema may have, in a schema in one piece (ISO/IEC 19757-2, section 7.17).
 
 ghost use Rattle.std.specs.Prelude.{◌<◌, length};
 ghost use Rattle.rng_simplify.specs.Breaking.{cells_of, OkOrRefused};

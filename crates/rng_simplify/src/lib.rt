@@ -1,4 +1,4 @@
-//! Schema files simplified to one grammar (ISO/IEC 19757-2, section 4).
+//! Schema files simplified to one grammar (ISO/IEC 19757-2, section 7).
 //!
 //! Files are fetched and read (`load`), put into one piece of numbered nodes (`compose`), and their references are resolved
 //! to what grammars define (`resolve`). Then each node gets its simple form, behind those of which it is made (`order`,

@@ -1,5 +1,5 @@
 //! An order in which nodes can be simplified, each behind those of which its simple form is made; there is none where a
-//! pattern's form would be a part of itself (ISO/IEC 19757-2, section 4.19).
+//! pattern's form would be a part of itself (ISO/IEC 19757-2, section 7.20).
 //!
 //! The joins of definitions take part in it as further nodes: join `j` has the number `nodes.len() + j`.
 

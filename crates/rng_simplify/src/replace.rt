@@ -1,4 +1,4 @@
-//! Definitions of an included grammar, some of them replaced (ISO/IEC 19757-2, section 4.7).
+//! Definitions of an included grammar, some of them replaced (ISO/IEC 19757-2, section 7.8).
 
 ghost use Rattle.std.specs.Prelude.{◌≡◌, is_some, not, filter, IfOk};
 ghost use Rattle.std.specs.List.{list_all};

@@ -1,4 +1,4 @@
-//! References resolved to what grammars define (ISO/IEC 19757-2, sections 4.17 and 4.18).
+//! References resolved to what grammars define (ISO/IEC 19757-2, sections 7.18 and 7.19).
 //!
 //! A node's parts have smaller numbers than the node, so that one walk from the whole down meets each grammar before what
 //! stands in it. Definitions that were replaced are never met.

@@ -1,5 +1,5 @@
 //! Simple forms, in which nothing is left of what is not allowed, or empty, where it counts for nothing (ISO/IEC 19757-2,
-//! sections 4.20 and 4.21).
+//! sections 7.21 and 7.22).
 //!
 //! A shape is a form by the numbers of its parts. A form that stands in many places is one shape, so that even a form of very
 //! many nodes is known by few shapes; how large it is, is known without spelling it out.

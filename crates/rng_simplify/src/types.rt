@@ -1,4 +1,4 @@
-//! Datatypes by their names, and what is taken from them (ISO/IEC 19757-2, section 4.16).
+//! Datatypes by their names, and what is taken from them (ISO/IEC 19757-2, section 7.17).
 
 ghost use Rattle.std.specs.Prelude.{◌≡◌, ◌≢◌, ◌↔◌, ◌<◌, ℕ, length, map, IsTrue, IfOk, Contains};
 ghost use Rattle.std.specs.Str.{IsUtf8};
