@@ -26,6 +26,5 @@ pub mod simplify;
 mod stop;
 #[cfg(test)]
 mod tests;
-mod text;
 pub mod types;
 mod whole;

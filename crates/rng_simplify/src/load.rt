@@ -10,13 +10,12 @@ ghost use Rattle.rng_simplify.specs.Following.{IsAdded, IsUnderWay, uris_of, Joi
 
 use crate::fault::SchemaFault;
 use crate::mention::{Mention, mentions_of};
-use crate::text::text_of;
 use nx_base::cause::Cause;
 use nx_base::memory::NoMemory;
 use nx_base::sequence::{Bytes, TryCopy};
 use nx_host::files::{FileFault, Files};
 use nx_host::uri::{self, UriFault};
-use nx_host::utf8::text_front;
+use nx_host::utf8::{text_front, text_of};
 use rnc_lex::fault::LexFault;
 use rnc_parse::read::{ReadFault, read};
 use rnc_parse::surface::Surface;
