@@ -1,12 +1,11 @@
 -- A form has one pattern with types, and a schema in one piece has one grammar.
-use Rattle.std.proofs.Common.{◌≡◌, ◌≢◌, refl, sym, ap, ◌∙◌, subst, ℕ, inl, inr, ◌⊎◌, List, [], ◌∷◌, length, codes, Result, Ok, Err, arith}
+use Rattle.std.proofs.Common.{◌≡◌, ◌≢◌, refl, sym, ap, ◌∙◌, subst, List, [], ◌∷◌, length, Result, Ok, arith}
 use Rattle.rng_types.specs.declared.datatype.Datatype.{Datatype}
 use Rattle.rng_types.specs.declared.datatype.Except.{Except}
 use Rattle.rng_types.specs.declared.datatype.Except.TheVariants.{Own, BuiltinString, BuiltinToken}
 use Rattle.rng_types.specs.declared.fault.TypeFault.{TypeFault}
 use Rattle.rng_types.specs.Types.{Accepts}
 use Rattle.rnc_parse.specs.declared.surface.TypeName.{TypeName}
-use Rattle.rng_core.specs.Names.{Class}
 use Rattle.rng_core.specs.Patterns.{Pattern, Definition}
 use Rattle.rng_core.specs.Patterns as pattern
 use Rattle.rng_simplify.specs.Composed.{Composed}
