@@ -1,6 +1,6 @@
 -- Forms of nodes and joins, as further shapes are put behind others.
-use Rattle.std.proofs.Common.{◌≡◌, refl, sym, ap, ◌∙◌, subst, ℕ, zero, suc, ◌+◌, ◌-◌, ◌<◌, ◌≤◌, inl, inr, ◌⊎◌, List, [], ◌∷◌, ◌++◌, length, map, take, get_or, set, slice_get, Option, Some, None, Result, Ok, Err, Contains, arith}
-use Rattle.std.specs.Prelude.{slice_index, slice_set}
+use Rattle.std.proofs.Common.{◌≡◌, refl, sym, ap, ◌∙◌, subst, ℕ, ◌+◌, ◌-◌, ◌<◌, ◌≤◌, inl, inr, ◌⊎◌, List, [], ◌∷◌, ◌++◌, length, map, take, get_or, slice_get, Some, Result, Ok, Err, Contains, arith}
+use Rattle.std.specs.Prelude.{slice_index}
 use Rattle.std.specs.Option.{option_map}
 use Rattle.std.proofs.lemmas.List.{length-append, append_assoc, append-nil, length-map, map-append, take_more, get_or_default, get_or-set_same, get_or-set_other, length-set}
 use Rattle.std.proofs.lemmas.Bool.{cases_lt}
@@ -24,10 +24,10 @@ use Rattle.rng_simplify.specs.Cells as cell
 use Rattle.rng_simplify.specs.Denoting.{IsCell}
 use Rattle.rng_simplify.specs.Forms.{Form, Value, list_of, attribute_of, one_or_more_of, join_of}
 use Rattle.rng_simplify.specs.Forms as form
-use Rattle.rng_simplify.specs.Forming.{cell_form, bodies_form, join_form, form_in, form_of, IsKnown, IsBefore, IsInOrder, AreAlike, AreFormed, AreForms, IsNumberedBelow, IsCellMade, MakesCell, IsJoinMade, MakesJoin, AreAllJoined, JoinsAll, IsMade, Makes, IsPlaced, Places, MakesForms}
+use Rattle.rng_simplify.specs.Forming.{cell_form, bodies_form, join_form, form_in, form_of, IsKnown, IsBefore, IsInOrder, AreFormed, IsNumberedBelow, IsCellMade, MakesCell, IsJoinMade, MakesJoin, AreAllJoined, JoinsAll, Makes, IsPlaced}
 use Rattle.rng_simplify.specs.Resolving.{cell_leads, join_leads, leads_if, leads, link_at}
-use Rattle.rng_simplify.specs.Shown.{value_in, type_in, params_in, class_in, joined_of, form_by, form_at, IsBehindParts, shape_parts, IsOfSchema, AreOfSchema, IsShown, Shows, Adds}
-use Rattle.rng_simplify.proofs.Nodes.{in_none, in_cases, in_first, in_more, in_one}
+use Rattle.rng_simplify.specs.Shown.{value_in, type_in, params_in, class_in, joined_of, form_by, form_at, IsBehindParts, shape_parts, IsOfSchema, IsShown, Shows, Adds}
+use Rattle.rng_simplify.proofs.Nodes.{in_none, in_first, in_more}
 use Rattle.rng_simplify.proofs.Showing.{shows_still, shows_last, before_or_last}
 
 -- ---- shapes without parts

@@ -1,11 +1,9 @@
 -- The grammar of a schema in one piece has its simple form, and what refuses the schema is a cause that it has.
-use Rattle.std.proofs.Common.{◌≡◌, ◌≢◌, ◌↔◌, refl, sym, ap, ◌∙◌, subst, ℕ, zero, suc, ◌+◌, ◌-◌, ◌^◌, ◌<◌, ◌≤◌, ◌==◌, inl, inr, ◌⊎◌, List, [], ◌∷◌, length, map, get_or, set, slice_get, Option, Some, None, Result, Ok, Err, Contains, arith}
-use Rattle.std.specs.Prelude.{slice_index, sum_by}
-use Rattle.std.specs.List.{IsDistinct, AllByRecursion, fold}
+use Rattle.std.proofs.Common.{◌≡◌, ◌≢◌, refl, sym, ap, ◌∙◌, subst, ℕ, suc, ◌+◌, ◌^◌, ◌<◌, ◌≤◌, inl, inr, ◌⊎◌, List, [], ◌∷◌, length, map, slice_get, Option, Some, None, Result, Ok, Err, Contains, arith}
+use Rattle.std.specs.List.{AllByRecursion, fold}
 use Rattle.std.specs.Option.{option_map}
-use Rattle.std.proofs.lemmas.Bool.{cases_lt}
-use Rattle.std.proofs.lemmas.List.{length-map, ext_get_or, length-set}
-use Rattle.std.proofs.lemmas.Option.{same_Some, slice_get_within, slice_get-get_or, get_or_from_slice_get, slice_get-map}
+use Rattle.std.proofs.lemmas.List.{length-map}
+use Rattle.std.proofs.lemmas.Option.{same_Some, slice_get_within, slice_get-map}
 use Rattle.nx_base.specs.declared.cause.Cause.{Cause}
 use Rattle.nx_base.specs.declared.cause.Cause.TheVariants as cause
 use Rattle.rnc_parse.specs.declared.surface.TypeName.{TypeName}
@@ -16,7 +14,7 @@ use Rattle.rng_types.specs.declared.fault.TypeFault.{TypeFault}
 use Rattle.rng_types.specs.declared.fault.TypeFault.TheVariants as type_fault
 use Rattle.rng_core.specs.declared.grammar.Grammar.{Grammar}
 use Rattle.rng_core.specs.Meaning.{pattern_of, definitions_of}
-use Rattle.rng_core.specs.Names.{Class, any_name}
+use Rattle.rng_core.specs.Names.{Class}
 use Rattle.rng_core.specs.Patterns.{Definition}
 use Rattle.rng_core.specs.Soundness.{IsSoundPattern, IsSoundDefinition}
 use Rattle.rng_simplify.specs.declared.fault.SchemaFault.{SchemaFault}
@@ -27,28 +25,27 @@ use Rattle.rng_simplify.specs.declared.node.Sign.TheVariants as sign
 use Rattle.rng_simplify.specs.declared.resolve.Resolved.{Resolved}
 use Rattle.rng_simplify.specs.declared.types.NodeType.{NodeType}
 use Rattle.rng_simplify.specs.Breaking.{IsRefusal}
-use Rattle.rng_simplify.specs.Broken.{Has, IsUndefined, HasRefusedType, IsBadValue, IsForeign, IsUnsupported, HasTooManyExcepts, except_limit, node_limit, depth_limit, nodes_of_all as all_nodes, IsTooDeep, IsTooLarge, WholeIsBroken}
+use Rattle.rng_simplify.specs.Broken.{Has, HasRefusedType, IsBadValue, IsUnsupported, HasTooManyExcepts, node_limit, depth_limit, nodes_of_all as all_nodes, IsTooDeep, IsTooLarge, WholeIsBroken}
 use Rattle.rng_simplify.specs.Cells.{Cell}
 use Rattle.rng_simplify.specs.Cells as cell
 use Rattle.rng_simplify.specs.Composed.{Composed, Clauses, numbers}
 use Rattle.rng_simplify.specs.Composed as composed
 use Rattle.rng_simplify.specs.Datatypes.{datatype_of, MayWrite, AreExcepts, no_except, own_value, own_value_beside, string_value, token_value, builtin_string, builtin_token}
 use Rattle.rng_simplify.specs.Denoting.{IsCell, Denotes, composed_by, is_element, is_attribute, is_list, is_ref, is_parent_ref, is_empty, is_text, is_not_allowed, is_value, is_type, is_grammar, is_one_or_more, is_joined}
-use Rattle.rng_simplify.specs.Forming.{form_of, IsKnown, IsBefore, IsInOrder, AreForms, AreTaken, MakesForms}
+use Rattle.rng_simplify.specs.Forming.{form_of, IsKnown, IsBefore, IsInOrder, AreTaken, MakesForms}
 use Rattle.rng_simplify.specs.Forms.{Form, FormDefinition, Value, values_of, nodes, depth}
-use Rattle.rng_simplify.specs.Forms as form
 use Rattle.rng_simplify.specs.Grammars.{IsSorted, HasForms, HasTypes, IsMeasured, IsGrammarOf, GivesGrammar}
-use Rattle.rng_simplify.specs.Limiting.{content_in, content_of, class_of_element, IsElement, AreElements, nodes_of_all, AreWithinLimits, AreBeyondLimits, IsWithinLimits}
-use Rattle.rng_simplify.specs.Places.{place, Occurs}
-use Rattle.rng_simplify.specs.Resolving.{link_at, leads, IsResolved, IsOrdered}
+use Rattle.rng_simplify.specs.Limiting.{content_in, content_of, class_of_element, AreElements, nodes_of_all, AreWithinLimits, AreBeyondLimits, IsWithinLimits}
+use Rattle.rng_simplify.specs.Places.{place}
+use Rattle.rng_simplify.specs.Resolving.{link_at, leads}
 use Rattle.rng_simplify.specs.Simple.{Simple}
 use Rattle.rng_simplify.specs.Spelling.{IsReady, AreDefinitions, no_definitions, next_definition, IsBuilt, Builds}
-use Rattle.rng_simplify.specs.Standing.{cell_parts, Stands, the_root, a_part, a_content, IsStanding, AreScopes, no_scopes}
+use Rattle.rng_simplify.specs.Standing.{Stands, the_root, a_part, a_content, IsStanding, AreScopes, no_scopes}
 use Rattle.rng_simplify.specs.Typing.{AreKnown, IsTypeOf, known_at, MakesTypes}
 use Rattle.rng_simplify.specs.Whole.{IsForm, IsDefinedAt}
 use Rattle.rng_simplify.proofs.Dense.{numbers_distinct, each_number}
 use Rattle.rng_simplify.proofs.Forming.{before_later, cell_leads_are}
-use Rattle.rng_simplify.proofs.Nodes.{in_none, in_cases, in_first, one_cell, denoted_by, denotes_one, HasPlace, place_of, HasNode, node_of}
+use Rattle.rng_simplify.proofs.Nodes.{in_none, in_cases, in_first, denoted_by, HasNode, node_of}
 use Rattle.rng_simplify.proofs.OneForm.{simple_one, start_same, definitions_same}
 use Rattle.rng_simplify.proofs.RefusedTypes.{refused_is_broken}
 use Rattle.rng_simplify.proofs.Simplifying.{in_order, node_is_simple, taken_of}

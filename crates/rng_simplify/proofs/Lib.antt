@@ -43,3 +43,6 @@ pub mod RefusedTypes
 pub mod OneForm
 pub mod Grammars
 pub mod Answered
+pub mod OneType
+pub mod OneComposed
+pub mod Passed

@@ -1,5 +1,5 @@
 -- A pattern has one simple form, and so has a schema in one piece.
-use Rattle.std.proofs.Common.{◌≡◌, ◌↔◌, refl, sym, ap, ◌∙◌, subst, ℕ, ◌<◌, ◌≤◌, inl, inr, ◌⊎◌, List, [], ◌∷◌, ◌++◌, length, get_or, slice_get, Some, Contains, arith}
+use Rattle.std.proofs.Common.{◌≡◌, refl, sym, ap, ◌∙◌, subst, ℕ, ◌<◌, inl, inr, List, [], ◌∷◌, length, get_or, Some, Contains, arith}
 use Rattle.std.proofs.lemmas.Bool.{cases_lt}
 use Rattle.std.proofs.lemmas.List.{ext_get_or}
 use Rattle.std.proofs.lemmas.List.Elements.{Contains-append_cases}
@@ -14,7 +14,7 @@ use Rattle.rng_simplify.specs.Forms as form
 use Rattle.rng_simplify.specs.Forming.{bodies_form}
 use Rattle.rng_simplify.specs.Places.{place, Occurs, the_whole, further_in, a_part, a_content, a_definition}
 use Rattle.rng_simplify.specs.Simple.{Simple, Defines, AreSimple, simple_element, simple_attribute, simple_list, simple_empty, simple_text, simple_not_allowed, simple_value, simple_type, simple_one_or_more, simple_choice, simple_group, simple_interleave, simple_grammar, simple_ref, simple_parent_ref, joined_in_order, none_simple, next_simple}
-use Rattle.rng_simplify.specs.Whole.{IsForm, IsDefinedAt}
+use Rattle.rng_simplify.specs.Whole.{IsForm}
 use Rattle.rng_simplify.proofs.Nodes.{in_none, in_cases, in_first, in_more}
 
 -- ---- what a simple form is, by the pattern

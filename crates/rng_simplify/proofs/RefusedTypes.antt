@@ -1,28 +1,27 @@
 -- Where a node has no type, the schema is broken for that cause.
-use Rattle.std.proofs.Common.{◌≡◌, refl, sym, ap, ◌∙◌, subst, ℕ, ◌+◌, ◌<◌, ◌≤◌, inl, inr, ◌⊎◌, List, [], ◌∷◌, length, slice_get, Option, Some, None, Ok, Err, Contains, arith}
+use Rattle.std.proofs.Common.{◌≡◌, sym, subst, ℕ, inl, inr, List, [], slice_get, Some, Contains, arith}
 use Rattle.std.specs.Prelude.{slice_index}
-use Rattle.std.proofs.lemmas.Option.{slice_get_within, get_or_from_slice_get}
+use Rattle.std.proofs.lemmas.Option.{slice_get_within}
 use Rattle.nx_base.specs.declared.cause.Cause.{Cause}
 use Rattle.nx_base.specs.declared.cause.Cause.TheVariants as cause
 use Rattle.rnc_parse.specs.declared.surface.TypeName.{TypeName}
 use Rattle.rnc_parse.specs.declared.surface.Param.{Param}
 use Rattle.rng_simplify.specs.declared.form.Forms.{Forms}
 use Rattle.rng_simplify.specs.declared.resolve.Resolved.{Resolved}
-use Rattle.rng_simplify.specs.Broken.{Has, WholeIsBroken}
+use Rattle.rng_simplify.specs.Broken.{WholeIsBroken}
 use Rattle.rng_simplify.specs.Cells.{Cell}
 use Rattle.rng_simplify.specs.Cells as cell
 use Rattle.rng_simplify.specs.Composed.{Composed, Clauses}
 use Rattle.rng_simplify.specs.Composed as composed
 use Rattle.rng_simplify.specs.Denoting.{IsCell, Denotes}
-use Rattle.rng_simplify.specs.Forms.{Form, values_of}
 use Rattle.rng_simplify.specs.Forming.{form_of, IsBefore, IsInOrder, AreForms}
 use Rattle.rng_simplify.specs.Places.{place, Occurs}
-use Rattle.rng_simplify.specs.Resolving.{link_at, leads, IsResolved, IsJoinNumber, IsOrdered}
+use Rattle.rng_simplify.specs.Resolving.{link_at, IsResolved, IsOrdered}
 use Rattle.rng_simplify.specs.Simple.{Simple}
-use Rattle.rng_simplify.specs.Standing.{Stands, a_part, IsStanding, AreScopes}
-use Rattle.rng_simplify.specs.Typing.{HasValues, HasManyValues, HasForeignValue, HasNoValueType, HasNoTypeTaken, HasNoType, IsFirstRefused}
+use Rattle.rng_simplify.specs.Standing.{Stands, a_part, IsStanding}
+use Rattle.rng_simplify.specs.Typing.{HasNoValueType, HasNoTypeTaken, HasNoType, IsFirstRefused}
 use Rattle.rng_simplify.proofs.Forming.{cell_leads_are}
-use Rattle.rng_simplify.proofs.Nodes.{in_first, DenotesBy, denoted_by, HasPlace, place_of}
+use Rattle.rng_simplify.proofs.Nodes.{in_first, denoted_by, HasPlace, place_of}
 use Rattle.rng_simplify.proofs.Simplifying.{in_order, in_place, node_is_simple, taken_of}
 use Rattle.rng_simplify.proofs.Typed.{are_taken}
 

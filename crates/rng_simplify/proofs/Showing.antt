@@ -1,9 +1,9 @@
 -- What shapes show, as further shapes are put behind them.
-use Rattle.std.proofs.Common.{◌≡◌, refl, sym, ap, ◌∙◌, subst, ℕ, zero, suc, ◌+◌, ◌-◌, ◌*◌, ◌^◌, ◌<◌, ◌≤◌, inl, inr, ◌⊎◌, ⊎_elim, List, [], ◌∷◌, ◌++◌, length, map, get_or, slice_get, Option, Some, None, Result, Ok, Err, Contains, arith}
+use Rattle.std.proofs.Common.{◌≡◌, refl, sym, ap, ◌∙◌, subst, ℕ, zero, suc, ◌+◌, ◌-◌, ◌^◌, ◌<◌, inl, inr, ◌⊎◌, List, [], ◌∷◌, ◌++◌, length, get_or, slice_get, Option, Some, None, Result, Ok, Err, Contains, arith}
 use Rattle.std.specs.Prelude.{min, max}
 use Rattle.std.specs.List.{fold}
 use Rattle.std.specs.Option.{option_map, option_and_then}
-use Rattle.std.proofs.lemmas.List.{length-append, get_or_append_left, append_assoc, append-nil, length-map, map-append}
+use Rattle.std.proofs.lemmas.List.{length-append, get_or_append_left, append_assoc, append-nil, length-map}
 use Rattle.std.proofs.lemmas.List.Sums.{fold-append}
 use Rattle.std.proofs.lemmas.Option.{same_Some, slice_get_within, slice_get-map}
 use Rattle.rng_core.specs.Names.{Class}
@@ -20,7 +20,7 @@ use Rattle.rng_simplify.specs.declared.shape.Size.{Size}
 use Rattle.rng_simplify.specs.Cells.{Cell}
 use Rattle.rng_simplify.specs.Forms.{Form, Value, list_of, attribute_of, one_or_more_of, choice_of, group_of, interleave_of, values_of, nodes, depth}
 use Rattle.rng_simplify.specs.Forms as form
-use Rattle.rng_simplify.specs.Shown.{class_in, joined_form, joined_of, form_by, among, shown, form_at, shape_parts, IsBehindParts, head_of, head_by, IsHeadAt, stopped, HasSize, IsSizeAt, IsSizeOf, shapes_of, AreSized, size_alone, size_around, values_beside, size_beside, IsOfSchema, AreOfSchema, IsShown, Shows, Adds}
+use Rattle.rng_simplify.specs.Shown.{class_in, joined_form, joined_of, form_by, among, shown, form_at, shape_parts, IsBehindParts, head_of, head_by, IsHeadAt, stopped, HasSize, IsSizeAt, IsSizeOf, shapes_of, AreSized, size_alone, size_around, values_beside, size_beside, IsOfSchema, IsShown, Shows, Adds}
 
 -- ---- places in lists
 

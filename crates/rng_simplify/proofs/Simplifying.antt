@@ -1,25 +1,20 @@
 -- The forms of nodes in order are the simple forms of what the nodes stand for.
-use Rattle.std.proofs.Common.{◌≡◌, ◌≢◌, refl, sym, ap, ◌∙◌, subst, ℕ, zero, suc, ◌+◌, ◌-◌, ◌<◌, ◌≤◌, ◌==◌, Bool, true, false, cond, inl, inr, ◌⊎◌, List, [], ◌∷◌, ◌++◌, length, map, take, filter, get_or, slice_get, Option, Some, None, Contains, arith}
-use Rattle.std.specs.Prelude.{slice_index, slice_index_or, if◌then◌else◌}
+use Rattle.std.proofs.Common.{◌≡◌, refl, sym, ap, ◌∙◌, subst, ℕ, zero, suc, ◌+◌, ◌<◌, ◌≤◌, ◌==◌, Bool, true, false, cond, inl, inr, List, [], ◌∷◌, ◌++◌, length, map, take, get_or, slice_get, Option, Some, None, Contains, arith}
+use Rattle.std.specs.Prelude.{slice_index, if◌then◌else◌}
 use Rattle.std.specs.List.{IsDistinct, AllByRecursion, fold}
 use Rattle.std.specs.Option.{option_map, option_and_then}
-use Rattle.std.proofs.lemmas.List.{length-take, get_or-take, get_or_default, get_or_past, length-append, get_or_append_left}
+use Rattle.std.proofs.lemmas.List.{length-take, get_or-take, get_or_past, length-append, get_or_append_left}
 use Rattle.std.proofs.lemmas.Bool.{cases_lt}
 use Rattle.std.proofs.lemmas.Option.{same_Some, slice_get_within, slice_get-get_or, get_or_from_slice_get}
-use Rattle.rnc_parse.specs.declared.surface.Combine.{Combine}
 use Rattle.rnc_parse.specs.declared.surface.Defined.{Defined}
 use Rattle.rnc_parse.specs.declared.surface.Defined.TheVariants as defined
 use Rattle.rnc_parse.specs.declared.surface.TypeName.{TypeName}
 use Rattle.rnc_parse.specs.declared.surface.Param.{Param}
-use Rattle.rnc_parse.specs.Written.{joined}
-use Rattle.rng_core.specs.Names.{Class}
 use Rattle.rng_simplify.specs.declared.form.Forms.{Forms}
 use Rattle.rng_simplify.specs.declared.node.Clause.{Clause}
 use Rattle.rng_simplify.specs.declared.node.Sign.{Sign}
 use Rattle.rng_simplify.specs.declared.node.Sign.TheVariants as sign
-use Rattle.rng_simplify.specs.declared.resolve.Join.{Join}
 use Rattle.rng_simplify.specs.declared.resolve.Resolved.{Resolved}
-use Rattle.rng_simplify.specs.declared.resolve.Scope.{Scope}
 use Rattle.rng_simplify.specs.declared.resolve.Scope.TheVariants.{Nowhere}
 use Rattle.rng_simplify.specs.declared.shape.Shape.{Shape}
 use Rattle.rng_simplify.specs.declared.shape.Shape.TheVariants as shape
@@ -27,17 +22,17 @@ use Rattle.rng_simplify.specs.Cells.{Cell}
 use Rattle.rng_simplify.specs.Cells as cell
 use Rattle.rng_simplify.specs.Composed.{Composed, Clauses, end_of_clauses, clause_then, same_defined, defining, combines, bodies}
 use Rattle.rng_simplify.specs.Composed as composed
-use Rattle.rng_simplify.specs.Denoting.{IsCell, Denotes, DenoteAll, composed_by, is_element, is_attribute, is_list, is_ref, is_parent_ref, is_empty, is_text, is_not_allowed, is_value, is_type, is_grammar, is_one_or_more, is_joined, none_denoted, next_denoted}
+use Rattle.rng_simplify.specs.Denoting.{IsCell, Denotes, DenoteAll, composed_by, none_denoted, next_denoted}
 use Rattle.rng_simplify.specs.Forms.{Form, Value, values_of, combine_of, join_of, choice_of, group_of, interleave_of}
 use Rattle.rng_simplify.specs.Forms as form
-use Rattle.rng_simplify.specs.Forming.{cell_form, bodies_form, join_form, form_of, IsBefore, IsInOrder, AreFormed, AreForms, AreTaken}
-use Rattle.rng_simplify.specs.Resolving.{scope_at, link_at, cell_leads, clauses_of, combines_of, IsJoined, IsJoinedIn, IsJoinedOutside, IsResolved, leads, IsJoinNumber, IsOrdered}
+use Rattle.rng_simplify.specs.Forming.{cell_form, bodies_form, form_of, IsBefore, IsInOrder, AreForms, AreTaken}
+use Rattle.rng_simplify.specs.Resolving.{link_at, cell_leads, clauses_of, combines_of, IsJoined, IsJoinedIn, IsJoinedOutside, IsResolved, leads, IsOrdered}
 use Rattle.rng_simplify.specs.Shown.{joined_form, joined_of, form_by, among, shown, form_at}
 use Rattle.rng_simplify.specs.Simple.{Simple, Defines, AreSimple, simple_element, simple_attribute, simple_list, simple_empty, simple_text, simple_not_allowed, simple_value, simple_type, simple_one_or_more, simple_choice, simple_group, simple_interleave, simple_grammar, simple_ref, simple_parent_ref, joined_in_order, none_simple, next_simple}
-use Rattle.rng_simplify.specs.Standing.{cell_parts, bodies_of, Stands, the_root, a_part, a_content, a_definition, IsStanding, AreScopes, no_scopes, further_scope}
-use Rattle.rng_simplify.proofs.Forming.{none_before, before_next, before_later, cell_leads_are, join_leads_are, leads_before}
+use Rattle.rng_simplify.specs.Standing.{cell_parts, bodies_of, Stands, the_root, a_part, a_content, a_definition, IsStanding, AreScopes, further_scope}
+use Rattle.rng_simplify.proofs.Forming.{none_before, before_next, before_later, cell_leads_are, join_leads_are}
 use Rattle.rng_simplify.proofs.Showing.{at_seam}
-use Rattle.rng_simplify.proofs.Nodes.{in_none, in_cases, in_first, in_more, in_one, one_cell, DenotesBy, cell_denoted}
+use Rattle.rng_simplify.proofs.Nodes.{in_cases, in_first, in_more, one_cell, DenotesBy, cell_denoted}
 
 -- ---- an order
 

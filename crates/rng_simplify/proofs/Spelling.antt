@@ -1,5 +1,5 @@
 -- Patterns that are built task by task.
-use Rattle.std.proofs.Common.{◌≡◌, refl, sym, ap, ◌∙◌, subst, ℕ, zero, suc, ◌+◌, ◌-◌, ◌*◌, ◌^◌, ◌<◌, ◌≤◌, inl, inr, ◌⊎◌, List, [], ◌∷◌, ◌++◌, length, map, reverse, take, get_or, slice_get, Option, Some, None, Result, Ok, Err, Contains, zero-add, arith}
+use Rattle.std.proofs.Common.{◌≡◌, refl, sym, ap, ◌∙◌, subst, ℕ, suc, ◌+◌, ◌^◌, ◌<◌, ◌≤◌, inl, inr, ◌⊎◌, List, [], ◌∷◌, ◌++◌, length, map, reverse, take, slice_get, Option, Some, Result, Ok, Err, Contains, zero-add, arith}
 use Rattle.std.specs.Prelude.{slice_index, sum_by}
 use Rattle.std.proofs.lemmas.List.{length-append, append_assoc, length-map, map-append, reverse-append, length-reverse, take_more, take_all}
 use Rattle.std.proofs.lemmas.List.Sums.{sum_by-append}
@@ -20,11 +20,10 @@ use Rattle.rng_simplify.specs.declared.shape.Shape.{Shape}
 use Rattle.rng_simplify.specs.declared.shape.Shape.TheVariants as shape
 use Rattle.rng_simplify.specs.declared.types.NodeType.{NodeType}
 use Rattle.rng_simplify.specs.Cells.{Cell}
-use Rattle.rng_simplify.specs.Cells as cell
 use Rattle.rng_simplify.specs.Forms.{Form, Value, nodes}
 use Rattle.rng_simplify.specs.Forms as form
 use Rattle.rng_simplify.specs.Shown.{joined_form, form_by, form_at, shape_parts, IsBehindParts}
-use Rattle.rng_simplify.specs.Spelling.{joined_pattern, IsShape, IsLiteral, IsTyped, IsAttribute, Spells, spells_not_allowed, spells_empty, spells_text, spells_value, spells_type, spells_ref, spells_list, spells_attribute, spells_one_or_more, spells_joined, Runs, all_done, spell_then, wrap_one, wrap_two, AreSpelled, none_spelled, next_spelled, IsUnderWay, work_of, work, DoesTask, HasType, HasAttribute, HasKnownType, IsReady, Leaves, Does, IsDefinition, AreDefinitions, no_definitions, next_definition, IsBuilt}
+use Rattle.rng_simplify.specs.Spelling.{joined_pattern, IsShape, IsAttribute, Spells, spells_list, spells_attribute, spells_one_or_more, spells_joined, Runs, all_done, spell_then, wrap_one, wrap_two, AreSpelled, none_spelled, next_spelled, IsUnderWay, work_of, work, DoesTask, HasType, HasAttribute, IsReady, Leaves, Does, IsDefinition, AreDefinitions, no_definitions, next_definition, IsBuilt}
 use Rattle.rng_simplify.specs.Typing.{IsValue}
 use Rattle.rng_simplify.proofs.Nodes.{in_first, in_more}
 use Rattle.rng_simplify.proofs.Showing.{shows_by_parts}

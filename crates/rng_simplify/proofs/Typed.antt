@@ -1,6 +1,6 @@
 -- What spells out a shape is its form with types, and sound.
-use Rattle.std.proofs.Common.{◌≡◌, refl, sym, ap, ◌∙◌, subst, ℕ, zero, suc, ◌+◌, ◌^◌, ◌<◌, ◌≤◌, inl, inr, ◌⊎◌, List, [], ◌∷◌, ◌++◌, length, map, set, get_or, slice_get, Option, Some, None, Ok, Err, Contains, IsTrue, arith}
-use Rattle.std.specs.Prelude.{slice_index, sum_by}
+use Rattle.std.proofs.Common.{◌≡◌, refl, sym, ap, ◌∙◌, subst, ℕ, zero, suc, ◌+◌, ◌^◌, ◌<◌, ◌≤◌, inl, inr, ◌⊎◌, List, [], ◌∷◌, length, map, set, slice_get, Option, Some, None, Ok, arith}
+use Rattle.std.specs.Prelude.{slice_index}
 use Rattle.std.specs.List.{AllByRecursion, fold}
 use Rattle.std.proofs.lemmas.Bool.{cases_lt}
 use Rattle.std.proofs.lemmas.List.{length-set, get_or-set_same, get_or-set_other}
@@ -25,15 +25,15 @@ use Rattle.rng_simplify.specs.Denoting.{IsCell}
 use Rattle.rng_simplify.specs.Forms.{Form, FormDefinition, Value, values_of, nodes}
 use Rattle.rng_simplify.specs.Forms as form
 use Rattle.rng_simplify.specs.Forming.{form_of, IsBefore, AreAlike, AreFormed, AreForms, AreTaken}
-use Rattle.rng_simplify.specs.Limiting.{content_in, content_of, class_of_element, nodes_of_all, AreWithinLimits}
+use Rattle.rng_simplify.specs.Limiting.{content_in, content_of, class_of_element, AreWithinLimits}
 use Rattle.rng_simplify.specs.Shown.{joined_form, value_in, type_in, params_in, class_in, form_by, form_at, AreOfSchema}
 use Rattle.rng_simplify.specs.Spelling.{joined_pattern, IsShape, IsLiteral, IsTyped, IsAttribute, Spells, spells_not_allowed, spells_empty, spells_text, spells_value, spells_type, spells_ref, spells_list, spells_attribute, spells_one_or_more, spells_joined, IsDefinition, AreDefinitions, no_definitions, next_definition, HasKnownType, IsReady}
 use Rattle.rng_simplify.specs.CellTexts.{AreTexts}
-use Rattle.rng_simplify.specs.Typing.{IsTypeOfValue, IsTypeTaken, AreTakenBy, HasValues, known_at, AreTypesBefore}
+use Rattle.rng_simplify.specs.Typing.{IsTypeOfValue, HasValues, known_at, AreTypesBefore}
 use Rattle.rng_simplify.proofs.Forming.{none_before, before_later}
 use Rattle.rng_simplify.proofs.Showing.{shows_by_parts}
 use Rattle.rng_simplify.proofs.Spelling.{some_nodes}
-use Rattle.rng_simplify.proofs.Simplifying.{taken_of, taken_is, part_in, values_or_none}
+use Rattle.rng_simplify.proofs.Simplifying.{taken_of, part_in, values_or_none}
 
 -- these values are taken from the type, so
 pub record IsTakenSo (type : TypeName) (params : List Param) (values : List Value) (known : Option NodeType) : Type 0 where

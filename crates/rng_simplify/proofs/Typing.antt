@@ -1,15 +1,14 @@
 -- Types of nodes, and what is taken from them.
-use Rattle.std.proofs.Common.{◌≡◌, ◌≢◌, refl, sym, ap, ◌∙◌, subst, ℕ, zero, suc, ◌+◌, ◌<◌, ◌≤◌, Bool, true, false, cond, inl, inr, ◌⊎◌, List, [], ◌∷◌, ◌++◌, length, map, take, get_or, set, slice_get, Option, Some, None, Result, Ok, Err, Contains, IsTrue, arith}
-use Rattle.std.specs.Prelude.{slice_index, slice_index_or, slice_set, min, if◌then◌else◌, ◌==◌}
+use Rattle.std.proofs.Common.{◌≡◌, refl, sym, ap, ◌∙◌, subst, ℕ, ◌+◌, ◌<◌, ◌≤◌, Bool, true, false, inl, inr, ◌⊎◌, List, [], ◌∷◌, ◌++◌, length, map, take, get_or, set, slice_get, Option, Some, None, Result, Ok, Err, Contains, IsTrue, arith}
+use Rattle.std.specs.Prelude.{slice_index, slice_set, if◌then◌else◌, ◌==◌}
 use Rattle.std.specs.List.{AllByRecursion, list_all}
 use Rattle.std.specs.Option.{option_map, option_and_then}
 use Rattle.std.specs.Str.{IsUtf8, is_utf8, bytes_eq}
 use Rattle.std.proofs.lemmas.Bool.{cases_lt}
-use Rattle.std.proofs.lemmas.List.{length-append, append_assoc, append-nil, length-map, map-append, take_more, get_or_default, get_or-set_same, get_or-set_other, length-set}
+use Rattle.std.proofs.lemmas.List.{append_assoc, append-nil, length-map, map-append, take_more, get_or-set_same, get_or-set_other, length-set}
 use Rattle.std.proofs.lemmas.Option.{same_Some, slice_get_within, slice_get-map, slice_get-get_or, get_or_from_slice_get}
 use Rattle.std.proofs.lemmas.Slice.Eq.{bytes_eq-Decides}
 use Rattle.std.proofs.lemmas.Str.{is_utf8-from_IsUtf8}
-use Rattle.nx_base.specs.declared.cause.Cause.{Cause}
 use Rattle.nx_base.specs.declared.cause.Cause.TheVariants as cause
 use Rattle.rnc_parse.specs.declared.surface.TypeName.{TypeName}
 use Rattle.rnc_parse.specs.declared.surface.Param.{Param}
@@ -19,7 +18,7 @@ use Rattle.rng_types.specs.declared.datatype.Except.TheVariants.{Own, BuiltinStr
 use Rattle.rng_types.specs.declared.datatype.Param.{Param as TypeParam}
 use Rattle.rng_types.specs.declared.fault.TypeFault.{TypeFault}
 use Rattle.rng_types.specs.declared.fault.TypeFault.TheVariants as type_fault
-use Rattle.rng_types.specs.Naming.{is_taken, is_literal, type_with, type_of_row, type_of_found, type_of}
+use Rattle.rng_types.specs.Naming.{is_taken, is_literal, type_with, type_of_found, type_of}
 use Rattle.rng_types.specs.Table.{TypeRow}
 use Rattle.rng_types.specs.Types.{Accepts}
 use Rattle.rng_core.specs.Soundness.{IsSoundExcept}
@@ -34,22 +33,22 @@ use Rattle.rng_simplify.specs.declared.shape.Shape.{Shape}
 use Rattle.rng_simplify.specs.declared.shape.Shape.TheVariants as shape
 use Rattle.rng_simplify.specs.declared.shape.Size.{Size}
 use Rattle.rng_simplify.specs.declared.types.NodeType.{NodeType}
-use Rattle.rng_simplify.specs.Broken.{IsForeign, except_limit}
+use Rattle.rng_simplify.specs.Broken.{IsForeign}
 use Rattle.rng_simplify.specs.Cells.{Cell, cell_of}
 use Rattle.rng_simplify.specs.Cells as cell
-use Rattle.rng_simplify.specs.Datatypes.{params_of, datatype_of, MayWrite, AreExcepts, no_except, own_value, own_value_beside, string_value, token_value, builtin_string, builtin_token}
+use Rattle.rng_simplify.specs.Datatypes.{params_of, datatype_of, AreExcepts, no_except, own_value, own_value_beside, string_value, token_value, builtin_string, builtin_token}
 use Rattle.rng_simplify.specs.Denoting.{IsCell}
 use Rattle.rng_simplify.specs.Forms.{Form, Value, values_of}
 use Rattle.rng_simplify.specs.Forms as form
-use Rattle.rng_simplify.specs.Forming.{IsBefore, IsKnown}
-use Rattle.rng_simplify.specs.Shown.{joined_form, value_in, form_by, form_at, IsBehindParts, IsOfSchema, AreOfSchema, stopped, IsSizeAt}
+use Rattle.rng_simplify.specs.Forming.{IsKnown}
+use Rattle.rng_simplify.specs.Shown.{joined_form, value_in, form_by, form_at, IsBehindParts, IsOfSchema, stopped, IsSizeAt}
 use Rattle.rng_simplify.specs.CellTexts.{IsText, AreTexts}
-use Rattle.rng_simplify.specs.Typing.{IsRefusalOf, Names, value_of, IsValue, AreValues, IsListed, HasValues, HasNoValues, IsTakenBehind, TakesBehind, AreTakenFrom, TakesFrom, AreTakenBy, HasManyValues, HasForeignValue, Takes, IsTypeOfValue, IsTypeTaken, IsTypeOf, HasNoType, MakesType, known_at, AreTypesBefore, IsTypeSet, SetsType, IsFirstRefused, MakesTypes}
+use Rattle.rng_simplify.specs.Typing.{IsRefusalOf, Names, value_of, IsValue, AreValues, IsListed, HasValues, IsTakenBehind, TakesBehind, AreTakenFrom, TakesFrom, HasManyValues, Takes, IsTypeOf, HasNoType, MakesType, known_at, AreTypesBefore, IsTypeSet, SetsType, MakesTypes}
 use Rattle.rng_simplify.specs.Standing.{cell_parts}
-use Rattle.rng_simplify.proofs.Forming.{before_next, before_later, none_before, cell_there}
-use Rattle.rng_simplify.proofs.Nodes.{in_none, in_first, in_more, one_cell}
+use Rattle.rng_simplify.proofs.Forming.{before_next, none_before, cell_there}
+use Rattle.rng_simplify.proofs.Nodes.{in_first}
 use Rattle.rng_simplify.proofs.Showing.{shows_by_parts, before_or_last}
-use Rattle.rng_simplify.proofs.Simplifying.{same_values, values_known, values_or_none}
+use Rattle.rng_simplify.proofs.Simplifying.{same_values}
 
 -- ---- names
 

@@ -33,3 +33,5 @@ pub mod Limiting
 pub mod Typing
 pub mod Spelling
 pub mod Grammars
+pub mod Unnumbered
+pub mod Agreeing

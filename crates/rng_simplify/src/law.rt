@@ -1,7 +1,10 @@
-//! Laws of composing. Nothing here runs.
+//! Laws of composing and of simple forms. Nothing here runs.
 
+ghost use Rattle.rng_simplify.specs.Agreeing.{SimpleFormIsOne, SchemaFormIsOne, GrammarIsOne, PieceIsOne, ComposedArePassed};
 ghost use Rattle.rng_simplify.specs.Composition.{NoPieceIsMissing, MadeIsWellFormed, MadeIsText, WellFormedDenotes, MadeIsComposed, RefusedIsBroken};
 ghost use Rattle.rng_simplify.specs.Supplying.{PatternsAreComposed};
+
+use nx_host::uri::joins_is_decided;
 
 /// What is made of a pattern, with pieces for the files that it mentions, is that pattern in one piece.
 pub fn patterns_are_composed()
@@ -37,3 +40,32 @@ pub fn made_is_composed()
 pub fn refused_is_broken()
     ensures { RefusedIsBroken }
 {}
+
+/// A pattern has one simple form.
+pub fn simple_form_is_one()
+    ensures { SimpleFormIsOne }
+{}
+
+/// A schema in one piece has one simple form.
+pub fn schema_form_is_one()
+    ensures { SchemaFormIsOne }
+{}
+
+/// A schema in one piece has one grammar.
+pub fn grammar_is_one()
+    ensures { GrammarIsOne }
+{}
+
+/// Files make one piece, but for the numbers of its elements.
+pub fn piece_is_one()
+    ensures { PieceIsOne }
+{
+    joins_is_decided();
+}
+
+/// Files that make one piece are there, say something, and refer to files as they may.
+pub fn composed_are_passed()
+    ensures { ComposedArePassed }
+{
+    joins_is_decided();
+}

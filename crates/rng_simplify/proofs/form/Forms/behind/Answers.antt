@@ -1,4 +1,4 @@
-use Rattle.std.proofs.Common.{◌≡◌, ◌<◌, ℕ, List, Vec, Global, subst, sym, ap, length, slice_index}
+use Rattle.std.proofs.Common.{◌<◌, ℕ, Vec, Global, subst, sym, ap, length, slice_index}
 use Rattle.rng_simplify.proofs.Forming.{item_known, next_joined}
 use Rattle.rng_simplify.proofs.form.Forms.behind.Goals as goal
 
