@@ -1,5 +1,5 @@
 -- What is answered of files, by their schema in one piece and its grammar.
-use Rattle.std.proofs.Common.{◌≡◌, ℕ, inl, inr, List, Option, Some, None, Result, Ok, Err}
+use Rattle.std.proofs.Common.{ℕ, inr, List, Option, Some, None, Result, Ok, Err}
 use Rattle.nx_base.specs.declared.cause.Cause.{Cause}
 use Rattle.nx_base.specs.declared.cause.Cause.TheVariants as cause
 use Rattle.nx_host.specs.Files.{FileMap}

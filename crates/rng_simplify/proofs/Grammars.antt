@@ -1,11 +1,9 @@
 -- The grammar of a schema in one piece has its simple form, and what refuses the schema is a cause that it has.
-use Rattle.std.proofs.Common.{◌≡◌, ◌≢◌, ◌↔◌, refl, sym, ap, ◌∙◌, subst, ℕ, zero, suc, ◌+◌, ◌-◌, ◌^◌, ◌<◌, ◌≤◌, ◌==◌, inl, inr, ◌⊎◌, List, [], ◌∷◌, length, map, get_or, set, slice_get, Option, Some, None, Result, Ok, Err, Contains, arith}
-use Rattle.std.specs.Prelude.{slice_index, sum_by}
-use Rattle.std.specs.List.{IsDistinct, AllByRecursion, fold}
+use Rattle.std.proofs.Common.{◌≡◌, ◌≢◌, refl, sym, ap, ◌∙◌, subst, ℕ, suc, ◌+◌, ◌^◌, ◌<◌, ◌≤◌, inl, inr, ◌⊎◌, List, [], ◌∷◌, length, map, slice_get, Option, Some, None, Result, Ok, Err, Contains, arith}
+use Rattle.std.specs.List.{AllByRecursion, fold}
 use Rattle.std.specs.Option.{option_map}
-use Rattle.std.proofs.lemmas.Bool.{cases_lt}
-use Rattle.std.proofs.lemmas.List.{length-map, ext_get_or, length-set}
-use Rattle.std.proofs.lemmas.Option.{same_Some, slice_get_within, slice_get-get_or, get_or_from_slice_get, slice_get-map}
+use Rattle.std.proofs.lemmas.List.{length-map}
+use Rattle.std.proofs.lemmas.Option.{same_Some, slice_get_within, slice_get-map}
 use Rattle.nx_base.specs.declared.cause.Cause.{Cause}
 use Rattle.nx_base.specs.declared.cause.Cause.TheVariants as cause
 use Rattle.rnc_parse.specs.declared.surface.TypeName.{TypeName}
@@ -16,7 +14,7 @@ use Rattle.rng_types.specs.declared.fault.TypeFault.{TypeFault}
 use Rattle.rng_types.specs.declared.fault.TypeFault.TheVariants as type_fault
 use Rattle.rng_core.specs.declared.grammar.Grammar.{Grammar}
 use Rattle.rng_core.specs.Meaning.{pattern_of, definitions_of}
-use Rattle.rng_core.specs.Names.{Class, any_name}
+use Rattle.rng_core.specs.Names.{Class}
 use Rattle.rng_core.specs.Patterns.{Definition}
 use Rattle.rng_core.specs.Soundness.{IsSoundPattern, IsSoundDefinition}
 use Rattle.rng_simplify.specs.declared.fault.SchemaFault.{SchemaFault}
@@ -27,28 +25,27 @@ use Rattle.rng_simplify.specs.declared.node.Sign.TheVariants as sign
 use Rattle.rng_simplify.specs.declared.resolve.Resolved.{Resolved}
 use Rattle.rng_simplify.specs.declared.types.NodeType.{NodeType}
 use Rattle.rng_simplify.specs.Breaking.{IsRefusal}
-use Rattle.rng_simplify.specs.Broken.{Has, IsUndefined, HasRefusedType, IsBadValue, IsForeign, IsUnsupported, HasTooManyExcepts, except_limit, node_limit, depth_limit, nodes_of_all as all_nodes, IsTooDeep, IsTooLarge, WholeIsBroken}
+use Rattle.rng_simplify.specs.Broken.{Has, HasRefusedType, IsBadValue, IsUnsupported, HasTooManyExcepts, node_limit, depth_limit, nodes_of_all as all_nodes, IsTooDeep, IsTooLarge, WholeIsBroken}
 use Rattle.rng_simplify.specs.Cells.{Cell}
 use Rattle.rng_simplify.specs.Cells as cell
 use Rattle.rng_simplify.specs.Composed.{Composed, Clauses, numbers}
 use Rattle.rng_simplify.specs.Composed as composed
 use Rattle.rng_simplify.specs.Datatypes.{datatype_of, MayWrite, AreExcepts, no_except, own_value, own_value_beside, string_value, token_value, builtin_string, builtin_token}
 use Rattle.rng_simplify.specs.Denoting.{IsCell, Denotes, composed_by, is_element, is_attribute, is_list, is_ref, is_parent_ref, is_empty, is_text, is_not_allowed, is_value, is_type, is_grammar, is_one_or_more, is_joined}
-use Rattle.rng_simplify.specs.Forming.{form_of, IsKnown, IsBefore, IsInOrder, AreForms, AreTaken, MakesForms}
+use Rattle.rng_simplify.specs.Forming.{form_of, IsKnown, IsBefore, IsInOrder, AreTaken, MakesForms}
 use Rattle.rng_simplify.specs.Forms.{Form, FormDefinition, Value, values_of, nodes, depth}
-use Rattle.rng_simplify.specs.Forms as form
 use Rattle.rng_simplify.specs.Grammars.{IsSorted, HasForms, HasTypes, IsMeasured, IsGrammarOf, GivesGrammar}
-use Rattle.rng_simplify.specs.Limiting.{content_in, content_of, class_of_element, IsElement, AreElements, nodes_of_all, AreWithinLimits, AreBeyondLimits, IsWithinLimits}
-use Rattle.rng_simplify.specs.Places.{place, Occurs}
-use Rattle.rng_simplify.specs.Resolving.{link_at, leads, IsResolved, IsOrdered}
+use Rattle.rng_simplify.specs.Limiting.{content_in, content_of, class_of_element, AreElements, nodes_of_all, AreWithinLimits, AreBeyondLimits, IsWithinLimits}
+use Rattle.rng_simplify.specs.Places.{place}
+use Rattle.rng_simplify.specs.Resolving.{link_at, leads}
 use Rattle.rng_simplify.specs.Simple.{Simple}
 use Rattle.rng_simplify.specs.Spelling.{IsReady, AreDefinitions, no_definitions, next_definition, IsBuilt, Builds}
-use Rattle.rng_simplify.specs.Standing.{cell_parts, Stands, the_root, a_part, a_content, IsStanding, AreScopes, no_scopes}
+use Rattle.rng_simplify.specs.Standing.{Stands, the_root, a_part, a_content, IsStanding, AreScopes, no_scopes}
 use Rattle.rng_simplify.specs.Typing.{AreKnown, IsTypeOf, known_at, MakesTypes}
 use Rattle.rng_simplify.specs.Whole.{IsForm, IsDefinedAt}
 use Rattle.rng_simplify.proofs.Dense.{numbers_distinct, each_number}
 use Rattle.rng_simplify.proofs.Forming.{before_later, cell_leads_are}
-use Rattle.rng_simplify.proofs.Nodes.{in_none, in_cases, in_first, one_cell, denoted_by, denotes_one, HasPlace, place_of, HasNode, node_of}
+use Rattle.rng_simplify.proofs.Nodes.{in_none, in_cases, in_first, denoted_by, HasNode, node_of}
 use Rattle.rng_simplify.proofs.OneForm.{simple_one, start_same, definitions_same}
 use Rattle.rng_simplify.proofs.RefusedTypes.{refused_is_broken}
 use Rattle.rng_simplify.proofs.Simplifying.{in_order, node_is_simple, taken_of}
@@ -73,13 +70,13 @@ module _ (cells : List Cell) (root : ℕ) (found : Resolved) (order : List ℕ) 
   -- parts of nodes have shapes
   pub parts_known : AreKnown cells order forms
   parts_known = record {
-      each_part = λ place i c there at j within.
+    each_part = λ place i c there at j within.
         let P : List ℕ → Type 0 = λ all. Contains all j in
         let led : Contains (leads cells found i) j = subst P (sym (cell_leads_are cells found i c at)) (part_lead (length cells) (link_at found i) c j within) in
         let before = (sorted_in_order cells root found order has.sorted).behind place i j there led in
         let inside = slice_get_within order place i there in
         has.forms_are.formed.known j (before_later order place (length order) j (omega arith) before);
-    }
+  }
 
   -- so has the whole
   pub root_known : IsKnown forms.shapes forms.of.items root
@@ -88,15 +85,15 @@ module _ (cells : List Cell) (root : ℕ) (found : Resolved) (order : List ℕ) 
   -- and the contents of elements
   pub elements_known : AreElements cells forms found.elements.items
   elements_known = record {
-      each_is = λ place i there.
+    each_is = λ place i there.
         let h = has.sorted.resolved.each_number place i there in
         record { class = h.class; part = h.part; is_cell = h.is_element };
-      each_known = λ place i there.
+    each_known = λ place i there.
         let h = has.sorted.resolved.each_number place i there in
         let content : content_of cells i ≡ h.part = ap content_in h.is_element in
         let P : ℕ → Type 0 = IsKnown forms.shapes forms.of.items in
         subst P (sym content) (has.forms_are.formed.known h.part (stands_before cells root found order has.sorted h.part (h.stands.0, a_content h.stands.1 h.is_element)));
-    }
+  }
 
 -- ---- simple forms of nodes
 
@@ -143,28 +140,28 @@ module _ (cells : List Cell) (root : ℕ) (found : Resolved) (order : List ℕ) 
       record {
         content = form_of cells taken forms at.0;
         there =
-          slice_get-map (definition_form cells taken forms) found.elements.items n
-          ∙ ap (λ k. option_map (definition_form cells taken forms) (slice_get found.elements.items k)) number_is
-          ∙ ap (option_map (definition_form cells taken forms)) there
-          ∙ ap (λ c. Some (record { class = c; content = form_of cells taken forms (content_of cells h.node) })) class_is
-          ∙ ap (λ k. Some (record { class = class; content = form_of cells taken forms k })) content;
+            slice_get-map (definition_form cells taken forms) found.elements.items n
+            ∙ ap (λ k. option_map (definition_form cells taken forms) (slice_get found.elements.items k)) number_is
+            ∙ ap (option_map (definition_form cells taken forms)) there
+            ∙ ap (λ c. Some (record { class = c; content = form_of cells taken forms (content_of cells h.node) })) class_is
+            ∙ ap (λ k. Some (record { class = class; content = form_of cells taken forms k })) content;
         simple = subst P (sym content_same) (form_anywhere cells root found order forms has taken at.0 takes h.outers scopes by.0 (a_content h.stands at.1) h.are_scopes by.1);
       }
-      where
-        same_content : {n m : ℕ} {c d : Class} {p q : Composed} → composed.element n c p ≡ composed.element m d q → p ≡ q
-        same_content h = cc
+    where
+      same_content : {n m : ℕ} {c d : Class} {p q : Composed} → composed.element n c p ≡ composed.element m d q → p ≡ q
+      same_content h = cc
 
   -- the forms of the whole and of its elements' contents are its simple form
   pub is_form : IsForm whole start definitions
   is_form = record {
-      start_is = form_anywhere cells root found order forms has taken root takes [] [] whole the_root no_scopes denotes;
-      distinct = numbers_distinct cells root found whole has.sorted.formed has.sorted.resolved denotes;
-      each_number = λ n.
+    start_is = form_anywhere cells root found order forms has taken root takes [] [] whole the_root no_scopes denotes;
+    distinct = numbers_distinct cells root found whole has.sorted.formed has.sorted.resolved denotes;
+    each_number = λ n.
         let all : length definitions ≡ length found.elements.items = length-map found.elements.items (definition_form cells taken forms) in
         let h = each_number cells root found whole has.sorted.formed has.sorted.resolved denotes n in
         (λ among. let below = h.0 among in omega arith, λ below. h.1 (omega arith));
-      each_element = λ scopes n class p occurs. defined_node scopes n class p (node_of denotes occurs);
-    }
+    each_element = λ scopes n class p occurs. defined_node scopes n class p (node_of denotes occurs);
+  }
 
   -- ---- how large it is
 
@@ -176,11 +173,11 @@ module _ (cells : List Cell) (root : ℕ) (found : Resolved) (order : List ℕ) 
   too_large (inl many) = record { start = start; definitions = definitions; form = is_form; large = inl (let same = all_nodes_are in omega arith) }
   too_large (inr (inl deep)) = record { start = start; definitions = definitions; form = is_form; large = inr (inl deep) }
   too_large (inr (inr (n, i, there, deep))) = record {
-      start = start;
-      definitions = definitions;
-      form = is_form;
-      large = inr (inr (n, definition_form cells taken forms i, slice_get-map (definition_form cells taken forms) found.elements.items n ∙ ap (option_map (definition_form cells taken forms)) there, deep));
-    }
+    start = start;
+    definitions = definitions;
+    form = is_form;
+    large = inr (inr (n, definition_form cells taken forms i, slice_get-map (definition_form cells taken forms) found.elements.items n ∙ ap (option_map (definition_form cells taken forms)) there, deep));
+  }
 
   -- what is within them isn't
   deep_element : (n : ℕ) (definition : FormDefinition) (i : Option ℕ) → slice_get found.elements.items n ≡ i → option_map (definition_form cells taken forms) i ≡ Some definition → AreWithinLimits cells taken forms root found.elements.items → depth_limit < depth definition.content → ⊥
@@ -246,23 +243,23 @@ none_foreign : {type : TypeName} {datatype : Datatype} {values : List Value} {ex
 none_foreign no_except v within own string token = in_none within
 none_foreign {type = type} (own_value {text = text} {values = values} accepted more) v within own string token =
     elim (in_cases (record { type = type; text = text }) values v within) [
-      inl is ↦ own (sym (ap (λ (w : Value). w.type) is))
-    | inr further ↦ none_foreign more v further own string token
+      | inl is ↦ own (sym (ap (λ (w : Value). w.type) is))
+      | inr further ↦ none_foreign more v further own string token
     ]
 none_foreign {type = type} (own_value_beside {text = text} {values = values} refused more) v within own string token =
     elim (in_cases (record { type = type; text = text }) values v within) [
-      inl is ↦ own (sym (ap (λ (w : Value). w.type) is))
-    | inr further ↦ none_foreign more v further own string token
+      | inl is ↦ own (sym (ap (λ (w : Value). w.type) is))
+      | inr further ↦ none_foreign more v further own string token
     ]
 none_foreign (string_value {text = text} {values = values} other more) v within own string token =
     elim (in_cases (record { type = builtin_string; text = text }) values v within) [
-      inl is ↦ string (sym (ap (λ (w : Value). w.type) is))
-    | inr further ↦ none_foreign more v further own string token
+      | inl is ↦ string (sym (ap (λ (w : Value). w.type) is))
+      | inr further ↦ none_foreign more v further own string token
     ]
 none_foreign (token_value {text = text} {values = values} other more) v within own string token =
     elim (in_cases (record { type = builtin_token; text = text }) values v within) [
-      inl is ↦ token (sym (ap (λ (w : Value). w.type) is))
-    | inr further ↦ none_foreign more v further own string token
+      | inl is ↦ token (sym (ap (λ (w : Value). w.type) is))
+      | inr further ↦ none_foreign more v further own string token
     ]
 
 module _ (cells : List Cell) (root : ℕ) (found : Resolved) (order : List ℕ) (forms : Forms) (types : List (Option NodeType)) (has : HasTypes cells root found order forms types) where
@@ -374,9 +371,9 @@ no_forms cells root found order (fault.BadUri a) h = absurd h
 
 pub no_types : (cells : List Cell) (root : ℕ) (found : Resolved) (order : List ℕ) (forms : Forms) → HasForms cells root found order forms → (refusal : SchemaFault) → MakesTypes cells order forms (Err refusal) → GivesGrammar cells root (Err refusal)
 no_types cells root found order forms has (fault.Unreadable why) h = record {
-    number = link_at found;
-    broken = λ whole denotes. refused_is_broken cells root found has.sorted.resolved order has.sorted.ordered forms has.forms_are whole denotes why h;
-  }
+  number = link_at found;
+  broken = λ whole denotes. refused_is_broken cells root found has.sorted.resolved order has.sorted.ordered forms has.forms_are whole denotes why h;
+}
 no_types cells root found order forms has fault.NoMemory h = tt
 no_types cells root found order forms has fault.Failed h = absurd h
 no_types cells root found order forms has (fault.Absent a) h = absurd h
@@ -385,9 +382,9 @@ no_types cells root found order forms has (fault.BadUri a) h = absurd h
 
 pub not_limited : (cells : List Cell) (root : ℕ) (found : Resolved) (order : List ℕ) (forms : Forms) (types : List (Option NodeType)) → HasTypes cells root found order forms types → (refusal : SchemaFault) → IsWithinLimits cells forms root found.elements.items (Err refusal) → GivesGrammar cells root (Err refusal)
 not_limited cells root found order forms types has (fault.Unreadable cause.TooLarge) h = record {
-    number = link_at found;
-    broken = λ whole denotes. too_large cells root found order forms has.formed (taken_of cells forms) (all_taken cells root found order forms types has) whole denotes (h (taken_of cells forms));
-  }
+  number = link_at found;
+  broken = λ whole denotes. too_large cells root found order forms has.formed (taken_of cells forms) (all_taken cells root found order forms types has) whole denotes (h (taken_of cells forms));
+}
 not_limited cells root found order forms types has (fault.Unreadable why) h = absurd h
 not_limited cells root found order forms types has fault.NoMemory h = absurd h
 not_limited cells root found order forms types has fault.Failed h = absurd h
@@ -422,18 +419,18 @@ module _ (cells : List Cell) (root : ℕ) (found : Resolved) (order : List ℕ) 
       record {
         number = link_at found;
         simplified = λ whole denotes. record {
-            unbroken = never_broken cells root found order forms types measured.typed whole denotes (measured.limited (taken_of cells forms));
-            start_form = form_of cells (taken_of cells forms) forms root;
-            definition_forms = map (definition_form cells (taken_of cells forms) forms) found.elements.items;
-            form = is_form cells root found order forms measured.typed.formed (taken_of cells forms) (all_taken cells root found order forms types measured.typed) whole denotes;
-            start_is = start_is.typed;
-            definitions_are = definitions_typed cells types forms (taken_of cells forms) (length found.elements.items) have built.definitions_are;
-          };
+          unbroken = never_broken cells root found order forms types measured.typed whole denotes (measured.limited (taken_of cells forms));
+          start_form = form_of cells (taken_of cells forms) forms root;
+          definition_forms = map (definition_form cells (taken_of cells forms) forms) found.elements.items;
+          form = is_form cells root found order forms measured.typed.formed (taken_of cells forms) (all_taken cells root found order forms types measured.typed) whole denotes;
+          start_is = start_is.typed;
+          definitions_are = definitions_typed cells types forms (taken_of cells forms) (length found.elements.items) have built.definitions_are;
+        };
         sound = record {
-            few = let below = few in omega arith;
-            start_is = subst P (sym count) start_is.sound;
-            definitions_are = subst Q (sym count) (definitions_sound cells types forms (taken_of cells forms) (length found.elements.items) have built.definitions_are);
-          };
+          few = let below = few in omega arith;
+          start_is = subst P (sym count) start_is.sound;
+          definitions_are = subst Q (sym count) (definitions_sound cells types forms (taken_of cells forms) (length found.elements.items) have built.definitions_are);
+        };
       }
 
   pub gives_built : (result : Result Grammar SchemaFault) → Builds cells types forms root found.elements.items result → GivesGrammar cells root result

@@ -1,9 +1,9 @@
 -- Nodes counted element by element.
-use Rattle.std.proofs.Common.{◌≡◌, refl, sym, ap, ◌∙◌, subst, ℕ, zero, suc, ◌+◌, ◌<◌, ◌≤◌, inl, inr, ◌⊎◌, List, [], ◌∷◌, ◌++◌, length, take, drop, get_or, slice_get, Option, Some, None, Ok, Err, arith}
-use Rattle.std.specs.Prelude.{slice_index, sum_by}
+use Rattle.std.proofs.Common.{◌≡◌, sym, subst, ℕ, ◌+◌, ◌<◌, ◌≤◌, inl, inr, ◌⊎◌, List, [], length, take, slice_get, Some, Err, arith}
+use Rattle.std.specs.Prelude.{slice_index}
 use Rattle.std.proofs.lemmas.List.{take_more, take_all}
 use Rattle.std.proofs.lemmas.List.Sums.{sum_by_more, sum_by_more_le}
-use Rattle.std.proofs.lemmas.Option.{same_Some, slice_get_within, slice_get-get_or}
+use Rattle.std.proofs.lemmas.Option.{slice_get-get_or}
 use Rattle.nx_base.specs.declared.cause.Cause.TheVariants.{TooLarge}
 use Rattle.rng_simplify.specs.declared.fault.SchemaFault.{SchemaFault}
 use Rattle.rng_simplify.specs.declared.fault.SchemaFault.TheVariants as fault
@@ -11,8 +11,8 @@ use Rattle.rng_simplify.specs.declared.form.Forms.{Forms}
 use Rattle.rng_simplify.specs.Broken.{node_limit, depth_limit}
 use Rattle.rng_simplify.specs.Cells.{Cell}
 use Rattle.rng_simplify.specs.Forming.{form_of}
-use Rattle.rng_simplify.specs.Forms.{Form, Value, nodes, depth}
-use Rattle.rng_simplify.specs.Limiting.{content_of, AreElements, nodes_of_all, AreWithinLimits, AreBeyondLimits, IsWithinLimits, IsCounted, Counts}
+use Rattle.rng_simplify.specs.Forms.{Value, nodes, depth}
+use Rattle.rng_simplify.specs.Limiting.{content_of, nodes_of_all, AreWithinLimits, IsWithinLimits, IsCounted, Counts}
 use Rattle.rng_simplify.proofs.Showing.{before_or_last}
 
 -- so many nodes are counted, and all are within the limits
@@ -43,17 +43,17 @@ module _ (cells : List Cell) (forms : Forms) (root : ℕ) (elements : List ℕ) 
       record {
         count_is = total;
         within = record {
-            few = omega arith;
-            shallow = counted.within.shallow;
-            each_shallow = λ place i h.
+          few = omega arith;
+          shallow = counted.within.shallow;
+          each_shallow = λ place i h.
               let P : List ℕ → Type 0 = λ some. slice_get some place ≡ Some i in
               elim (before_or_last (take index elements) here place i (subst P (take_more elements index 0 less) h)) [
-                inl there ↦ counted.within.each_shallow place i there
-              | inr last ↦
-                let Q : ℕ → Type 0 = λ k. depth (form_of cells taken forms (content_of cells k)) ≤ depth_limit in
-                subst Q (sym last.1) now.shallow
+                | inl there ↦ counted.within.each_shallow place i there
+                | inr last ↦
+                    let Q : ℕ → Type 0 = λ k. depth (form_of cells taken forms (content_of cells k)) ≤ depth_limit in
+                    subst Q (sym last.1) now.shallow
               ];
-          };
+        };
       }
 
   -- an element that is too large
@@ -63,8 +63,8 @@ module _ (cells : List Cell) (forms : Forms) (root : ℕ) (elements : List ℕ) 
       let before_is = (counted taken).count_is in
       let P : ℕ → Type 0 = λ n. (node_limit < before + nodes (form_of cells taken forms n)) ⊎ (depth_limit < depth (form_of cells taken forms n)) in
       elim (subst P is (beyond cells taken)) [
-        inl many ↦ inl (omega arith)
-      | inr deep ↦ inr (inr (index, here, here_there, deep))
+        | inl many ↦ inl (omega arith)
+        | inr deep ↦ inr (inr (index, here, here_there, deep))
       ]
   one_too_large before node (fault.Unreadable why) is counted beyond = absurd beyond
   one_too_large before node why is counted beyond = absurd beyond

@@ -1,5 +1,5 @@
 -- Files make one piece, but for the numbers of its elements.
-use Rattle.std.proofs.Common.{◌≡◌, refl, sym, ap, ◌∙◌, subst, ℕ, Bool, true, false, List, [], ◌∷◌, Option, Some, None, Result, Ok, Err}
+use Rattle.std.proofs.Common.{◌≡◌, refl, sym, ap, ◌∙◌, subst, ℕ, Bool, true, false, List, Some}
 use Rattle.std.specs.Prelude.{if◌then◌else◌}
 use Rattle.std.proofs.lemmas.Option.{same_Some}
 use Rattle.nx_host.specs.Files.{FileMap}
@@ -148,9 +148,20 @@ module _ (decided : JoinsIsDecided) (files : FileMap) where
   gathers_by (definition part more) = (_, _, part, more, refl)
   gathers_by (division inside more is) = (_, _, inside, more, is)
   gathers_by (inclusion opens is_grammar gathered anew each more is) = record {
-      inner = _; surface = _; others = _; old = _; new = _; clauses = _;
-      opens = opens; is_grammar = is_grammar; gathered = gathered; anew = anew; each = each; more = more; all_is = is;
-    }
+    inner = _;
+    surface = _;
+    others = _;
+    old = _;
+    new = _;
+    clauses = _;
+    opens = opens;
+    is_grammar = is_grammar;
+    gathered = gathered;
+    anew = anew;
+    each = each;
+    more = more;
+    all_is = is;
+  }
 
   abbrev ReplacementBy : WrittenReplacement → Context → WrittenReplacements → Clauses → Type 0
   ReplacementBy (written.define_anew name combine p) context more all = (q : Composed) × (rest : Clauses) × Composes files context p q × GathersAnew files context more rest × (all ≡ clause_then name combine q rest)
@@ -240,8 +251,8 @@ module _ (decided : JoinsIsDecided) (files : FileMap) where
         let old_same = gathers_one gathered (subst Q items (subst P same.context h.gathered)) in
         let new_same = anew_one anew h.anew in
         both_then (but_for new old) (but_for h.new h.old) (then_clauses new rest) (then_clauses h.new h.clauses) all also is h.all_is
-          (both_but_for new h.new old h.old new_same old_same)
-          (both_then new h.new rest h.clauses (then_clauses new rest) (then_clauses h.new h.clauses) refl refl new_same (gathers_one more h.more))
+        (both_but_for new h.new old h.old new_same old_same)
+        (both_then new h.new rest h.clauses (then_clauses new rest) (then_clauses h.new h.clauses) refl refl new_same (gathers_one more h.more))
 
     anew_one : {context : Context} {replacements : WrittenReplacements} {all also : Clauses} → GathersAnew files context replacements all → GathersAnew files context replacements also → unnumbered_in all ≡ unnumbered_in also
     anew_one none_anew again = ap unnumbered_in (sym (anew_by again))

@@ -1,5 +1,5 @@
 -- A pattern has one simple form, and so has a schema in one piece.
-use Rattle.std.proofs.Common.{◌≡◌, ◌↔◌, refl, sym, ap, ◌∙◌, subst, ℕ, ◌<◌, ◌≤◌, inl, inr, ◌⊎◌, List, [], ◌∷◌, ◌++◌, length, get_or, slice_get, Some, Contains, arith}
+use Rattle.std.proofs.Common.{◌≡◌, refl, sym, ap, ◌∙◌, subst, ℕ, ◌<◌, inl, inr, List, [], ◌∷◌, length, get_or, Some, Contains, arith}
 use Rattle.std.proofs.lemmas.Bool.{cases_lt}
 use Rattle.std.proofs.lemmas.List.{ext_get_or}
 use Rattle.std.proofs.lemmas.List.Elements.{Contains-append_cases}
@@ -14,7 +14,7 @@ use Rattle.rng_simplify.specs.Forms as form
 use Rattle.rng_simplify.specs.Forming.{bodies_form}
 use Rattle.rng_simplify.specs.Places.{place, Occurs, the_whole, further_in, a_part, a_content, a_definition}
 use Rattle.rng_simplify.specs.Simple.{Simple, Defines, AreSimple, simple_element, simple_attribute, simple_list, simple_empty, simple_text, simple_not_allowed, simple_value, simple_type, simple_one_or_more, simple_choice, simple_group, simple_interleave, simple_grammar, simple_ref, simple_parent_ref, joined_in_order, none_simple, next_simple}
-use Rattle.rng_simplify.specs.Whole.{IsForm, IsDefinedAt}
+use Rattle.rng_simplify.specs.Whole.{IsForm}
 use Rattle.rng_simplify.proofs.Nodes.{in_none, in_cases, in_first, in_more}
 
 -- ---- what a simple form is, by the pattern
@@ -132,8 +132,8 @@ mutual
   number_occurs : (whole : Composed) (scopes : List Clauses) (p : Composed) (n : ℕ) → Occurs whole (place scopes p) → Contains (numbers p) n → IsElementOf whole n
   number_occurs whole scopes (composed.element number class p) n occurs among =
       elim (in_cases number (numbers p) n among) [
-        inl is ↦ let P : ℕ → Type 0 = λ m. Occurs whole (place scopes (composed.element m class p)) in record { scopes = scopes; class = class; pattern = p; occurs = subst P is occurs }
-      | inr more ↦ number_occurs whole scopes p n (further_in occurs a_content) more
+        | inl is ↦ let P : ℕ → Type 0 = λ m. Occurs whole (place scopes (composed.element m class p)) in record { scopes = scopes; class = class; pattern = p; occurs = subst P is occurs }
+        | inr more ↦ number_occurs whole scopes p n (further_in occurs a_content) more
       ]
   number_occurs whole scopes (composed.attribute class p) n occurs among = number_occurs whole scopes p n (further_in occurs (a_part (in_first p []))) among
   number_occurs whole scopes (composed.listed p) n occurs among = number_occurs whole scopes p n (further_in occurs (a_part (in_first p []))) among
@@ -148,26 +148,26 @@ mutual
   number_occurs whole scopes (composed.one_or_more p) n occurs among = number_occurs whole scopes p n (further_in occurs (a_part (in_first p []))) among
   number_occurs whole scopes (composed.choice p q) n occurs among =
       elim (Contains-append_cases (numbers p) (numbers q) n among) [
-        inl first ↦ number_occurs whole scopes p n (further_in occurs (a_part (in_first p (q ∷ [])))) first
-      | inr second ↦ number_occurs whole scopes q n (further_in occurs (a_part (in_more p (q ∷ []) q (in_first q [])))) second
+        | inl first ↦ number_occurs whole scopes p n (further_in occurs (a_part (in_first p (q ∷ [])))) first
+        | inr second ↦ number_occurs whole scopes q n (further_in occurs (a_part (in_more p (q ∷ []) q (in_first q [])))) second
       ]
   number_occurs whole scopes (composed.group p q) n occurs among =
       elim (Contains-append_cases (numbers p) (numbers q) n among) [
-        inl first ↦ number_occurs whole scopes p n (further_in occurs (a_part (in_first p (q ∷ [])))) first
-      | inr second ↦ number_occurs whole scopes q n (further_in occurs (a_part (in_more p (q ∷ []) q (in_first q [])))) second
+        | inl first ↦ number_occurs whole scopes p n (further_in occurs (a_part (in_first p (q ∷ [])))) first
+        | inr second ↦ number_occurs whole scopes q n (further_in occurs (a_part (in_more p (q ∷ []) q (in_first q [])))) second
       ]
   number_occurs whole scopes (composed.interleave p q) n occurs among =
       elim (Contains-append_cases (numbers p) (numbers q) n among) [
-        inl first ↦ number_occurs whole scopes p n (further_in occurs (a_part (in_first p (q ∷ [])))) first
-      | inr second ↦ number_occurs whole scopes q n (further_in occurs (a_part (in_more p (q ∷ []) q (in_first q [])))) second
+        | inl first ↦ number_occurs whole scopes p n (further_in occurs (a_part (in_first p (q ∷ [])))) first
+        | inr second ↦ number_occurs whole scopes q n (further_in occurs (a_part (in_more p (q ∷ []) q (in_first q [])))) second
       ]
 
   number_occurs_in : (whole : Composed) (scopes : List Clauses) (all clauses : Clauses) (n : ℕ) → Occurs whole (place scopes (composed.grammar all)) → ((q : Composed) → Contains (bodies clauses) q → Contains (bodies all) q) → Contains (numbers_in clauses) n → IsElementOf whole n
   number_occurs_in whole scopes all end_of_clauses n occurs within among = absurd (in_none among)
   number_occurs_in whole scopes all (clause_then name combine p more) n occurs within among =
       elim (Contains-append_cases (numbers p) (numbers_in more) n among) [
-        inl first ↦ number_occurs whole (all ∷ scopes) p n (further_in occurs (a_definition (within p (in_first p (bodies more))))) first
-      | inr others ↦ number_occurs_in whole scopes all more n occurs (λ q there. within q (in_more p (bodies more) q there)) others
+        | inl first ↦ number_occurs whole (all ∷ scopes) p n (further_in occurs (a_definition (within p (in_first p (bodies more))))) first
+        | inr others ↦ number_occurs_in whole scopes all more n occurs (λ q there. within q (in_more p (bodies more) q there)) others
       ]
 
 -- ---- a schema in one piece has one simple form
@@ -182,16 +182,16 @@ module _ (whole : Composed) (start : Form) (definitions : List FormDefinition) (
   same_length : length definitions ≡ length others
   same_length =
       elim (cases_lt (length definitions) (length others)) [
-        inl less ↦
-        let among = (also.each_number (length definitions)).1 less in
-        let again = (is.each_number (length definitions)).0 among in
-        omega arith
-      | inr more ↦ elim (cases_lt (length others) (length definitions)) [
-          inl less ↦
-          let among = (is.each_number (length others)).1 less in
-          let again = (also.each_number (length others)).0 among in
-          omega arith
-        | inr least ↦ omega arith
+        | inl less ↦
+            let among = (also.each_number (length definitions)).1 less in
+            let again = (is.each_number (length definitions)).0 among in
+            omega arith
+        | inr more ↦ elim (cases_lt (length others) (length definitions)) [
+          | inl less ↦
+              let among = (is.each_number (length others)).1 less in
+              let again = (also.each_number (length others)).0 among in
+              omega arith
+          | inr least ↦ omega arith
         ]
       ]
 

@@ -1,12 +1,11 @@
 -- A form has one pattern with types, and a schema in one piece has one grammar.
-use Rattle.std.proofs.Common.{◌≡◌, ◌≢◌, refl, sym, ap, ◌∙◌, subst, ℕ, inl, inr, ◌⊎◌, List, [], ◌∷◌, length, codes, Result, Ok, Err, arith}
+use Rattle.std.proofs.Common.{◌≡◌, ◌≢◌, refl, sym, ap, ◌∙◌, subst, List, [], ◌∷◌, length, Result, Ok, arith}
 use Rattle.rng_types.specs.declared.datatype.Datatype.{Datatype}
 use Rattle.rng_types.specs.declared.datatype.Except.{Except}
 use Rattle.rng_types.specs.declared.datatype.Except.TheVariants.{Own, BuiltinString, BuiltinToken}
 use Rattle.rng_types.specs.declared.fault.TypeFault.{TypeFault}
 use Rattle.rng_types.specs.Types.{Accepts}
 use Rattle.rnc_parse.specs.declared.surface.TypeName.{TypeName}
-use Rattle.rng_core.specs.Names.{Class}
 use Rattle.rng_core.specs.Patterns.{Pattern, Definition}
 use Rattle.rng_core.specs.Patterns as pattern
 use Rattle.rng_simplify.specs.Composed.{Composed}
@@ -151,8 +150,7 @@ are_typed_one (next_typed {class = class} {qs = ds} one more) again =
 pub grammar_one : (whole : Composed) (start other : Pattern) (definitions others : List Definition) → IsSimplified whole start definitions → IsSimplified whole other others → (start ≡ other) × (definitions ≡ others)
 grammar_one whole start other definitions others is also =
     let P : Form → Type 0 = λ p. Typed p start in
-    let Q : List FormDefinition → Type 0 = λ ps. AreTyped ps definitions in
-    (
+    let Q : List FormDefinition → Type 0 = λ ps. AreTyped ps definitions in (
       typed_one (subst P (start_same whole is.start_form is.definition_forms is.form also.start_form also.definition_forms also.form) is.start_is) also.start_is,
       are_typed_one (subst Q (definitions_same whole is.start_form is.definition_forms is.form also.start_form also.definition_forms also.form) is.definitions_are) also.definitions_are,
     )

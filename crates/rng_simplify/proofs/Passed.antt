@@ -1,13 +1,11 @@
 -- Where files make one piece, nothing is wrong with the files themselves.
-use Rattle.std.proofs.Common.{◌≡◌, refl, sym, ap, ◌∙◌, subst, ℕ, ◌<◌, ◌≤◌, Bool, true, false, inl, inr, ◌⊎◌, List, [], ◌∷◌, ◌++◌, length, Option, Some, None, Result, Ok, Err, Contains, arith}
+use Rattle.std.proofs.Common.{◌≡◌, refl, sym, ap, ◌∙◌, subst, ℕ, true, false, inl, inr, List, [], ◌∷◌, ◌++◌, Some, None, Contains}
 use Rattle.std.specs.Prelude.{IsUtf8}
-use Rattle.std.specs.List.{AllByRecursion}
 use Rattle.std.proofs.lemmas.List.Elements.{Contains-append_cases}
 use Rattle.std.proofs.lemmas.Option.{same_Some}
 use Rattle.nx_base.specs.declared.cause.Cause.{Cause}
 use Rattle.nx_host.specs.Files.{FileMap}
 use Rattle.nx_host.specs.Uri.{IsBadUri, JoinsIsDecided}
-use Rattle.rnc_parse.specs.declared.surface.FileReference.{FileReference}
 use Rattle.rnc_parse.specs.declared.surface.Defined.{Defined}
 use Rattle.rnc_parse.specs.Reads.{Refuses}
 use Rattle.rnc_parse.specs.Written.{WrittenPattern, WrittenItem, WrittenItems, WrittenReplacement, WrittenReplacements, WrittenSurface, a_pattern, a_grammar}
@@ -16,9 +14,8 @@ use Rattle.rnc_parse.proofs.WholeTexts.{read_not_refused}
 use Rattle.rng_simplify.specs.Agreeing.{ArePassed}
 use Rattle.rng_simplify.specs.Broken.{IsAbsent, IsNoText, HasBadUri, IsRefused, HasIncludeLoop, IncludesOther, ReplacesNothing}
 use Rattle.rng_simplify.specs.Composed.{Composed, Clauses, end_of_clauses, clause_then, then_clauses, defines, names_of}
-use Rattle.rng_simplify.specs.Composed as composed
-use Rattle.rng_simplify.specs.Composing.{Context, top, referred, Says, Opens, grammar_items, DefinesEach, Composes, by_element, by_attribute, by_list, by_ref, by_parent_ref, by_empty, by_text, by_not_allowed, by_value, by_type, by_type_but, by_external, by_grammar, by_optional, by_zero_or_more, by_one_or_more, by_mixed, by_choice, by_group, by_interleave, ComposesFile, of_pattern, of_grammar, Gathers, no_item, definition, division, inclusion, GathersAnew, none_anew, definition_anew, division_anew, ComposesSchema}
-use Rattle.rng_simplify.specs.References.{Mention, an_external, an_include, reference_of, mentions, mentions_of_item, mentions_of_items, mentions_of_replacement, mentions_anew, mentions_of, names_of_replacement, names_anew, Reached, the_first, a_further, Mentions}
+use Rattle.rng_simplify.specs.Composing.{Context, referred, Says, Opens, grammar_items, DefinesEach, Composes, by_element, by_attribute, by_list, by_ref, by_parent_ref, by_empty, by_text, by_not_allowed, by_value, by_type, by_type_but, by_external, by_grammar, by_optional, by_zero_or_more, by_one_or_more, by_mixed, by_choice, by_group, by_interleave, ComposesFile, of_pattern, of_grammar, Gathers, no_item, definition, division, inclusion, GathersAnew, none_anew, definition_anew, division_anew, ComposesSchema}
+use Rattle.rng_simplify.specs.References.{Mention, an_external, an_include, reference_of, mentions, mentions_of_items, mentions_anew, mentions_of, names_anew, Reached, the_first, a_further, Mentions}
 use Rattle.rng_simplify.specs.Unnumbered.{unnumbered_in}
 use Rattle.rng_simplify.proofs.Nodes.{in_none, in_cases, in_one}
 use Rattle.rng_simplify.proofs.OneComposed.{says_one, opens_one, defines_same, gathers_one}
@@ -41,8 +38,8 @@ each_defined : (old : Clauses) (names : List Defined) (name : Defined) → Defin
 each_defined old [] name each among = absurd (in_none among)
 each_defined old (first ∷ names) name each among =
     elim (in_cases first names name among) [
-      inl is ↦ let P : Defined → Type 0 = λ n. defines n old ≡ true in subst P is each.0
-    | inr further ↦ each_defined old names name each.1 further
+      | inl is ↦ let P : Defined → Type 0 = λ n. defines n old ≡ true in subst P is each.0
+      | inr further ↦ each_defined old names name each.1 further
     ]
 
 -- ---- what is mentioned opens
@@ -118,16 +115,16 @@ module _ (files : FileMap) where
     items_lead (division {inside = inside} {items = items} within more is) = both_lead (mentions_of_items inside) (mentions_of_items items) (items_lead within) (items_lead more)
     items_lead (inclusion {reference = reference} {replacements = replacements} {others = others} {items = items} {old = old} {new = new} opens is_grammar gathered anew each more is) =
         both_lead (an_include reference replacements ∷ mentions_anew replacements) (mentions_of_items items)
-          (both_lead (an_include reference replacements ∷ []) (mentions_anew replacements)
-            (one_leads (an_include reference replacements) (record {
-              inner = _;
-              surface = _;
-              opens = opens;
-              whole = as_items others old is_grammar gathered;
-              included = record { items = others; is_grammar = is_grammar; old = old; gathered = gathered; new = new; anew = names_gathered anew; each = each };
-            }))
-            (anew_lead anew))
-          (items_lead more)
+        (both_lead (an_include reference replacements ∷ []) (mentions_anew replacements)
+        (one_leads (an_include reference replacements) (record {
+          inner = _;
+          surface = _;
+          opens = opens;
+          whole = as_items others old is_grammar gathered;
+          included = record { items = others; is_grammar = is_grammar; old = old; gathered = gathered; new = new; anew = names_gathered anew; each = each };
+        }))
+        (anew_lead anew))
+        (items_lead more)
 
     anew_lead : {context : Context} {replacements : WrittenReplacements} {clauses : Clauses} → GathersAnew files context replacements clauses → EachLeads context (mentions_anew replacements)
     anew_lead none_anew = no_mention

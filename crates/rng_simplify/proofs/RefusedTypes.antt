@@ -1,28 +1,27 @@
 -- Where a node has no type, the schema is broken for that cause.
-use Rattle.std.proofs.Common.{◌≡◌, refl, sym, ap, ◌∙◌, subst, ℕ, ◌+◌, ◌<◌, ◌≤◌, inl, inr, ◌⊎◌, List, [], ◌∷◌, length, slice_get, Option, Some, None, Ok, Err, Contains, arith}
+use Rattle.std.proofs.Common.{◌≡◌, sym, subst, ℕ, inl, inr, List, [], slice_get, Some, Contains, arith}
 use Rattle.std.specs.Prelude.{slice_index}
-use Rattle.std.proofs.lemmas.Option.{slice_get_within, get_or_from_slice_get}
+use Rattle.std.proofs.lemmas.Option.{slice_get_within}
 use Rattle.nx_base.specs.declared.cause.Cause.{Cause}
 use Rattle.nx_base.specs.declared.cause.Cause.TheVariants as cause
 use Rattle.rnc_parse.specs.declared.surface.TypeName.{TypeName}
 use Rattle.rnc_parse.specs.declared.surface.Param.{Param}
 use Rattle.rng_simplify.specs.declared.form.Forms.{Forms}
 use Rattle.rng_simplify.specs.declared.resolve.Resolved.{Resolved}
-use Rattle.rng_simplify.specs.Broken.{Has, WholeIsBroken}
+use Rattle.rng_simplify.specs.Broken.{WholeIsBroken}
 use Rattle.rng_simplify.specs.Cells.{Cell}
 use Rattle.rng_simplify.specs.Cells as cell
 use Rattle.rng_simplify.specs.Composed.{Composed, Clauses}
 use Rattle.rng_simplify.specs.Composed as composed
 use Rattle.rng_simplify.specs.Denoting.{IsCell, Denotes}
-use Rattle.rng_simplify.specs.Forms.{Form, values_of}
 use Rattle.rng_simplify.specs.Forming.{form_of, IsBefore, IsInOrder, AreForms}
 use Rattle.rng_simplify.specs.Places.{place, Occurs}
-use Rattle.rng_simplify.specs.Resolving.{link_at, leads, IsResolved, IsJoinNumber, IsOrdered}
+use Rattle.rng_simplify.specs.Resolving.{link_at, IsResolved, IsOrdered}
 use Rattle.rng_simplify.specs.Simple.{Simple}
-use Rattle.rng_simplify.specs.Standing.{Stands, a_part, IsStanding, AreScopes}
-use Rattle.rng_simplify.specs.Typing.{HasValues, HasManyValues, HasForeignValue, HasNoValueType, HasNoTypeTaken, HasNoType, IsFirstRefused}
+use Rattle.rng_simplify.specs.Standing.{Stands, a_part, IsStanding}
+use Rattle.rng_simplify.specs.Typing.{HasNoValueType, HasNoTypeTaken, HasNoType, IsFirstRefused}
 use Rattle.rng_simplify.proofs.Forming.{cell_leads_are}
-use Rattle.rng_simplify.proofs.Nodes.{in_first, DenotesBy, denoted_by, HasPlace, place_of}
+use Rattle.rng_simplify.proofs.Nodes.{in_first, denoted_by, HasPlace, place_of}
 use Rattle.rng_simplify.proofs.Simplifying.{in_order, in_place, node_is_simple, taken_of}
 use Rattle.rng_simplify.proofs.Typed.{are_taken}
 
@@ -33,9 +32,9 @@ module _ (cells : List Cell) (root : ℕ) (found : Resolved) (resolved : IsResol
   -- a node of the order stands in the schema
   pub stands_there : (end i : ℕ) (c : Cell) → slice_get order end ≡ Some i → IsCell cells i c → IsStanding cells root i
   stands_there end i c there at = elim (ordered.nothing_else i (in_place order end i there)) [
-      inl stands ↦ stands
+    | inl stands ↦ stands
     | inr join ↦ let inside = slice_get_within cells i c at in let is = join.2 in absurd (omega arith)
-    ]
+  ]
 
   so_occurs : (scopes : List Clauses) (p q : Composed) → p ≡ q → Occurs whole (place scopes p) → Occurs whole (place scopes q)
   so_occurs scopes p q is occurs = let P : Composed → Type 0 = λ r. Occurs whole (place scopes r) in subst P is occurs
@@ -54,20 +53,20 @@ module _ (cells : List Cell) (root : ℕ) (found : Resolved) (resolved : IsResol
   type_is_broken scopes p q type params part is occurs simple cause.UnknownParam refused = record { scopes = scopes; pattern = composed.typed type params q; occurs = so_occurs scopes p _ is occurs; is = refused }
   type_is_broken scopes p q type params part is occurs simple cause.BadParam refused = record { scopes = scopes; pattern = composed.typed type params q; occurs = so_occurs scopes p _ is occurs; is = refused }
   type_is_broken scopes p q type params part is occurs simple cause.TooManyExcepts refused = record {
-      scopes = scopes;
-      pattern = composed.typed type params q;
-      occurs = so_occurs scopes p _ is occurs;
-      is = (form_of cells (taken_of cells forms) forms part, refused.values, simple, refused.has_values.are (taken_of cells forms), refused.many);
-    }
+    scopes = scopes;
+    pattern = composed.typed type params q;
+    occurs = so_occurs scopes p _ is occurs;
+    is = (form_of cells (taken_of cells forms) forms part, refused.values, simple, refused.has_values.are (taken_of cells forms), refused.many);
+  }
   type_is_broken scopes p q type params part is occurs simple cause.UnsupportedExcept refused = record {
-      scopes = scopes;
-      pattern = composed.typed type params q;
-      occurs = so_occurs scopes p _ is occurs;
-      is = elim refused [
-          inl none ↦ (form_of cells (taken_of cells forms) forms part, simple, inl (none.none (taken_of cells forms)))
-        | inr foreign ↦ (form_of cells (taken_of cells forms) forms part, simple, inr (foreign.values, foreign.has_values.are (taken_of cells forms), foreign.foreign))
-        ];
-    }
+    scopes = scopes;
+    pattern = composed.typed type params q;
+    occurs = so_occurs scopes p _ is occurs;
+    is = elim refused [
+      | inl none ↦ (form_of cells (taken_of cells forms) forms part, simple, inl (none.none (taken_of cells forms)))
+      | inr foreign ↦ (form_of cells (taken_of cells forms) forms part, simple, inr (foreign.values, foreign.has_values.are (taken_of cells forms), foreign.foreign))
+    ];
+  }
   type_is_broken scopes p q type params part is occurs simple why refused = absurd refused
 
   -- the first node that has no type

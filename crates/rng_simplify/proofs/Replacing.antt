@@ -1,7 +1,6 @@
 -- Definitions that are replaced, as clauses in one piece.
-use Rattle.std.proofs.Common.{◌≡◌, refl, sym, ap, ◌∙◌, subst, ℕ, Bool, true, false, cond, List, [], ◌∷◌, ◌++◌}
+use Rattle.std.proofs.Common.{◌≡◌, refl, sym, ap, ◌∙◌, ℕ, Bool, true, false, cond, List, ◌∷◌, ◌++◌}
 use Rattle.std.specs.Prelude.{not, ◌||◌, ◌&&◌, filter, if◌then◌else◌}
-use Rattle.std.specs.List.{list_all, list_any, AllByRecursion}
 use Rattle.rnc_parse.specs.declared.surface.Defined.{Defined}
 use Rattle.rng_simplify.specs.declared.node.Clause.{Clause}
 use Rattle.rng_simplify.specs.Cells.{Cell}

@@ -1,5 +1,5 @@
 -- Rows of patterns and of items as lists, and what is made of them.
-use Rattle.std.proofs.Common.{◌≡◌, refl, ap, sym, ◌∙◌, ℕ, List, [], ◌∷◌, ◌++◌, Vec, Global}
+use Rattle.std.proofs.Common.{◌≡◌, refl, ap, sym, ◌∙◌, ℕ, List, ◌++◌, Vec, Global}
 use Rattle.std.proofs.lemmas.List.{append_assoc}
 use Rattle.rnc_parse.specs.declared.surface.Pattern.{Pattern}
 use Rattle.rnc_parse.specs.declared.surface.Pattern as pattern

@@ -1,7 +1,6 @@
 -- Name classes as a file gives them, and those that no schema may have: ISO/IEC 19757-2, sections 7.9 and 7.17.
-use Rattle.std.specs.Prelude.{ℕ, Bool, true, false, ◌||◌, ◌&&◌, List, [], ◌∷◌, ◌++◌, codes}
+use Rattle.std.specs.Prelude.{ℕ, Bool, true, false, ◌||◌, ◌&&◌, List, [], codes}
 use Rattle.std.specs.Str.{bytes_eq}
-use Rattle.nx_base.specs.declared.name.Name.{Name}
 use Rattle.nx_base.specs.Names.{xmlns_namespace}
 use Rattle.rnc_parse.specs.declared.surface.Namespace.{Namespace}
 use Rattle.rnc_parse.specs.declared.surface.Namespace.TheVariants as namespace

@@ -1,5 +1,5 @@
 -- How large the forms of a schema are, by its nodes.
-use Rattle.std.specs.Prelude.{◌≡◌, ℕ, ◌+◌, ◌<◌, ◌≤◌, ◌⊎◌, List, length, sum_by, slice_get, Option, Some, None, Result, Ok, Err}
+use Rattle.std.specs.Prelude.{◌≡◌, ℕ, ◌+◌, ◌<◌, ◌≤◌, ◌⊎◌, List, sum_by, slice_get, Option, Some, Result, Ok, Err}
 use Rattle.nx_base.specs.declared.cause.Cause.TheVariants.{TooLarge}
 use Rattle.rng_core.specs.Names.{Class, any_name}
 use Rattle.rng_simplify.specs.declared.fault.SchemaFault.{SchemaFault}
@@ -10,7 +10,7 @@ use Rattle.rng_simplify.specs.Cells.{Cell}
 use Rattle.rng_simplify.specs.Cells as cell
 use Rattle.rng_simplify.specs.Denoting.{IsCell}
 use Rattle.rng_simplify.specs.Forming.{form_of, IsKnown}
-use Rattle.rng_simplify.specs.Forms.{Form, Value, nodes, depth}
+use Rattle.rng_simplify.specs.Forms.{Value, nodes, depth}
 
 -- the content of an element
 abbrev pub content_in : Option Cell → ℕ

@@ -6,7 +6,6 @@ use Rattle.std.specs.List.{list_any, list_all}
 use Rattle.nx_base.specs.declared.cause.Cause.{Cause}
 use Rattle.nx_base.specs.declared.cause.Cause.TheVariants.{NoDefinition, NotGrammar}
 use Rattle.rnc_parse.specs.declared.surface.Defined.{Defined}
-use Rattle.rnc_parse.specs.declared.surface.Combine.{Combine}
 use Rattle.rnc_parse.specs.declared.surface.Pattern.{Pattern}
 use Rattle.rnc_parse.specs.Views.{pattern_of, surface_of}
 use Rattle.rnc_parse.specs.Written.{WrittenPattern, WrittenItem, WrittenItems, WrittenReplacement, WrittenReplacements, WrittenSurface}

@@ -1,7 +1,6 @@
 -- Patterns that spell out shapes, and the work that is left of one.
-use Rattle.std.specs.Prelude.{◌≡◌, ℕ, ◌+◌, ◌*◌, ◌<◌, ◌^◌, sum_by, List, [], ◌∷◌, ◌++◌, length, map, reverse, slice_get, slice_index, Option, Some, None, Result, Ok, Err, IfOk}
+use Rattle.std.specs.Prelude.{◌≡◌, ℕ, ◌*◌, ◌<◌, ◌^◌, sum_by, List, [], ◌∷◌, ◌++◌, length, map, reverse, slice_get, slice_index, Option, Some, Result, Ok, Err}
 use Rattle.rnc_parse.specs.declared.surface.TypeName.{TypeName}
-use Rattle.rnc_parse.specs.declared.surface.Param.{Param}
 use Rattle.rng_core.specs.declared.grammar.Pat.{Pat}
 use Rattle.rng_core.specs.declared.grammar.Def.{Def}
 use Rattle.rng_core.specs.declared.grammar.Grammar.{Grammar}
@@ -22,8 +21,6 @@ use Rattle.rng_simplify.specs.declared.types.NodeType.{NodeType}
 use Rattle.rng_simplify.specs.Cells.{Cell}
 use Rattle.rng_simplify.specs.Cells as cell
 use Rattle.rng_simplify.specs.Denoting.{IsCell}
-use Rattle.rng_simplify.specs.Forming.{IsKnown}
-use Rattle.rng_simplify.specs.Limiting.{IsElement, content_of}
 use Rattle.rng_simplify.specs.Forms.{nodes}
 use Rattle.rng_simplify.specs.Shown.{form_at, shape_parts, IsBehindParts, AreOfSchema}
 use Rattle.rng_simplify.specs.Typing.{known_at}

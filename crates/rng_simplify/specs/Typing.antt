@@ -1,5 +1,5 @@
 -- Types of nodes: what their names stand for, and what is taken from them.
-use Rattle.std.specs.Prelude.{◌≡◌, ◌≢◌, ℕ, ◌+◌, ◌<◌, ◌≤◌, ◌⊎◌, List, [], ◌∷◌, ◌++◌, length, map, slice_get, slice_index, slice_index_or, Option, Some, None, Result, Ok, Err, Vec, Contains}
+use Rattle.std.specs.Prelude.{◌≡◌, ◌≢◌, ℕ, ◌<◌, ◌≤◌, ◌⊎◌, List, [], ◌∷◌, ◌++◌, length, map, slice_get, slice_index, slice_index_or, Option, Some, None, Result, Ok, Err, Vec, Contains}
 use Rattle.std.specs.declared.alloc.Global.{Global}
 use Rattle.std.specs.List.{AllByRecursion}
 use Rattle.nx_base.specs.declared.cause.Cause.{Cause}
@@ -22,7 +22,7 @@ use Rattle.rng_simplify.specs.Cells as cell
 use Rattle.rng_simplify.specs.Datatypes.{datatype_of, MayWrite, AreExcepts, builtin_string, builtin_token}
 use Rattle.rng_simplify.specs.Denoting.{IsCell}
 use Rattle.rng_simplify.specs.Forming.{IsBefore, IsKnown}
-use Rattle.rng_simplify.specs.Forms.{Form, Value, values_of}
+use Rattle.rng_simplify.specs.Forms.{Value, values_of}
 use Rattle.rng_simplify.specs.Standing.{cell_parts}
 use Rattle.rng_simplify.specs.Shown.{value_in, form_at, AreOfSchema}
 

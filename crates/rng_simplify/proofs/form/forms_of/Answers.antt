@@ -1,5 +1,3 @@
-use Rattle.rng_simplify.proofs.Simplifying.{in_order}
-use Rattle.std.proofs.Common.{slice_get}
 use Rattle.std.proofs.lemmas.Option.{slice_get-get_or}
 use Rattle.rng_simplify.proofs.Forming.{one_more_formed}
 use Rattle.rng_simplify.proofs.form.forms_of.Goals as goal

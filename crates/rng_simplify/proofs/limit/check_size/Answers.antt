@@ -1,4 +1,3 @@
-use Rattle.std.proofs.Common.{[]}
 use Rattle.std.proofs.lemmas.Result.{err_from_is_err_and}
 use Rattle.rng_simplify.proofs.Limiting.{few_counted, one_more_counted, one_too_large, all_counted}
 use Rattle.rng_simplify.proofs.limit.check_size.Goals as goal

@@ -1,4 +1,4 @@
-use Rattle.std.proofs.Common.{ℕ, List, map, length, subst, sym, Err}
+use Rattle.std.proofs.Common.{List, map, length, subst, sym, Err}
 use Rattle.std.proofs.lemmas.Result.{err_from_is_err_and}
 use Rattle.rng_simplify.specs.declared.node.Node.{Node}
 use Rattle.rng_simplify.specs.Cells.{cell_of}

@@ -1,4 +1,4 @@
-use Rattle.std.proofs.Common.{◌≡◌, ap, ◌∙◌, refl, ℕ, arith}
+use Rattle.std.proofs.Common.{ap, ◌∙◌, refl, arith}
 use Rattle.rng_simplify.specs.declared.node.Sign.{Sign}
 use Rattle.rng_simplify.specs.declared.node.Sign.TheVariants as sign
 use Rattle.rng_simplify.specs.declared.shape.Shape.TheVariants as shape

@@ -1,4 +1,4 @@
-use Rattle.std.proofs.Common.{◌≡◌, sym, ap, ◌∙◌, Result, Ok, Err}
+use Rattle.std.proofs.Common.{sym, ap, ◌∙◌, Result, Err}
 use Rattle.rng_types.specs.declared.datatype.Datatype.{Datatype}
 use Rattle.rng_types.specs.declared.fault.TypeFault.{TypeFault}
 use Rattle.rng_simplify.proofs.Typing.{never_too_many}

@@ -1,4 +1,3 @@
-use Rattle.std.proofs.Common.{sym}
 use Rattle.rng_simplify.proofs.Typing.{is_built_in}
 use Rattle.rng_simplify.proofs.types.is_string.Goals as goal
 

@@ -1,5 +1,5 @@
 use Rattle.std.proofs.Common.{sym, ap, ◌∙◌, length}
-use Rattle.rng_simplify.proofs.Forming.{first_known, others_known, all_joined, none_to_join}
+use Rattle.rng_simplify.proofs.Forming.{first_known, others_known, none_to_join}
 use Rattle.rng_simplify.proofs.form.Forms.join.Goals as goal
 
 pub of-shape-requires : goal.of-shape-requires

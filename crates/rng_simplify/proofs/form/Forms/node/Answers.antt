@@ -1,7 +1,6 @@
-use Rattle.rng_simplify.proofs.Forming.{no_parts, of_node, lead_known, cell_added, element_added, value_added, type_added, attribute_made, list_made, one_or_more_made, joined_made, cell_linked}
+use Rattle.rng_simplify.proofs.Forming.{of_node, lead_known, cell_added, element_added, value_added, type_added}
 use Rattle.std.proofs.Common.{refl, [], ◌∷◌, ◌+◌}
 use Rattle.rng_simplify.proofs.Nodes.{in_first, in_more}
-use Rattle.rng_simplify.specs.declared.shape.Shape.TheVariants as shape
 use Rattle.rng_simplify.specs.Cells as cell
 use Rattle.rng_simplify.proofs.form.Forms.node.Goals as goal
 

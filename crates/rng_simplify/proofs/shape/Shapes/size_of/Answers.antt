@@ -1,4 +1,4 @@
-use Rattle.std.proofs.Common.{◌≡◌, ◌<◌, ℕ, subst, refl, length, arith, Contains}
+use Rattle.std.proofs.Common.{◌≡◌, ◌<◌, ℕ, subst, refl, arith, Contains}
 use Rattle.rng_simplify.specs.Shown.{IsBehindParts, shape_parts}
 use Rattle.rng_simplify.specs.declared.shape.Shape.{Shape}
 use Rattle.rng_simplify.proofs.shape.Shapes.size_of.Goals as goal
