@@ -60,18 +60,18 @@ module _ (old new : List Shape) (of : List ℕ) (count i link : ℕ) (c : Cell) 
         grows = grows;
         within = let longer = length-append old (s ∷ []) in let same = ap length grows in omega arith;
         shows = λ cells taken at.
-          ap (λ shapes. form_at cells taken shapes number) grows
-          ∙ ap (λ n. form_at cells taken (old ++ s ∷ []) n) place
-          ∙ shows_last cells taken old s
-          ∙ is cells taken at;
+            ap (λ shapes. form_at cells taken shapes number) grows
+            ∙ ap (λ n. form_at cells taken (old ++ s ∷ []) n) place
+            ∙ shows_last cells taken old s
+            ∙ is cells taken at;
         kept = λ cells elements at below are. record {
-            each_is = λ n t h.
+          each_is = λ n t h.
               let P : List Shape → Type 0 = λ shapes. slice_get shapes n ≡ Some t in
               elim (before_or_last old s n t (subst P grows h)) [
-                inl there ↦ are.each_is n t there
-              | inr e ↦ let Q : Shape → Type 0 = IsOfSchema cells elements in subst Q (sym e.1) (of_schema cells elements at below)
-              ]
-          };
+                | inl there ↦ are.each_is n t there
+                | inr e ↦ let Q : Shape → Type 0 = IsOfSchema cells elements in subst Q (sym e.1) (of_schema cells elements at below)
+              ];
+        };
       }
   cell_added s (Err fault.NoMemory) is of_schema added = tt
   cell_added s (Err fault.Failed) is of_schema added = added
@@ -83,12 +83,12 @@ module _ (old new : List Shape) (of : List ℕ) (count i link : ℕ) (c : Cell) 
   -- a shape that shows what is made of parts
   pub cell_shown : (own : Shape) (made : List Cell → (ℕ → Form) → Form) (result : Result ℕ SchemaFault) → ((cells : List Cell) (taken : ℕ → List Value) → IsCell cells i c → made cells (form_at cells taken old) ≡ cell_form (form_in cells taken old of) count link (taken i) c) → ((cells : List Cell) (elements : ℕ) → IsCell cells i c → IsOfSchema cells elements own) → Shows old new own made result → MakesCell old new of count i link c result
   cell_shown own made (Ok number) is of_schema shown = record {
-      more = shown.more;
-      grows = shown.grows;
-      within = shown.within;
-      shows = λ cells taken at. shown.shows cells taken ∙ is cells taken at;
-      kept = λ cells elements at below are. shown.kept cells elements (of_schema cells elements at) are;
-    }
+    more = shown.more;
+    grows = shown.grows;
+    within = shown.within;
+    shows = λ cells taken at. shown.shows cells taken ∙ is cells taken at;
+    kept = λ cells elements at below are. shown.kept cells elements (of_schema cells elements at) are;
+  }
   cell_shown own made (Err fault.NoMemory) is of_schema shown = tt
   cell_shown own made (Err fault.Failed) is of_schema shown = shown
   cell_shown own made (Err (fault.Absent a)) is of_schema shown = shown
@@ -99,12 +99,12 @@ module _ (old new : List Shape) (of : List ℕ) (count i link : ℕ) (c : Cell) 
 -- a join's shape is a node's
 pub cell_linked : (old : List Shape) (of : List ℕ) (count i link : ℕ) (c : Cell) (number : ℕ) → ((at : ℕ → Form) (values : List Value) → cell_form at count link values c ≡ at (count + link)) → IsKnown old of (count + link) → number ≡ slice_index of (count + link) → IsCellMade old old of count i link c number
 cell_linked old of count i link c number is known at = record {
-    more = [];
-    grows = sym (append-nil old);
-    within = let there = known.there in omega arith;
-    shows = λ cells taken there. ap (λ n. form_at cells taken old n) at ∙ sym (is (form_in cells taken old of) (taken i));
-    kept = λ cells elements there below are. are;
-  }
+  more = [];
+  grows = sym (append-nil old);
+  within = let there = known.there in omega arith;
+  shows = λ cells taken there. ap (λ n. form_at cells taken old n) at ∙ sym (is (form_in cells taken old of) (taken i));
+  kept = λ cells elements there below are. are;
+}
 
 -- ---- the cells by their kinds
 
@@ -115,48 +115,48 @@ element_added old new of count i link class part result added =
 pub value_added : (old new : List Shape) (of : List ℕ) (count i link : ℕ) (type : TypeName) (text : List ℕ) (result : Result ℕ SchemaFault) → Adds old new (shape.Value i) result → MakesCell old new of count i link (cell.value type text) result
 value_added old new of count i link type text result added =
     cell_added old new of count i link (cell.value type text) (shape.Value i) result
-      (λ cells taken at. ap (λ o. form.value (value_in o)) at)
-      (λ cells elements at below. (type, text, at))
-      added
+    (λ cells taken at. ap (λ o. form.value (value_in o)) at)
+    (λ cells elements at below. (type, text, at))
+    added
 
 pub type_added : (old new : List Shape) (of : List ℕ) (count i link : ℕ) (type : TypeName) (params : List Param) (part : ℕ) (result : Result ℕ SchemaFault) → Adds old new (shape.Typed i) result → MakesCell old new of count i link (cell.typed type params part) result
 type_added old new of count i link type params part result added =
     cell_added old new of count i link (cell.typed type params part) (shape.Typed i) result
-      (λ cells taken at. ap (λ o. form.typed (type_in o) (params_in o) (taken i)) at)
-      (λ cells elements at below. (type, params, part, at))
-      added
+    (λ cells taken at. ap (λ o. form.typed (type_in o) (params_in o) (taken i)) at)
+    (λ cells elements at below. (type, params, part, at))
+    added
 
 pub attribute_made : (old new : List Shape) (of : List ℕ) (count i link : ℕ) (class : Class) (part value : ℕ) (result : Result ℕ SchemaFault) → value ≡ slice_index of part → Shows old new (shape.Attribute i value) (λ cells at. attribute_of (class_in (slice_get cells i)) (at value)) result → MakesCell old new of count i link (cell.attribute class part) result
 attribute_made old new of count i link class part value result is shown =
     cell_shown old new of count i link (cell.attribute class part) (shape.Attribute i value) _ result
-      (λ cells taken at.
-        ap (λ o. attribute_of (class_in o) (form_at cells taken old value)) at
-        ∙ ap (λ n. attribute_of class (form_at cells taken old n)) is)
-      (λ cells elements at. (class, part, at))
-      shown
+    (λ cells taken at.
+    ap (λ o. attribute_of (class_in o) (form_at cells taken old value)) at
+    ∙ ap (λ n. attribute_of class (form_at cells taken old n)) is)
+    (λ cells elements at. (class, part, at))
+    shown
 
 pub list_made : (old new : List Shape) (of : List ℕ) (count i link part words : ℕ) (result : Result ℕ SchemaFault) → words ≡ slice_index of part → Shows old new shape.Empty (λ cells at. list_of (at words)) result → MakesCell old new of count i link (cell.listed part) result
 list_made old new of count i link part words result is shown =
     cell_shown old new of count i link (cell.listed part) shape.Empty _ result
-      (λ cells taken at. ap (λ n. list_of (form_at cells taken old n)) is)
-      (λ cells elements at. tt)
-      shown
+    (λ cells taken at. ap (λ n. list_of (form_at cells taken old n)) is)
+    (λ cells elements at. tt)
+    shown
 
 pub one_or_more_made : (old new : List Shape) (of : List ℕ) (count i link part body : ℕ) (result : Result ℕ SchemaFault) → body ≡ slice_index of part → Shows old new shape.Empty (λ cells at. one_or_more_of (at body)) result → MakesCell old new of count i link (cell.one_or_more part) result
 one_or_more_made old new of count i link part body result is shown =
     cell_shown old new of count i link (cell.one_or_more part) shape.Empty _ result
-      (λ cells taken at. ap (λ n. one_or_more_of (form_at cells taken old n)) is)
-      (λ cells elements at. tt)
-      shown
+    (λ cells taken at. ap (λ n. one_or_more_of (form_at cells taken old n)) is)
+    (λ cells elements at. tt)
+    shown
 
 pub joined_made : (old new : List Shape) (of : List ℕ) (count i link : ℕ) (by : Sign) (first second one other : ℕ) (result : Result ℕ SchemaFault) → one ≡ slice_index of first → other ≡ slice_index of second → Shows old new shape.Empty (λ cells at. joined_of by (at one) (at other)) result → MakesCell old new of count i link (cell.joined by first second) result
 joined_made old new of count i link by first second one other result is also shown =
     cell_shown old new of count i link (cell.joined by first second) shape.Empty _ result
-      (λ cells taken at.
-        ap (λ n. joined_of by (form_at cells taken old n) (form_at cells taken old other)) is
-        ∙ ap (λ n. joined_of by (form_at cells taken old (slice_index of first)) (form_at cells taken old n)) also)
-      (λ cells elements at. tt)
-      shown
+    (λ cells taken at.
+    ap (λ n. joined_of by (form_at cells taken old n) (form_at cells taken old other)) is
+    ∙ ap (λ n. joined_of by (form_at cells taken old (slice_index of first)) (form_at cells taken old n)) also)
+    (λ cells elements at. tt)
+    shown
 
 -- ---- forms that are joined one by one
 
@@ -166,29 +166,29 @@ joined_further join first (next ∷ others) last = joined_further join (join fir
 
 pub none_joined : (old : List Shape) (of : List ℕ) (by : Sign) (first : ℕ) (others : List ℕ) → first < length old → AreAllJoined old old of by first (take 0 others) first
 none_joined old of by first others within = record {
-    more = [];
-    grows = sym (append-nil old);
-    within = within;
-    shows = λ cells taken. refl;
-    kept = λ cells elements are. are;
-  }
+  more = [];
+  grows = sym (append-nil old);
+  within = within;
+  shows = λ cells taken. refl;
+  kept = λ cells elements are. are;
+}
 
 pub one_more_joined : (old mid new : List Shape) (of : List ℕ) (by : Sign) (first : ℕ) (done : List ℕ) (other next number further : ℕ) → AreAllJoined old mid of by first done number → IsKnown old of other → next ≡ slice_index of other → IsShown mid new shape.Empty (λ cells at. joined_of by (at number) (at next)) further → AreAllJoined old new of by first (done ++ other ∷ []) further
 one_more_joined old mid new of by first done other next number further so_far known is shown = record {
-    more = so_far.more ++ shown.more;
-    grows = shown.grows ∙ ap (λ shapes. shapes ++ shown.more) so_far.grows ∙ append_assoc old so_far.more shown.more;
-    within = shown.within;
-    shows = λ cells taken.
+  more = so_far.more ++ shown.more;
+  grows = shown.grows ∙ ap (λ shapes. shapes ++ shown.more) so_far.grows ∙ append_assoc old so_far.more shown.more;
+  within = shown.within;
+  shows = λ cells taken.
       let at : ℕ → Form = form_in cells taken old of in
       let there = known.there in
       shown.shows cells taken
       ∙ ap (λ p. joined_of by p (form_at cells taken mid next)) (so_far.shows cells taken)
       ∙ ap (λ p. joined_of by (joined (joined_of by) (form_at cells taken old first) (map at done)) p)
-          (ap (λ shapes. form_at cells taken shapes next) so_far.grows ∙ shows_still cells taken old so_far.more next (omega arith) ∙ ap (λ n. form_at cells taken old n) is)
+      (ap (λ shapes. form_at cells taken shapes next) so_far.grows ∙ shows_still cells taken old so_far.more next (omega arith) ∙ ap (λ n. form_at cells taken old n) is)
       ∙ sym (joined_further (joined_of by) (form_at cells taken old first) (map at done) (at other))
       ∙ ap (λ forms. joined (joined_of by) (form_at cells taken old first) forms) (sym (map-append at done (other ∷ [])));
-    kept = λ cells elements are. shown.kept cells elements tt (so_far.kept cells elements are);
-  }
+  kept = λ cells elements are. shown.kept cells elements tt (so_far.kept cells elements are);
+}
 
 pub all_joined : (old new : List Shape) (of : List ℕ) (combine : Combine) (by : Sign) (bodies others : List ℕ) (first start : ℕ) (result : Result ℕ SchemaFault) → bodies ≡ first ∷ others → start ≡ slice_index of first → joined_of by ≡ join_of combine → JoinsAll old new of by start others result → MakesJoin old new of combine bodies result
 all_joined old new of combine by bodies others first start (Ok number) parts is same made =
@@ -198,9 +198,9 @@ all_joined old new of combine by bodies others first start (Ok number) parts is 
       grows = made.grows;
       within = made.within;
       shows = λ cells taken.
-        made.shows cells taken
-        ∙ ap (λ join. joined join (form_at cells taken old start) (map (form_in cells taken old of) others)) same
-        ∙ ap (λ n. joined (join_of combine) (form_at cells taken old n) (map (form_in cells taken old of) others)) is;
+          made.shows cells taken
+          ∙ ap (λ join. joined join (form_at cells taken old start) (map (form_in cells taken old of) others)) same
+          ∙ ap (λ n. joined (join_of combine) (form_at cells taken old n) (map (form_in cells taken old of) others)) is;
       kept = made.kept;
     })
 all_joined old new of combine by bodies others first start (Err fault.NoMemory) parts is same made = tt
@@ -224,17 +224,17 @@ none_to_join old new of combine bodies (Ok number) none added =
       grows = made.grows;
       within = made.within;
       shows = λ cells taken.
-        ap (λ shapes. form_at cells taken shapes number) added.1
-        ∙ ap (λ n. form_at cells taken (old ++ shape.NotAllowed ∷ []) n) added.0
-        ∙ shows_last cells taken old shape.NotAllowed;
+          ap (λ shapes. form_at cells taken shapes number) added.1
+          ∙ ap (λ n. form_at cells taken (old ++ shape.NotAllowed ∷ []) n) added.0
+          ∙ shows_last cells taken old shape.NotAllowed;
       kept = λ cells elements are. record {
-          each_is = λ n t h.
+        each_is = λ n t h.
             let Q : List Shape → Type 0 = λ shapes. slice_get shapes n ≡ Some t in
             elim (before_or_last old shape.NotAllowed n t (subst Q added.1 h)) [
-              inl there ↦ are.each_is n t there
-            | inr e ↦ let R : Shape → Type 0 = IsOfSchema cells elements in subst R (sym e.1) tt
-            ]
-        };
+              | inl there ↦ are.each_is n t there
+              | inr e ↦ let R : Shape → Type 0 = IsOfSchema cells elements in subst R (sym e.1) tt
+            ];
+      };
     })
 none_to_join old new of combine bodies (Err fault.NoMemory) none added = tt
 none_to_join old new of combine bodies (Err fault.Failed) none added = added
@@ -264,7 +264,7 @@ next_joined old mid new of now_of by first others index next number further stay
     let P : List ℕ → Type 0 = λ done. AreAllJoined old new now_of by first done further in
     let Q : List ℕ → Type 0 = λ o. IsKnown old o (slice_index others index) in
     subst P (sym (take_more others index 0 within))
-      (one_more_joined old mid new now_of by first (take index others) (slice_index others index) next number further so_far (subst Q (sym stays) (item_known old of others index within known)) is shown)
+    (one_more_joined old mid new now_of by first (take index others) (slice_index others index) next number further so_far (subst Q (sym stays) (item_known old of others index within known)) is shown)
 
 -- ---- nodes and joins by their numbers
 
@@ -303,14 +303,14 @@ module _ (nodes : List Node) (found : Resolved) (i : ℕ) (old new : List Shape)
         grows = made.grows;
         within = made.within;
         node_is = λ c taken at.
-          let P : ℕ → Type 0 = λ count. form_at cells taken new number ≡ cell_form (form_in cells taken old of) count (link_at found i) (taken i) c in
-          let Q : ℕ → Type 0 = λ k. form_at cells taken new number ≡ cell_form (form_in cells taken old of) (length nodes) k (taken i) c in
-          let R : Cell → Type 0 = λ d. form_at cells taken new number ≡ cell_form (form_in cells taken old of) (length nodes) link (taken i) d in
-          subst P (sym all) (subst Q same (subst R (same_Some _ _ (sym there ∙ at)) (made.shows cells taken there)));
+            let P : ℕ → Type 0 = λ count. form_at cells taken new number ≡ cell_form (form_in cells taken old of) count (link_at found i) (taken i) c in
+            let Q : ℕ → Type 0 = λ k. form_at cells taken new number ≡ cell_form (form_in cells taken old of) (length nodes) k (taken i) c in
+            let R : Cell → Type 0 = λ d. form_at cells taken new number ≡ cell_form (form_in cells taken old of) (length nodes) link (taken i) d in
+            subst P (sym all) (subst Q same (subst R (same_Some _ _ (sym there ∙ at)) (made.shows cells taken there)));
         join_is = λ k join taken place joins. absurd (omega arith);
         kept = λ others elements alike below are.
-          let P : ℕ → Type 0 = λ k. IsNumberedBelow elements k (cell_of n) in
-          made.kept others elements (alike (cell_of n) there) (subst P (sym same) (below (cell_of n) there)) are;
+            let P : ℕ → Type 0 = λ k. IsNumberedBelow elements k (cell_of n) in
+            made.kept others elements (alike (cell_of n) there) (subst P (sym same) (below (cell_of n) there)) are;
       }
   node_made link n (Err fault.NoMemory) within links is linked made = tt
   node_made link n (Err fault.Failed) within links is linked made = made
@@ -329,10 +329,10 @@ module _ (nodes : List Node) (found : Resolved) (i : ℕ) (old new : List Shape)
         within = made.within;
         node_is = λ c taken at. let inside = slice_get_within cells i c at in absurd (omega arith);
         join_is = λ k other taken place there.
-          let P : Join → Type 0 = λ j. form_at cells taken new number ≡ join_form (form_in cells taken old of) j in
-          let number_is : i - length nodes ≡ k = omega arith in
-          let Q : ℕ → Type 0 = λ m. join ≡ get_or found.joins.items m join in
-          subst P (subst Q number_is is ∙ get_or_from_slice_get found.joins.items k other join there) (made.shows cells taken);
+            let P : Join → Type 0 = λ j. form_at cells taken new number ≡ join_form (form_in cells taken old of) j in
+            let number_is : i - length nodes ≡ k = omega arith in
+            let Q : ℕ → Type 0 = λ m. join ≡ get_or found.joins.items m join in
+            subst P (subst Q number_is is ∙ get_or_from_slice_get found.joins.items k other join there) (made.shows cells taken);
         kept = λ others elements alike below are. made.kept others elements are;
       }
   join_made join (Err fault.NoMemory) behind within is made = tt
@@ -380,11 +380,11 @@ pub before_next : (order : List ℕ) (end i here : ℕ) → slice_get order end 
 before_next order end i here is h =
     let before = h.before in
     elim (cases_lt h.place end) [
-      inl less ↦ inl (record { place = h.place; before = less; there = h.there })
-    | inr more ↦
-      let place : h.place ≡ end = omega arith in
-      let P : ℕ → Type 0 = λ k. slice_get order k ≡ Some i in
-      inr (same_Some i here (sym (subst P place h.there) ∙ is))
+      | inl less ↦ inl (record { place = h.place; before = less; there = h.there })
+      | inr more ↦
+          let place : h.place ≡ end = omega arith in
+          let P : ℕ → Type 0 = λ k. slice_get order k ≡ Some i in
+          inr (same_Some i here (sym (subst P place h.there) ∙ is))
     ]
 
 -- and in front of a later place
@@ -411,17 +411,17 @@ module _ (cells : List Cell) (found : Resolved) (order : List ℕ) (ordered : Is
 
   pub none_formed : (forms : Forms) → length forms.of.items ≡ length cells + length found.joins.items → forms.shapes ≡ [] → AreFormed cells found order 0 forms
   none_formed forms all none = record {
-      all = all;
-      known = λ i h. absurd (none_before order i h);
-      node_is = λ i c taken h at. absurd (none_before order i h);
-      join_is = λ number join taken h there. absurd (none_before order _ h);
-      of_schema = λ others alike. record {
-          each_is = λ n s h.
-            let P : List Shape → Type 0 = λ shapes. slice_get shapes n ≡ Some s in
-            let never : ⊥ = let nothing : slice_get [] n ≡ Some s = subst P none h in cc in
-            absurd never
-        };
-    }
+    all = all;
+    known = λ i h. absurd (none_before order i h);
+    node_is = λ i c taken h at. absurd (none_before order i h);
+    join_is = λ number join taken h there. absurd (none_before order _ h);
+    of_schema = λ others alike. record {
+      each_is = λ n s h.
+          let P : List Shape → Type 0 = λ shapes. slice_get shapes n ≡ Some s in
+          let never : ⊥ = let nothing : slice_get [] n ≡ Some s = subst P none h in cc in
+          absurd never;
+    };
+  }
 
   module _ (end here : ℕ) (place : slice_get order end ≡ Some here) (old new : Forms) (formed : AreFormed cells found order end old) (placed : IsPlaced cells found here old new) where
     here_within : here < length old.of.items
@@ -433,9 +433,9 @@ module _ (cells : List Cell) (found : Resolved) (order : List ℕ) (ordered : Is
         let before = h.before in
         let P : List ℕ → Type 0 = λ of. slice_index of i ≡ slice_index old.of.items i in
         subst P (sym placed.set) (get_or-set_other old.of.items here i placed.number 0 (λ same.
-          let Q : ℕ → Type 0 = λ k. slice_get order end ≡ Some k in
-          let one : h.place ≡ end = ordered.once h.place end i h.there (subst Q (sym same) place) in
-          omega arith))
+        let Q : ℕ → Type 0 = λ k. slice_get order end ≡ Some k in
+        let one : h.place ≡ end = ordered.once h.place end i h.there (subst Q (sym same) place) in
+        omega arith))
 
     of_here : slice_index new.of.items here ≡ placed.number
     of_here =
@@ -453,9 +453,9 @@ module _ (cells : List Cell) (found : Resolved) (order : List ℕ) (ordered : Is
     -- one more node or join has its form
     pub one_more_formed : AreFormed cells found order (end + 1) new
     one_more_formed = record {
-        all = let all = formed.all in let same = ap length placed.set in let kept = length-set old.of.items here placed.number in omega arith;
-        known = λ i h. elim (before_next order end i here place h) [
-            inl before ↦
+      all = let all = formed.all in let same = ap length placed.set in let kept = length-set old.of.items here placed.number in omega arith;
+      known = λ i h. elim (before_next order end i here place h) [
+        | inl before ↦
             let known = formed.known i before in
             let within = known.within in
             let there = known.there in
@@ -465,7 +465,7 @@ module _ (cells : List Cell) (found : Resolved) (order : List ℕ) (ordered : Is
             let longer = ap length placed.made.grows in
             let sum = length-append old.shapes placed.made.more in
             record { within = omega arith; there = omega arith }
-          | inr is ↦
+        | inr is ↦
             let inside = here_within in
             let same = ap length placed.set in
             let kept = length-set old.of.items here placed.number in
@@ -473,55 +473,55 @@ module _ (cells : List Cell) (found : Resolved) (order : List ℕ) (ordered : Is
             let there = placed.made.within in
             let P : ℕ → Type 0 = IsKnown new.shapes new.of.items in
             subst P (sym is) (record { within = omega arith; there = omega arith })
-          ];
-        node_is = λ i c taken h at. elim (before_next order end i here place h) [
-            inl before ↦
+      ];
+      node_is = λ i c taken h at. elim (before_next order end i here place h) [
+        | inl before ↦
             form_before taken i before
             ∙ formed.node_is i c taken before at
             ∙ same_cell_form (form_of cells taken old) (form_of cells taken new) (length cells) (link_at found i) (taken i) c (λ j within.
-                sym (form_before taken j (leads_before end i (cell_leads (length cells) (link_at found i) c) (cell_leads_are cells found i c at) before j within)))
-          | inr is ↦
+            sym (form_before taken j (leads_before end i (cell_leads (length cells) (link_at found i) c) (cell_leads_are cells found i c at) before j within)))
+        | inr is ↦
             let P : ℕ → Type 0 = λ k. IsCell cells k c in
             let Q : ℕ → Type 0 = λ k. form_of cells taken new k ≡ cell_form (form_of cells taken new) (length cells) (link_at found k) (taken k) c in
             let also : IsCell cells here c = subst P is at in
             let R : List ℕ → ℕ → Type 0 = λ all j. Contains all j in
             subst Q (sym is) (
-              ap (λ n. form_at cells taken new.shapes n) of_here
-              ∙ placed.made.node_is c taken also
-              ∙ same_cell_form (form_of cells taken old) (form_of cells taken new) (length cells) (link_at found here) (taken here) c (λ j within.
-                  sym (form_before taken j (ordered.behind end here j place (let S : List ℕ → Type 0 = λ all. Contains all j in subst S (sym (cell_leads_are cells found here c also)) within)))))
-          ];
-        join_is = λ number join taken h there. elim (before_next order end (length cells + number) here place h) [
-            inl before ↦
+            ap (λ n. form_at cells taken new.shapes n) of_here
+            ∙ placed.made.node_is c taken also
+            ∙ same_cell_form (form_of cells taken old) (form_of cells taken new) (length cells) (link_at found here) (taken here) c (λ j within.
+            sym (form_before taken j (ordered.behind end here j place (let S : List ℕ → Type 0 = λ all. Contains all j in subst S (sym (cell_leads_are cells found here c also)) within)))))
+      ];
+      join_is = λ number join taken h there. elim (before_next order end (length cells + number) here place h) [
+        | inl before ↦
             form_before taken (length cells + number) before
             ∙ formed.join_is number join taken before there
             ∙ same_join_form (form_of cells taken old) (form_of cells taken new) join (λ j within.
-                sym (form_before taken j (leads_before end (length cells + number) join.bodies.items (join_leads_are cells found number join there) before j within)))
-          | inr is ↦
+            sym (form_before taken j (leads_before end (length cells + number) join.bodies.items (join_leads_are cells found number join there) before j within)))
+        | inr is ↦
             let P : ℕ → Type 0 = λ k. slice_get order end ≡ Some k in
             ap (λ k. form_of cells taken new k) is
             ∙ ap (λ n. form_at cells taken new.shapes n) of_here
             ∙ placed.made.join_is number join taken (sym is) there
             ∙ same_join_form (form_of cells taken old) (form_of cells taken new) join (λ j within.
-                sym (form_before taken j (ordered.behind end (length cells + number) j (subst P (sym is) place) (let S : List ℕ → Type 0 = λ all. Contains all j in subst S (sym (join_leads_are cells found number join there)) within))))
-          ];
-        of_schema = λ others alike.
+            sym (form_before taken j (ordered.behind end (length cells + number) j (subst P (sym is) place) (let S : List ℕ → Type 0 = λ all. Contains all j in subst S (sym (join_leads_are cells found number join there)) within))))
+      ];
+      of_schema = λ others alike.
           placed.made.kept others (length found.elements.items)
-            (λ c at. alike.alike here c (record { place = end; before = omega arith; there = place }) at)
-            (λ c at. numbered_below c at)
-            (formed.of_schema others (record { alike = λ i c h at. alike.alike i c (before_later order end (end + 1) i (omega arith) h) at }));
-      } where
-        numbered_below : (c : Cell) → IsCell cells here c → IsNumberedBelow (length found.elements.items) (link_at found here) c
-        numbered_below (cell.element class part) at = ordered.numbered end here class part place at
-        numbered_below (cell.attribute class part) at = tt
-        numbered_below (cell.listed part) at = tt
-        numbered_below (cell.ref name) at = tt
-        numbered_below (cell.parent_ref name) at = tt
-        numbered_below cell.empty at = tt
-        numbered_below cell.any_text at = tt
-        numbered_below cell.not_allowed at = tt
-        numbered_below (cell.value type text) at = tt
-        numbered_below (cell.typed type params part) at = tt
-        numbered_below (cell.grammar clauses) at = tt
-        numbered_below (cell.one_or_more part) at = tt
-        numbered_below (cell.joined by first second) at = tt
+          (λ c at. alike.alike here c (record { place = end; before = omega arith; there = place }) at)
+          (λ c at. numbered_below c at)
+          (formed.of_schema others (record { alike = λ i c h at. alike.alike i c (before_later order end (end + 1) i (omega arith) h) at }));
+    } where
+      numbered_below : (c : Cell) → IsCell cells here c → IsNumberedBelow (length found.elements.items) (link_at found here) c
+      numbered_below (cell.element class part) at = ordered.numbered end here class part place at
+      numbered_below (cell.attribute class part) at = tt
+      numbered_below (cell.listed part) at = tt
+      numbered_below (cell.ref name) at = tt
+      numbered_below (cell.parent_ref name) at = tt
+      numbered_below cell.empty at = tt
+      numbered_below cell.any_text at = tt
+      numbered_below cell.not_allowed at = tt
+      numbered_below (cell.value type text) at = tt
+      numbered_below (cell.typed type params part) at = tt
+      numbered_below (cell.grammar clauses) at = tt
+      numbered_below (cell.one_or_more part) at = tt
+      numbered_below (cell.joined by first second) at = tt

@@ -43,17 +43,17 @@ module _ (cells : List Cell) (forms : Forms) (root : ℕ) (elements : List ℕ) 
       record {
         count_is = total;
         within = record {
-            few = omega arith;
-            shallow = counted.within.shallow;
-            each_shallow = λ place i h.
+          few = omega arith;
+          shallow = counted.within.shallow;
+          each_shallow = λ place i h.
               let P : List ℕ → Type 0 = λ some. slice_get some place ≡ Some i in
               elim (before_or_last (take index elements) here place i (subst P (take_more elements index 0 less) h)) [
-                inl there ↦ counted.within.each_shallow place i there
-              | inr last ↦
-                let Q : ℕ → Type 0 = λ k. depth (form_of cells taken forms (content_of cells k)) ≤ depth_limit in
-                subst Q (sym last.1) now.shallow
+                | inl there ↦ counted.within.each_shallow place i there
+                | inr last ↦
+                    let Q : ℕ → Type 0 = λ k. depth (form_of cells taken forms (content_of cells k)) ≤ depth_limit in
+                    subst Q (sym last.1) now.shallow
               ];
-          };
+        };
       }
 
   -- an element that is too large
@@ -63,8 +63,8 @@ module _ (cells : List Cell) (forms : Forms) (root : ℕ) (elements : List ℕ) 
       let before_is = (counted taken).count_is in
       let P : ℕ → Type 0 = λ n. (node_limit < before + nodes (form_of cells taken forms n)) ⊎ (depth_limit < depth (form_of cells taken forms n)) in
       elim (subst P is (beyond cells taken)) [
-        inl many ↦ inl (omega arith)
-      | inr deep ↦ inr (inr (index, here, here_there, deep))
+        | inl many ↦ inl (omega arith)
+        | inr deep ↦ inr (inr (index, here, here_there, deep))
       ]
   one_too_large before node (fault.Unreadable why) is counted beyond = absurd beyond
   one_too_large before node why is counted beyond = absurd beyond

@@ -124,8 +124,8 @@ module _ (cells : List Cell) (taken : ℕ → List Value) where
       ∙ ap (λ k. form_at cells taken (cut.front ++ s ∷ []) k) (sym place)
       ∙ shows_last cut.front s
       ∙ by_parts cells taken (form_at cells taken cut.front) (form_at cells taken shapes) s (λ part h.
-          let below = behind.below part h in
-          sym (ap (λ all. form_at cells taken all part) cut.is ∙ shows_still cut.front (s ∷ cut.back) part (omega arith)))
+      let below = behind.below part h in
+      sym (ap (λ all. form_at cells taken all part) cut.is ∙ shows_still cut.front (s ∷ cut.back) part (omega arith)))
 
 -- ---- what a form counts for
 
@@ -149,11 +149,11 @@ head_of_shape cells taken at (shape.Joined by first second) = head_of_joined by 
 -- the form of a shape counts for what the shape does
 pub has_head : (shapes : List Shape) (n : ℕ) (s : Shape) (h : Head) → slice_get shapes n ≡ Some s → IsBehindParts n s → h ≡ head_by s → IsHeadAt shapes n h
 has_head shapes n s h there behind is = record {
-    counts = λ cells taken.
+  counts = λ cells taken.
       ap head_of (shows_by_parts cells taken shapes n s there behind)
       ∙ head_of_shape cells taken (form_at cells taken shapes) s
-      ∙ sym is
-  }
+      ∙ sym is;
+}
 
 -- ---- forms by what their parts count for
 
@@ -250,27 +250,27 @@ both_at by p q h k other is also = both_law by p q other ∙ ap (λ j. both_by b
 -- one of the shapes shows the form already
 pub shown_already : (old : List Shape) (own : Shape) (made : List Cell → (ℕ → Form) → Form) (n : ℕ) → n < length old → ((cells : List Cell) (taken : ℕ → List Value) → made cells (form_at cells taken old) ≡ form_at cells taken old n) → IsShown old old own made n
 shown_already old own made n within is = record {
-    more = [];
-    grows = sym (append-nil old);
-    within = within;
-    shows = λ cells taken. sym (is cells taken);
-    kept = λ cells count own_is old_are. old_are;
-  }
+  more = [];
+  grows = sym (append-nil old);
+  within = within;
+  shows = λ cells taken. sym (is cells taken);
+  kept = λ cells count own_is old_are. old_are;
+}
 
 -- a shape that is put behind them shows it
 pub shown_anew : (old : List Shape) (s own : Shape) (made : List Cell → (ℕ → Form) → Form) → ((cells : List Cell) (taken : ℕ → List Value) → made cells (form_at cells taken old) ≡ form_by cells taken (form_at cells taken old) s) → ((cells : List Cell) (count : ℕ) → IsOfSchema cells count own → IsOfSchema cells count s) → IsShown old (old ++ s ∷ []) own made (length old)
 shown_anew old s own made is own_is = record {
-    more = s ∷ [];
-    grows = refl;
-    within = let longer = length-append old (s ∷ []) in omega arith;
-    shows = λ cells taken. shows_last cells taken old s ∙ sym (is cells taken);
-    kept = λ cells count of_own old_are. record {
-        each_is = λ n t h. elim (before_or_last old s n t h) [
-            inl there ↦ old_are.each_is n t there
-          | inr e ↦ let P : Shape → Type 0 = IsOfSchema cells count in subst P (sym e.1) (own_is cells count of_own)
-          ]
-      };
-  }
+  more = s ∷ [];
+  grows = refl;
+  within = let longer = length-append old (s ∷ []) in omega arith;
+  shows = λ cells taken. shows_last cells taken old s ∙ sym (is cells taken);
+  kept = λ cells count of_own old_are. record {
+    each_is = λ n t h. elim (before_or_last old s n t h) [
+      | inl there ↦ old_are.each_is n t there
+      | inr e ↦ let P : Shape → Type 0 = IsOfSchema cells count in subst P (sym e.1) (own_is cells count of_own)
+    ];
+  };
+}
 
 -- a call that puts it there, answers it
 pub adds_shown : (old new : List Shape) (s own : Shape) (made : List Cell → (ℕ → Form) → Form) (result : Result ℕ SchemaFault) → ((cells : List Cell) (taken : ℕ → List Value) → made cells (form_at cells taken old) ≡ form_by cells taken (form_at cells taken old) s) → ((cells : List Cell) (count : ℕ) → IsOfSchema cells count own → IsOfSchema cells count s) → Adds old new s result → Shows old new own made result
@@ -340,10 +340,10 @@ values_join (Some first) (Some second) =
 
 around_sized : (p q : Form) (size : Size) → HasSize p size → nodes q ≡ 1 + nodes p → depth q ≡ 1 + depth p → values_of q ≡ None → HasSize q (size_around size)
 around_sized p q size sized nodes_are depth_is none = record {
-    nodes_are = stops_further (2 ^ 64 - 1) size.nodes (nodes p) sized.nodes_are ∙ ap stopped (sym nodes_are);
-    depth_is = stops_further (2 ^ 64 - 1) size.depth (depth p) sized.depth_is ∙ ap stopped (sym depth_is);
-    values_are = ap counted (sym none);
-  }
+  nodes_are = stops_further (2 ^ 64 - 1) size.nodes (nodes p) sized.nodes_are ∙ ap stopped (sym nodes_are);
+  depth_is = stops_further (2 ^ 64 - 1) size.depth (depth p) sized.depth_is ∙ ap stopped (sym depth_is);
+  values_are = ap counted (sym none);
+}
 
 values_joined : (by : Sign) (p q : Form) → values_beside by (counted (values_of p)) (counted (values_of q)) ≡ counted (values_of (joined_form by p q))
 values_joined sign.Choice p q = values_join (values_of p) (values_of q)
@@ -362,13 +362,13 @@ depth_joined sign.Interleave p q = refl
 
 beside_sized : (by : Sign) (p q : Form) (one other : Size) → HasSize p one → HasSize q other → HasSize (joined_form by p q) (size_beside by one other)
 beside_sized by p q one other first second = record {
-    nodes_are = stops_together (2 ^ 64 - 1) one.nodes other.nodes (nodes p) (nodes q) first.nodes_are second.nodes_are ∙ ap stopped (sym (nodes_joined by p q));
-    depth_is = stops_at_greater (2 ^ 64 - 1) one.depth other.depth (depth p) (depth q) first.depth_is second.depth_is ∙ ap stopped (sym (depth_joined by p q));
-    values_are =
+  nodes_are = stops_together (2 ^ 64 - 1) one.nodes other.nodes (nodes p) (nodes q) first.nodes_are second.nodes_are ∙ ap stopped (sym (nodes_joined by p q));
+  depth_is = stops_at_greater (2 ^ 64 - 1) one.depth other.depth (depth p) (depth q) first.depth_is second.depth_is ∙ ap stopped (sym (depth_joined by p q));
+  values_are =
       ap (λ v. values_beside by v other.values) first.values_are
       ∙ ap (λ v. values_beside by (counted (values_of p)) v) second.values_are
       ∙ values_joined by p q;
-  }
+}
 
 module _ (shapes : List Shape) where
   -- a form without parts
@@ -406,19 +406,19 @@ length_shapes entries = length-map entries (λ (entry : Entry). entry.shape)
 
 pub none_sized : AreSized []
 none_sized = record {
-    behind = λ n entry h. let never : ⊥ = cc in absurd never;
-    sized = λ n entry h. let never : ⊥ = cc in absurd never;
-  }
+  behind = λ n entry h. let never : ⊥ = cc in absurd never;
+  sized = λ n entry h. let never : ⊥ = cc in absurd never;
+}
 
 size_still : (shapes more : List Shape) (n : ℕ) (size : Size) → n < length shapes → IsSizeAt shapes n size → IsSizeAt (shapes ++ more) n size
 size_still shapes more n size within sized = record {
-    sized = λ cells taken. let P : Form → Type 0 = λ q. HasSize q size in subst P (sym (shows_still cells taken shapes more n within)) (sized.sized cells taken)
-  }
+  sized = λ cells taken. let P : Form → Type 0 = λ q. HasSize q size in subst P (sym (shows_still cells taken shapes more n within)) (sized.sized cells taken);
+}
 
 size_last : (shapes : List Shape) (s : Shape) (size : Size) → IsSizeOf shapes s size → IsSizeAt (shapes ++ s ∷ []) (length shapes) size
 size_last shapes s size sized = record {
-    sized = λ cells taken. let P : Form → Type 0 = λ q. HasSize q size in subst P (sym (shows_last cells taken shapes s)) (sized.sized cells taken)
-  }
+  sized = λ cells taken. let P : Form → Type 0 = λ q. HasSize q size in subst P (sym (shows_last cells taken shapes s)) (sized.sized cells taken);
+}
 
 -- a further shape with its size
 pub one_more_sized : (entries : List Entry) (entry : Entry) → AreSized entries → IsBehindParts (length (shapes_of entries)) entry.shape → IsSizeOf (shapes_of entries) entry.shape entry.size → AreSized (entries ++ entry ∷ [])
@@ -426,23 +426,23 @@ one_more_sized entries entry are behind sized =
     let all = length_shapes entries in
     record {
       behind = λ n e h. elim (before_or_last entries entry n e h) [
-          inl there ↦ are.behind n e there
+        | inl there ↦ are.behind n e there
         | inr last ↦
-          let P : ℕ → Type 0 = λ k. IsBehindParts k e.shape in
-          let Q : Entry → Type 0 = λ d. IsBehindParts (length (shapes_of entries)) d.shape in
-          subst P (all ∙ sym last.0) (subst Q (sym last.1) behind)
-        ];
+            let P : ℕ → Type 0 = λ k. IsBehindParts k e.shape in
+            let Q : Entry → Type 0 = λ d. IsBehindParts (length (shapes_of entries)) d.shape in
+            subst P (all ∙ sym last.0) (subst Q (sym last.1) behind)
+      ];
       sized = λ n e h. elim (before_or_last entries entry n e h) [
-          inl there ↦
-          let within = slice_get_within entries n e there in
-          let P : List Shape → Type 0 = λ shapes. IsSizeAt shapes n e.size in
-          subst P (sym (shapes_of_more entries entry)) (size_still (shapes_of entries) (entry.shape ∷ []) n e.size (omega arith) (are.sized n e there))
+        | inl there ↦
+            let within = slice_get_within entries n e there in
+            let P : List Shape → Type 0 = λ shapes. IsSizeAt shapes n e.size in
+            subst P (sym (shapes_of_more entries entry)) (size_still (shapes_of entries) (entry.shape ∷ []) n e.size (omega arith) (are.sized n e there))
         | inr last ↦
-          let P : List Shape → Type 0 = λ shapes. IsSizeAt shapes n e.size in
-          let Q : ℕ → Type 0 = λ k. IsSizeAt (shapes_of entries ++ entry.shape ∷ []) k e.size in
-          let R : Entry → Type 0 = λ d. IsSizeAt (shapes_of entries ++ entry.shape ∷ []) (length (shapes_of entries)) d.size in
-          subst P (sym (shapes_of_more entries entry)) (subst Q (all ∙ sym last.0) (subst R (sym last.1) (size_last (shapes_of entries) entry.shape entry.size sized)))
-        ]
+            let P : List Shape → Type 0 = λ shapes. IsSizeAt shapes n e.size in
+            let Q : ℕ → Type 0 = λ k. IsSizeAt (shapes_of entries ++ entry.shape ∷ []) k e.size in
+            let R : Entry → Type 0 = λ d. IsSizeAt (shapes_of entries ++ entry.shape ∷ []) (length (shapes_of entries)) d.size in
+            subst P (sym (shapes_of_more entries entry)) (subst Q (all ∙ sym last.0) (subst R (sym last.1) (size_last (shapes_of entries) entry.shape entry.size sized)))
+      ];
     }
 
 -- the shape and the size of a number

@@ -81,25 +81,25 @@ module _ (cells : List Cell) (root : ℕ) (found : Resolved) (resolved : IsResol
       let somewhere = (resolved.standing i).1 stands in
       let all = resolved.all_scopes in
       elim (cases_lt i (length cells)) [
-        inl less ↦ less
-      | inr more ↦ absurd (somewhere (get_or_past found.scopes.items i Nowhere (omega arith)))
+        | inl less ↦ less
+        | inr more ↦ absurd (somewhere (get_or_past found.scopes.items i Nowhere (omega arith)))
       ]
 
   -- an order of what is resolved
   pub in_order : (order : List ℕ) → IsOrdered cells root found order → IsInOrder cells found order
   in_order order ordered = record {
-      within = λ place i there. elim (ordered.nothing_else i (in_place order place i there)) [
-          inl stands ↦ let inside = standing_within i stands in omega arith
-        | inr join ↦ let inside = join.1 in let is = join.2 in omega arith
-        ];
-      all_links = resolved.all_links;
-      numbered = λ place i class part there at. elim (ordered.nothing_else i (in_place order place i there)) [
-          inl stands ↦ slice_get_within found.elements.items (link_at found i) i (resolved.numbered i class part stands at)
-        | inr join ↦ let inside = slice_get_within cells i _ at in let is = join.2 in absurd (omega arith)
-        ];
-      once = λ place other i there again. distinct_places order place other i ordered.distinct there again;
-      behind = λ place i j there within. taken_before order place j (ordered.behind place i j there within);
-    }
+    within = λ place i there. elim (ordered.nothing_else i (in_place order place i there)) [
+      | inl stands ↦ let inside = standing_within i stands in omega arith
+      | inr join ↦ let inside = join.1 in let is = join.2 in omega arith
+    ];
+    all_links = resolved.all_links;
+    numbered = λ place i class part there at. elim (ordered.nothing_else i (in_place order place i there)) [
+      | inl stands ↦ slice_get_within found.elements.items (link_at found i) i (resolved.numbered i class part stands at)
+      | inr join ↦ let inside = slice_get_within cells i _ at in let is = join.2 in absurd (omega arith)
+    ];
+    once = λ place other i there again. distinct_places order place other i ordered.distinct there again;
+    behind = λ place i j there within. taken_before order place j (ordered.behind place i j there within);
+  }
 
 -- ---- definitions of one name
 
@@ -108,8 +108,8 @@ defining_all cells number name none_denoted = none_denoted
 defining_all cells number name (next_denoted {clause = clause} {more = more} {p = p} {rest = rest} body others) =
     let rec = defining_all cells number name others in
     bool_cases (same_defined name clause.name) (λ b. DenoteAll cells number (cond b (clause ∷ clauses_of name more) (clauses_of name more)) (if b then clause_then clause.name clause.combine p (defining name rest) else defining name rest))
-      (next_denoted body rec)
-      rec
+    (next_denoted body rec)
+    rec
   where
     bool_cases : (b : Bool) (P : Bool → Type 0) → P true → P false → P b
     bool_cases true P yes_it no_it = yes_it
@@ -123,8 +123,8 @@ combines_all cells number (next_denoted {clause = clause} body others) = ap (λ 
 in_filter_by : (b : Bool) (clause : Clause) (named more : List Clause) (j : ℕ) → (Contains (bodies_of named) j → Contains (bodies_of more) j) → Contains (bodies_of (cond b (clause ∷ named) named)) j → Contains (clause.body ∷ bodies_of more) j
 in_filter_by true clause named more j further h =
     elim (in_cases clause.body (bodies_of named) j h) [
-      inl e ↦ let P : ℕ → Type 0 = λ k. Contains (clause.body ∷ bodies_of more) k in subst P e (in_first clause.body (bodies_of more))
-    | inr rest ↦ in_more clause.body (bodies_of more) j (further rest)
+      | inl e ↦ let P : ℕ → Type 0 = λ k. Contains (clause.body ∷ bodies_of more) k in subst P e (in_first clause.body (bodies_of more))
+      | inr rest ↦ in_more clause.body (bodies_of more) j (further rest)
     ]
 in_filter_by false clause named more j further h = in_more clause.body (bodies_of more) j (further h)
 
@@ -246,35 +246,35 @@ module _ (cells : List Cell) (root : ℕ) (found : Resolved) (resolved : IsResol
           so_simple scopes p _ (at i) _ is (made (cell.element class part) there) simple_element
       simple_by (cell.attribute class part) outers scopes p stands scoped there (q, denotes, is) =
           so_simple scopes p _ (at i) _ is (made (cell.attribute class part) there)
-            (simple_attribute (part_simple (cell.attribute class part) part there (in_first part []) (in_first part []) outers scopes q stands scoped denotes))
+          (simple_attribute (part_simple (cell.attribute class part) part there (in_first part []) (in_first part []) outers scopes q stands scoped denotes))
       simple_by (cell.listed part) outers scopes p stands scoped there (q, denotes, is) =
           so_simple scopes p _ (at i) _ is (made (cell.listed part) there)
-            (simple_list (part_simple (cell.listed part) part there (in_first part []) (in_first part []) outers scopes q stands scoped denotes))
+          (simple_list (part_simple (cell.listed part) part there (in_first part []) (in_first part []) outers scopes q stands scoped denotes))
       simple_by (cell.ref name) outers scopes p stands scoped there is =
           so_simple scopes p _ (at i) _ is (made (cell.ref name) there)
-            (ref_simple scopes name _ (inner_join (defined.Name name) outers scopes (outer_stands stands) scoped (resolved.ref_joined outers i name stands there) (lead (cell.ref name) there _ (in_first _ []))))
+          (ref_simple scopes name _ (inner_join (defined.Name name) outers scopes (outer_stands stands) scoped (resolved.ref_joined outers i name stands there) (lead (cell.ref name) there _ (in_first _ []))))
       simple_by (cell.parent_ref name) outers scopes p stands scoped there is =
           so_simple scopes p _ (at i) _ is (made (cell.parent_ref name) there)
-            (parent_ref_simple scopes name _ (outer_join (defined.Name name) outers scopes (outer_stands stands) scoped (resolved.parent_ref_joined outers i name stands there) (lead (cell.parent_ref name) there _ (in_first _ []))))
+          (parent_ref_simple scopes name _ (outer_join (defined.Name name) outers scopes (outer_stands stands) scoped (resolved.parent_ref_joined outers i name stands there) (lead (cell.parent_ref name) there _ (in_first _ []))))
       simple_by cell.empty outers scopes p stands scoped there is = so_simple scopes p _ (at i) _ is (made cell.empty there) simple_empty
       simple_by cell.any_text outers scopes p stands scoped there is = so_simple scopes p _ (at i) _ is (made cell.any_text there) simple_text
       simple_by cell.not_allowed outers scopes p stands scoped there is = so_simple scopes p _ (at i) _ is (made cell.not_allowed there) simple_not_allowed
       simple_by (cell.value type text) outers scopes p stands scoped there is = so_simple scopes p _ (at i) _ is (made (cell.value type text) there) simple_value
       simple_by (cell.typed type params part) outers scopes p stands scoped there (q, denotes, is) =
           so_simple scopes p _ (at i) _ is (made (cell.typed type params part) there)
-            (simple_type (part_simple (cell.typed type params part) part there (in_first part []) (in_first part []) outers scopes q stands scoped denotes) (takes.each_is i type params part is_next there))
+          (simple_type (part_simple (cell.typed type params part) part there (in_first part []) (in_first part []) outers scopes q stands scoped denotes) (takes.each_is i type params part is_next there))
       simple_by (cell.grammar clauses) outers scopes p stands scoped there (scope, denotes, is) =
           so_simple scopes p _ (at i) _ is (made (cell.grammar clauses) there)
-            (simple_grammar (known.join (link_at found i) (lead (cell.grammar clauses) there _ (in_first _ [])) i defined.Start outers clauses scope scopes stands (resolved.start_joined i clauses (outers, stands) there) there denotes scoped))
+          (simple_grammar (known.join (link_at found i) (lead (cell.grammar clauses) there _ (in_first _ [])) i defined.Start outers clauses scope scopes stands (resolved.start_joined i clauses (outers, stands) there) there denotes scoped))
       simple_by (cell.one_or_more part) outers scopes p stands scoped there (q, denotes, is) =
           so_simple scopes p _ (at i) _ is (made (cell.one_or_more part) there)
-            (simple_one_or_more (part_simple (cell.one_or_more part) part there (in_first part []) (in_first part []) outers scopes q stands scoped denotes))
+          (simple_one_or_more (part_simple (cell.one_or_more part) part there (in_first part []) (in_first part []) outers scopes q stands scoped denotes))
       simple_by (cell.joined by first second) outers scopes p stands scoped there (q, r, denotes, also, is) =
           let other = in_more first (second ∷ []) second (in_first second []) in
           so_simple scopes p _ (at i) _ is (made (cell.joined by first second) there)
-            (by_simple scopes by q r _ _
-              (part_simple (cell.joined by first second) first there (in_first first (second ∷ [])) (in_first first (second ∷ [])) outers scopes q stands scoped denotes)
-              (part_simple (cell.joined by first second) second there other other outers scopes r stands scoped also))
+          (by_simple scopes by q r _ _
+          (part_simple (cell.joined by first second) first there (in_first first (second ∷ [])) (in_first first (second ∷ [])) outers scopes q stands scoped denotes)
+          (part_simple (cell.joined by first second) second there other other outers scopes r stands scoped also))
 
       node_simple : IsSimpleNode i
       node_simple outers scopes p stands scoped denotes =
@@ -288,8 +288,8 @@ module _ (cells : List Cell) (root : ℕ) (found : Resolved) (resolved : IsResol
       bodies_simple grammar outers all scope scopes stands there scoped (next_denoted {clause = clause} {more = more} body others) each =
           let here = each clause.body (in_first clause.body (bodies_of more)) in
           next_simple
-            (known.node clause.body here.0 (grammar ∷ outers) (scope ∷ scopes) _ (a_definition stands there here.1) scoped body)
-            (bodies_simple grammar outers all scope scopes stands there scoped others (λ j within. each j (in_more clause.body (bodies_of more) j within)))
+          (known.node clause.body here.0 (grammar ∷ outers) (scope ∷ scopes) _ (a_definition stands there here.1) scoped body)
+          (bodies_simple grammar outers all scope scopes stands there scoped others (λ j within. each j (in_more clause.body (bodies_of more) j within)))
 
       join_simple : IsSimpleJoin n
       join_simple grammar name outers clauses scope scopes stands joins there denotes scoped =
@@ -300,27 +300,27 @@ module _ (cells : List Cell) (root : ℕ) (found : Resolved) (resolved : IsResol
           let them : DenoteAll cells number named (defining name scope) = defining_all cells number name all in
           let leads : leads cells found (length cells + n) ≡ bodies_of named = join_leads_are cells found n joins.join joins.there ∙ joins.bodies_are in
           let each : (j : ℕ) → Contains (bodies_of named) j → IsBefore order end j × Contains (bodies_of joins.clauses) j = λ j within.
-            (let Q : List ℕ → Type 0 = λ some. Contains some j in ordered.behind end (length cells + n) j place (subst Q (sym leads) within), in_filter name joins.clauses j within) in
+          (let Q : List ℕ → Type 0 = λ some. Contains some j in ordered.behind end (length cells + n) j place (subst Q (sym leads) within), in_filter name joins.clauses j within) in
           defines_by scope scopes name (map at (bodies_of named)) (at (length cells + n))
-            (bodies_simple grammar outers joins.clauses scope scopes stands joins.is_grammar (further_scope joins.is_grammar all scoped) them each)
-            (some_forms at named joins.is_defined)
-            (all_formed.formed.join_is n joins.join taken (record { place = end; before = inside; there = place }) joins.there
-              ∙ ap (λ combine. bodies_form combine (map at joins.join.bodies.items)) joins.combine_is
-              ∙ ap (λ numbers. bodies_form (combine_of (combines_of named)) (map at numbers)) joins.bodies_are
-              ∙ ap (λ all. bodies_form (combine_of all) (map at (bodies_of named))) (sym (combines_all cells number them)))
+          (bodies_simple grammar outers joins.clauses scope scopes stands joins.is_grammar (further_scope joins.is_grammar all scoped) them each)
+          (some_forms at named joins.is_defined)
+          (all_formed.formed.join_is n joins.join taken (record { place = end; before = inside; there = place }) joins.there
+          ∙ ap (λ combine. bodies_form combine (map at joins.join.bodies.items)) joins.combine_is
+          ∙ ap (λ numbers. bodies_form (combine_of (combines_of named)) (map at numbers)) joins.bodies_are
+          ∙ ap (λ all. bodies_form (combine_of all) (map at (bodies_of named))) (sym (combines_all cells number them)))
 
     -- one more
     one_more_simple : (here : ℕ) → slice_get order end ≡ Some here → AreSimpleBefore (end + 1)
     one_more_simple here place = record {
-        node = λ i h. elim (before_next order end i here place h) [
-            inl before ↦ known.node i before
-          | inr is ↦ let P : ℕ → Type 0 = λ k. slice_get order end ≡ Some k in node_simple i (subst P (sym is) place)
-          ];
-        join = λ n h. elim (before_next order end (length cells + n) here place h) [
-            inl before ↦ known.join n before
-          | inr is ↦ let P : ℕ → Type 0 = λ k. slice_get order end ≡ Some k in join_simple n (subst P (sym is) place)
-          ];
-      }
+      node = λ i h. elim (before_next order end i here place h) [
+        | inl before ↦ known.node i before
+        | inr is ↦ let P : ℕ → Type 0 = λ k. slice_get order end ≡ Some k in node_simple i (subst P (sym is) place)
+      ];
+      join = λ n h. elim (before_next order end (length cells + n) here place h) [
+        | inl before ↦ known.join n before
+        | inr is ↦ let P : ℕ → Type 0 = λ k. slice_get order end ≡ Some k in join_simple n (subst P (sym is) place)
+      ];
+    }
 
   shorter : (end : ℕ) → AreTaken cells order (suc end) taken forms → AreTaken cells order end taken forms
   shorter end takes = record { each_is = λ i type params part h there. takes.each_is i type params part (before_later order end (suc end) i (omega arith) h) there }
@@ -328,15 +328,15 @@ module _ (cells : List Cell) (root : ℕ) (found : Resolved) (resolved : IsResol
   -- all in front of a place have simple forms, where what is taken from the types there is known
   simple_before : (end : ℕ) → end ≤ length order → AreTaken cells order end taken forms → AreSimpleBefore end
   simple_before zero within takes = record {
-      node = λ i h. absurd (none_before order i h);
-      join = λ n h. absurd (none_before order (length cells + n) h);
-    }
+    node = λ i h. absurd (none_before order i h);
+    join = λ n h. absurd (none_before order (length cells + n) h);
+  }
   simple_before (suc end) within takes =
       let less : end < length order = omega arith in
       let next : end + 1 ≡ suc end = omega arith in
       let P : ℕ → Type 0 = λ k. AreTaken cells order k taken forms in
       subst AreSimpleBefore next
-        (one_more_simple end (simple_before end (omega arith) (shorter end takes)) (subst P (sym next) takes) less (get_or order end 0) (slice_get-get_or order end 0 less))
+      (one_more_simple end (simple_before end (omega arith) (shorter end takes)) (subst P (sym next) takes) less (get_or order end 0) (slice_get-get_or order end 0 less))
 
   -- a node in front of the place has the simple form of what it stands for
   pub node_is_simple : (end i : ℕ) → end ≤ length order → AreTaken cells order end taken forms → IsBefore order end i → (outers : List ℕ) (scopes : List Clauses) (p : Composed) → Stands cells root outers i → AreScopes cells number outers scopes → Denotes cells number i p → Simple scopes p (at i)
@@ -376,30 +376,30 @@ one_more_same some others p q known also =
     record {
       same_length = omega arith;
       same = λ n. elim (cases_lt n (length some)) [
-          inl less ↦
-          ap values_of (get_or_append_left some (p ∷ []) form.not_allowed n less)
-          ∙ known.same n
-          ∙ sym (ap values_of (get_or_append_left others (q ∷ []) form.not_allowed n (omega arith)))
+        | inl less ↦
+            ap values_of (get_or_append_left some (p ∷ []) form.not_allowed n less)
+            ∙ known.same n
+            ∙ sym (ap values_of (get_or_append_left others (q ∷ []) form.not_allowed n (omega arith)))
         | inr more ↦ elim (cases_lt (length some) n) [
-            inl past ↦
-            ap values_of (get_or_past (some ++ p ∷ []) n form.not_allowed (omega arith))
-            ∙ sym (ap values_of (get_or_past (others ++ q ∷ []) n form.not_allowed (omega arith)))
+          | inl past ↦
+              ap values_of (get_or_past (some ++ p ∷ []) n form.not_allowed (omega arith))
+              ∙ sym (ap values_of (get_or_past (others ++ q ∷ []) n form.not_allowed (omega arith)))
           | inr least ↦
-            let here : n ≡ length some = omega arith in
-            let there : n ≡ length others = omega arith in
-            ap (λ k. values_of (among (some ++ p ∷ []) k)) here
-            ∙ ap values_of (at_seam some p [] form.not_allowed)
-            ∙ also
-            ∙ sym (ap (λ k. values_of (among (others ++ q ∷ []) k)) there ∙ ap values_of (at_seam others q [] form.not_allowed))
-          ]
-        ];
+              let here : n ≡ length some = omega arith in
+              let there : n ≡ length others = omega arith in
+              ap (λ k. values_of (among (some ++ p ∷ []) k)) here
+              ∙ ap values_of (at_seam some p [] form.not_allowed)
+              ∙ also
+              ∙ sym (ap (λ k. values_of (among (others ++ q ∷ []) k)) there ∙ ap values_of (at_seam others q [] form.not_allowed))
+        ]
+      ];
     }
 
 values_from : (cells : List Cell) (taken other : ℕ → List Value) (shapes : List Shape) (some others : List Form) → SameValues some others → SameValues (fold (λ forms s. forms ++ form_by cells taken (among forms) s ∷ []) some shapes) (fold (λ forms s. forms ++ form_by cells other (among forms) s ∷ []) others shapes)
 values_from cells taken other [] some others known = known
 values_from cells taken other (s ∷ shapes) some others known =
     values_from cells taken other shapes (some ++ form_by cells taken (among some) s ∷ []) (others ++ form_by cells other (among others) s ∷ [])
-      (one_more_same some others (form_by cells taken (among some) s) (form_by cells other (among others) s) known (values_by cells taken other (among some) (among others) s known.same))
+    (one_more_same some others (form_by cells taken (among some) s) (form_by cells other (among others) s) known (values_by cells taken other (among some) (among others) s known.same))
 
 pub same_values : (cells : List Cell) (taken other : ℕ → List Value) (shapes : List Shape) (n : ℕ) → values_of (form_at cells taken shapes n) ≡ values_of (form_at cells other shapes n)
 unfolding form_at shown

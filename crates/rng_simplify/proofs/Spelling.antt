@@ -187,8 +187,8 @@ module _ (cells : List Cell) (types : List (Option NodeType)) (shapes : List Sha
   -- a shape is built
   pub leaf_done : (n : ℕ) (tasks : List Task) (built new : List Pat) (p : Pat) → Spells cells types shapes n (pattern_of p) → new ≡ built ++ p ∷ [] → DoesTask cells types shapes (task.Spell n) tasks tasks built new
   leaf_done n tasks built new p spells grows = record {
-      fewer = spelled_is_less shapes n tasks;
-      goes_on = λ root h.
+    fewer = spelled_is_less shapes n tasks;
+    goes_on = λ root h.
         let next = next_on_way root tasks (task.Spell n) built h in
         let P : List Pattern → Type 0 = λ qs. AreSpelled cells types shapes qs (n ∷ h.numbers) in
         let Q : List Pat → Type 0 = λ bs. AreSpelled cells types shapes (reverse (map pattern_of bs)) (n ∷ h.numbers) in
@@ -197,7 +197,7 @@ module _ (cells : List Cell) (types : List (Option NodeType)) (shapes : List Sha
           runs = next.1;
           spelled = subst Q (sym grows) (subst P (sym (reverse_built built p)) (next_spelled spells h.spelled));
         };
-    }
+  }
 
   -- one part is left to be built, or two
   pub one_left : (n part : ℕ) (s : Shape) (tasks new : List Task) (built : List Pat) → IsShape shapes n s → n < length shapes → shape_parts s ≡ part ∷ [] → new ≡ tasks ++ task.Wrap n ∷ task.Spell part ∷ [] → DoesTask cells types shapes (task.Spell n) tasks new built built
@@ -208,13 +208,13 @@ module _ (cells : List Cell) (types : List (Option NodeType)) (shapes : List Sha
       subst P (sym grows) (record {
         fewer = one_left_is_less shapes n part s tasks is parts;
         goes_on = λ root h.
-          let next = next_on_way root tasks (task.Spell n) built h in
-          let R : List Task → Type 0 = λ ts. Runs shapes root ts h.numbers in
-          record {
-            numbers = h.numbers;
-            runs = subst R (sym (reverse-append tasks (task.Wrap n ∷ task.Spell part ∷ []))) (spell_then (omega arith) (wrap_one is within parts next.1));
-            spelled = h.spelled;
-          };
+            let next = next_on_way root tasks (task.Spell n) built h in
+            let R : List Task → Type 0 = λ ts. Runs shapes root ts h.numbers in
+            record {
+              numbers = h.numbers;
+              runs = subst R (sym (reverse-append tasks (task.Wrap n ∷ task.Spell part ∷ []))) (spell_then (omega arith) (wrap_one is within parts next.1));
+              spelled = h.spelled;
+            };
       })
 
   pub two_left : (n first second : ℕ) (s : Shape) (tasks new : List Task) (built : List Pat) → IsShape shapes n s → n < length shapes → shape_parts s ≡ first ∷ second ∷ [] → new ≡ tasks ++ task.Wrap n ∷ task.Spell second ∷ task.Spell first ∷ [] → DoesTask cells types shapes (task.Spell n) tasks new built built
@@ -227,13 +227,13 @@ module _ (cells : List Cell) (types : List (Option NodeType)) (shapes : List Sha
       subst P (sym grows) (record {
         fewer = two_left_is_less shapes n first second s tasks is parts;
         goes_on = λ root h.
-          let next = next_on_way root tasks (task.Spell n) built h in
-          let S : List Task → Type 0 = λ ts. Runs shapes root ts h.numbers in
-          record {
-            numbers = h.numbers;
-            runs = subst S (sym (reverse-append tasks (task.Wrap n ∷ task.Spell second ∷ task.Spell first ∷ []))) (spell_then (omega arith) (spell_then (omega arith) (wrap_two is within parts next.1)));
-            spelled = h.spelled;
-          };
+            let next = next_on_way root tasks (task.Spell n) built h in
+            let S : List Task → Type 0 = λ ts. Runs shapes root ts h.numbers in
+            record {
+              numbers = h.numbers;
+              runs = subst S (sym (reverse-append tasks (task.Wrap n ∷ task.Spell second ∷ task.Spell first ∷ []))) (spell_then (omega arith) (spell_then (omega arith) (wrap_two is within parts next.1)));
+              spelled = h.spelled;
+            };
       })
 
   one_shape : (n : ℕ) (s t : Shape) → IsShape shapes n s → IsShape shapes n t → s ≡ t
@@ -242,9 +242,9 @@ module _ (cells : List Cell) (types : List (Option NodeType)) (shapes : List Sha
   -- a shape around the part that was built last
   pub wrapped_one : (n part : ℕ) (s : Shape) (tasks : List Task) (old mid new : List Pat) (last p : Pat) → IsShape shapes n s → shape_parts s ≡ part ∷ [] → (Spells cells types shapes part (pattern_of last) → Spells cells types shapes n (pattern_of p)) → old ≡ mid ++ last ∷ [] → new ≡ mid ++ p ∷ [] → DoesTask cells types shapes (task.Wrap n) tasks tasks old new
   wrapped_one n part s tasks old mid new last p is parts spells taken grows = record {
-      fewer = wrapped_is_less shapes n tasks;
-      goes_on = λ root h. elim (next_on_way root tasks (task.Wrap n) old h) [
-          inl w ↦
+    fewer = wrapped_is_less shapes n tasks;
+    goes_on = λ root h. elim (next_on_way root tasks (task.Wrap n) old h) [
+      | inl w ↦
           let same : s ≡ w.s = one_shape n s w.s is w.is_shape in
           let parts_are : part ∷ [] ≡ w.part ∷ [] = sym parts ∙ ap shape_parts same ∙ w.parts in
           let part_is : w.part ≡ part = cc in
@@ -261,25 +261,25 @@ module _ (cells : List Cell) (types : List (Option NodeType)) (shapes : List Sha
             runs = w.then_runs;
             spelled = subst U (sym grows) (subst T (sym (reverse_built mid p)) (next_spelled whole first.more));
           }
-        | inr w ↦
+      | inr w ↦
           let same : s ≡ w.s = one_shape n s w.s is w.is_shape in
           let parts_are : part ∷ [] ≡ w.first ∷ w.second ∷ [] = sym parts ∙ ap shape_parts same ∙ w.parts in
           let counted = ap length parts_are in
           absurd (omega arith)
-        ];
-    }
+    ];
+  }
 
   -- a shape around the two parts that were built last
   pub wrapped_two : (n one other : ℕ) (s : Shape) (tasks : List Task) (old mid front new : List Pat) (first second p : Pat) → IsShape shapes n s → shape_parts s ≡ one ∷ other ∷ [] → (Spells cells types shapes one (pattern_of first) → Spells cells types shapes other (pattern_of second) → Spells cells types shapes n (pattern_of p)) → old ≡ mid ++ second ∷ [] → mid ≡ front ++ first ∷ [] → new ≡ front ++ p ∷ [] → DoesTask cells types shapes (task.Wrap n) tasks tasks old new
   wrapped_two n one other s tasks old mid front new first second p is parts spells taken also_taken grows = record {
-      fewer = wrapped_is_less shapes n tasks;
-      goes_on = λ root h. elim (next_on_way root tasks (task.Wrap n) old h) [
-          inl w ↦
+    fewer = wrapped_is_less shapes n tasks;
+    goes_on = λ root h. elim (next_on_way root tasks (task.Wrap n) old h) [
+      | inl w ↦
           let same : s ≡ w.s = one_shape n s w.s is w.is_shape in
           let parts_are : one ∷ other ∷ [] ≡ w.part ∷ [] = sym parts ∙ ap shape_parts same ∙ w.parts in
           let counted = ap length parts_are in
           absurd (omega arith)
-        | inr w ↦
+      | inr w ↦
           let same : s ≡ w.s = one_shape n s w.s is w.is_shape in
           let parts_are : one ∷ other ∷ [] ≡ w.first ∷ w.second ∷ [] = sym parts ∙ ap shape_parts same ∙ w.parts in
           let first_is : w.first ≡ one = cc in
@@ -301,8 +301,8 @@ module _ (cells : List Cell) (types : List (Option NodeType)) (shapes : List Sha
             runs = w.then_runs;
             spelled = subst U (sym grows) (subst T (sym (reverse_built front p)) (next_spelled whole before.more));
           }
-        ];
-    }
+    ];
+  }
 
   -- ---- what is there to be wrapped
 
@@ -325,14 +325,14 @@ module _ (cells : List Cell) (types : List (Option NodeType)) (shapes : List Sha
   is_wrapped n built (root, tasks, h) =
       let all = all_built root (tasks ++ task.Wrap n ∷ []) built h in
       elim (next_on_way root tasks (task.Wrap n) built h) [
-        inl w ↦
-        let counted = ap length w.parts in
-        let numbers = ap length w.built_is in
-        record { within = w.within; s = w.s; is_shape = w.is_shape; some = omega arith; enough = omega arith }
-      | inr w ↦
-        let counted = ap length w.parts in
-        let numbers = ap length w.built_is in
-        record { within = w.within; s = w.s; is_shape = w.is_shape; some = omega arith; enough = omega arith }
+        | inl w ↦
+            let counted = ap length w.parts in
+            let numbers = ap length w.built_is in
+            record { within = w.within; s = w.s; is_shape = w.is_shape; some = omega arith; enough = omega arith }
+        | inr w ↦
+            let counted = ap length w.parts in
+            let numbers = ap length w.built_is in
+            record { within = w.within; s = w.s; is_shape = w.is_shape; some = omega arith; enough = omega arith }
       ]
 
 -- ---- what is known of a shape
@@ -401,25 +401,25 @@ module _ (cells : List Cell) (types : List (Option NodeType)) (shapes : List Sha
   list_wrapped part there behind is =
       let P : Pattern → Type 0 = Spells cells types shapes n in
       wrapped_one cells types shapes n part (shape.List part) tasks old mid new last p (is_it shapes n (shape.List part) there behind) refl
-        (λ spells. subst P (sym is) (spells_list (is_it shapes n (shape.List part) there behind) spells)) taken grows
+      (λ spells. subst P (sym is) (spells_list (is_it shapes n (shape.List part) there behind) spells)) taken grows
 
   pub one_or_more_wrapped : (part : ℕ) → slice_get shapes n ≡ Some (shape.OneOrMore part) → IsBehindParts n (shape.OneOrMore part) → pattern_of p ≡ pattern.one_or_more (pattern_of last) → DoesTask cells types shapes (task.Wrap n) tasks tasks old new
   one_or_more_wrapped part there behind is =
       let P : Pattern → Type 0 = Spells cells types shapes n in
       wrapped_one cells types shapes n part (shape.OneOrMore part) tasks old mid new last p (is_it shapes n (shape.OneOrMore part) there behind) refl
-        (λ spells. subst P (sym is) (spells_one_or_more (is_it shapes n (shape.OneOrMore part) there behind) spells)) taken grows
+      (λ spells. subst P (sym is) (spells_one_or_more (is_it shapes n (shape.OneOrMore part) there behind) spells)) taken grows
 
   pub attribute_wrapped : (i part : ℕ) → slice_get shapes n ≡ Some (shape.Attribute i part) → IsBehindParts n (shape.Attribute i part) → IsAttribute cells i (pattern_of last) (pattern_of p) → DoesTask cells types shapes (task.Wrap n) tasks tasks old new
   attribute_wrapped i part there behind is =
       wrapped_one cells types shapes n part (shape.Attribute i part) tasks old mid new last p (is_it shapes n (shape.Attribute i part) there behind) refl
-        (λ spells. spells_attribute (is_it shapes n (shape.Attribute i part) there behind) spells is) taken grows
+      (λ spells. spells_attribute (is_it shapes n (shape.Attribute i part) there behind) spells is) taken grows
 
 pub joined_wrapped : (cells : List Cell) (types : List (Option NodeType)) (shapes : List Shape) (n : ℕ) (tasks : List Task) (old mid front new : List Pat) (first second p : Pat) (by : Sign) (one other : ℕ) → old ≡ mid ++ second ∷ [] → mid ≡ front ++ first ∷ [] → new ≡ front ++ p ∷ [] → slice_get shapes n ≡ Some (shape.Joined by one other) → IsBehindParts n (shape.Joined by one other) → pattern_of p ≡ joined_pattern by (pattern_of first) (pattern_of second) → DoesTask cells types shapes (task.Wrap n) tasks tasks old new
 joined_wrapped cells types shapes n tasks old mid front new first second p by one other taken also grows there behind is =
     let P : Pattern → Type 0 = Spells cells types shapes n in
     let is_shape = is_it shapes n (shape.Joined by one other) there behind in
     wrapped_two cells types shapes n one other (shape.Joined by one other) tasks old mid front new first second p is_shape refl
-      (λ spells others. subst P (sym is) (spells_joined by is_shape spells others)) taken also grows
+    (λ spells others. subst P (sym is) (spells_joined by is_shape spells others)) taken also grows
 
 -- ---- what is there to be taken
 
@@ -485,7 +485,7 @@ one_more_definition cells types forms elements index old new d less so_far is gr
     let Q : List Def → Type 0 = λ ds. AreDefinitions cells types forms (take index elements ++ slice_index elements index ∷ []) (map definition_of ds) in
     let R : List Definition → Type 0 = AreDefinitions cells types forms (take index elements ++ slice_index elements index ∷ []) in
     subst P (sym (take_more elements index 0 less)) (subst Q (sym grows) (subst R (sym (map-append definition_of old (d ∷ [])))
-      (definitions_behind cells types forms so_far (slice_index elements index) (definition_of d) is)))
+    (definitions_behind cells types forms so_far (slice_index elements index) (definition_of d) is)))
 
 -- the task that is done
 pub same_task : (cells : List Cell) (types : List (Option NodeType)) (shapes : List Shape) (t u : Task) (tasks : List Task) (built new : List Pat) (result : Result (Unit {0}) SchemaFault) → t ≡ u → Does cells types shapes u tasks tasks built new result → Does cells types shapes t tasks tasks built new result
@@ -494,6 +494,6 @@ same_task cells types shapes t u tasks built new result same done = let P : Task
 -- the start and all definitions
 pub all_built_of : (cells : List Cell) (types : List (Option NodeType)) (forms : Forms) (root : ℕ) (elements : List ℕ) (index number : ℕ) (start : Pat) (defs : List Def) → length elements ≤ index → AreDefinitions cells types forms (take index elements) (map definition_of defs) → number ≡ slice_index forms.of.items root → Spells cells types forms.shapes number (pattern_of start) → IsBuilt cells types forms root elements (record { start = start; defs = defs })
 all_built_of cells types forms root elements index number start defs all definitions is spells = record {
-    start_is = let P : ℕ → Type 0 = λ n. Spells cells types forms.shapes n (pattern_of start) in subst P is spells;
-    definitions_are = let P : List ℕ → Type 0 = λ some. AreDefinitions cells types forms some (map definition_of defs) in subst P (take_all index elements all) definitions;
-  }
+  start_is = let P : ℕ → Type 0 = λ n. Spells cells types forms.shapes n (pattern_of start) in subst P is spells;
+  definitions_are = let P : List ℕ → Type 0 = λ some. AreDefinitions cells types forms some (map definition_of defs) in subst P (take_all index elements all) definitions;
+}

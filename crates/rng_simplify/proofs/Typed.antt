@@ -72,8 +72,8 @@ module _ (cells : List Cell) (types : List (Option NodeType)) (shapes : List Sha
       let same : known.node_type ≡ literal.node_type = same_Some _ _ (sym known.there ∙ literal.known) in
       let also : q ≡ pattern.literal known.node_type.datatype literal.text = literal.is ∙ ap (λ (t : NodeType). pattern.literal t.datatype literal.text) (sym same) in
       so_typed _ (form.value (record { type = literal.type; text = literal.text })) q (pattern.literal known.node_type.datatype literal.text)
-        (form_is n (shape.Value i) is ∙ ap (λ o. form.value (value_in o)) literal.is_cell) also
-        (record { typed = typed_value known.named; sound = sound_value known.may_write.accepted known.may_write.of_chars })
+      (form_is n (shape.Value i) is ∙ ap (λ o. form.value (value_in o)) literal.is_cell) also
+      (record { typed = typed_value known.named; sound = sound_value known.may_write.accepted known.may_write.of_chars })
 
   type_typed : (n i : ℕ) (q : Pattern) → IsShape shapes n (shape.Typed i) → IsTyped types i q → IsTypedSound (form_at cells taken shapes n) q
   type_typed n i q is of_type =
@@ -82,14 +82,14 @@ module _ (cells : List Cell) (types : List (Option NodeType)) (shapes : List Sha
       let same : known.node_type ≡ of_type.node_type = same_Some _ _ (sym known.there ∙ of_type.known) in
       let also : q ≡ pattern.typed known.node_type.datatype known.node_type.excepts = of_type.is ∙ ap (λ (t : NodeType). pattern.typed t.datatype t.excepts) (sym same) in
       so_typed _ (form.typed cell_is.0 cell_is.1 (taken i)) q (pattern.typed known.node_type.datatype known.node_type.excepts)
-        (form_is n (shape.Typed i) is ∙ ap (λ o. form.typed (type_in o) (params_in o) (taken i)) cell_is.3) also
-        (record { typed = typed_type known.named known.takes; sound = sound_data known.few known.sound })
+      (form_is n (shape.Typed i) is ∙ ap (λ o. form.typed (type_in o) (params_in o) (taken i)) cell_is.3) also
+      (record { typed = typed_type known.named known.takes; sound = sound_data known.few known.sound })
 
   attribute_typed : (n i part : ℕ) (value q : Pattern) → IsShape shapes n (shape.Attribute i part) → IsTypedSound (form_at cells taken shapes part) value → IsAttribute cells i value q → IsTypedSound (form_at cells taken shapes n) q
   attribute_typed n i part value q is h of_class =
       so_typed _ (form.attribute of_class.class (form_at cells taken shapes part)) q (pattern.attribute of_class.class value)
-        (form_is n (shape.Attribute i part) is ∙ ap (λ o. form.attribute (class_in o) (form_at cells taken shapes part)) of_class.is_cell) of_class.is
-        (record { typed = typed_attribute h.typed; sound = sound_attribute (have.texts.each_is i (cell.attribute of_class.class of_class.part) of_class.is_cell) h.sound })
+      (form_is n (shape.Attribute i part) is ∙ ap (λ o. form.attribute (class_in o) (form_at cells taken shapes part)) of_class.is_cell) of_class.is
+      (record { typed = typed_attribute h.typed; sound = sound_attribute (have.texts.each_is i (cell.attribute of_class.class of_class.part) of_class.is_cell) h.sound })
 
   joined_typed : (by : Sign) (p r : Form) (q s : Pattern) → IsTypedSound p q → IsTypedSound r s → IsTypedSound (joined_form by p r) (joined_pattern by q s)
   joined_typed sign.Choice p r q s one other = record { typed = typed_choice one.typed other.typed; sound = sound_choice one.sound other.sound }
@@ -140,45 +140,46 @@ module _ (cells : List Cell) (types : List (Option NodeType)) (forms : Forms) (t
   definitions_sound no_definitions = tt
   definitions_sound (next_definition {i = i} {definition = d} first more) =
       let h = definition_typed i d first in
-      let P : Class → Type 0 = λ c. IsSoundClass c in
-      ( record { class_is = subst P (sym first.class_is) (have.texts.each_is i (cell.element first.class first.part) first.is_cell); content_is = h.sound }
-      , definitions_sound more )
+      let P : Class → Type 0 = λ c. IsSoundClass c in (
+        record { class_is = subst P (sym first.class_is) (have.texts.each_is i (cell.element first.class first.part) first.is_cell); content_is = h.sound },
+        definitions_sound more,
+      )
 
 -- ---- what the stages before give
 
 equal_or_not : (a b : ℕ) → (a ≡ b) ⊎ (a ≡ b → ⊥)
 equal_or_not a b = elim (cases_lt a b) [
-    inl less ↦ inr (λ e. omega arith)
+  | inl less ↦ inr (λ e. omega arith)
   | inr least ↦ elim (cases_lt b a) [
-      inl more ↦ inr (λ e. omega arith)
+    | inl more ↦ inr (λ e. omega arith)
     | inr most ↦ inl (omega arith)
-    ]
   ]
+]
 
 is_it_there : (o : Option ℕ) (i : ℕ) → (o ≡ Some i) ⊎ (o ≡ Some i → ⊥)
 is_it_there None i = inr (λ h. let never : ⊥ = cc in never)
 is_it_there (Some j) i = elim (equal_or_not j i) [
-    inl same ↦ inl (ap (λ k. Some k) same)
+  | inl same ↦ inl (ap (λ k. Some k) same)
   | inr other ↦ inr (λ h. other (same_Some j i h))
-  ]
+]
 
 -- a node stands in front of the place, or not
 before_or_not : (order : List ℕ) (end i : ℕ) → IsBefore order end i ⊎ (IsBefore order end i → ⊥)
 before_or_not order zero i = inr (none_before order i)
 before_or_not order (suc end) i =
     elim (before_or_not order end i) [
-      inl before ↦ inl (before_later order end (suc end) i (omega arith) before)
-    | inr not_before ↦ elim (is_it_there (slice_get order end) i) [
-        inl there ↦ inl (record { place = end; before = omega arith; there = there })
-      | inr other ↦ inr (λ h.
-          let less = h.before in
-          elim (cases_lt h.place end) [
-            inl earlier ↦ not_before (record { place = h.place; before = earlier; there = h.there })
-          | inr later ↦
-            let here : h.place ≡ end = omega arith in
-            let P : ℕ → Type 0 = λ k. slice_get order k ≡ Some i in
-            other (subst P here h.there)
-          ])
+      | inl before ↦ inl (before_later order end (suc end) i (omega arith) before)
+      | inr not_before ↦ elim (is_it_there (slice_get order end) i) [
+        | inl there ↦ inl (record { place = end; before = omega arith; there = there })
+        | inr other ↦ inr (λ h.
+            let less = h.before in
+            elim (cases_lt h.place end) [
+              | inl earlier ↦ not_before (record { place = h.place; before = earlier; there = h.there })
+              | inr later ↦
+                  let here : h.place ≡ end = omega arith in
+                  let P : ℕ → Type 0 = λ k. slice_get order k ≡ Some i in
+                  other (subst P here h.there)
+            ])
       ]
     ]
 
@@ -204,29 +205,29 @@ here_changed cells i c at =
 module _ (cells : List Cell) (found : Resolved) (order : List ℕ) (end : ℕ) (forms : Forms) (formed : AreFormed cells found order end forms) where
   alike_but : (i : ℕ) → (IsBefore order end i → ⊥) → AreAlike cells (cells_but cells i) order end
   alike_but i not_before = record {
-      alike = λ j c h at. others_same cells i j c (λ same. let P : ℕ → Type 0 = IsBefore order end in not_before (subst P same h)) at
-    }
+    alike = λ j c h at. others_same cells i j c (λ same. let P : ℕ → Type 0 = IsBefore order end in not_before (subst P same h)) at;
+  }
 
   -- the node of a value and of a type is one in front of the place
   pub value_before : (n i : ℕ) → slice_get forms.shapes n ≡ Some (shape.Value i) → IsBefore order end i
   value_before n i there = elim (before_or_not order end i) [
-      inl before ↦ before
+    | inl before ↦ before
     | inr not_before ↦
-      let h = (formed.of_schema (cells_but cells i) (alike_but i not_before)).each_is n (shape.Value i) there in
-      let changed : cell.value h.0 h.1 ≡ cell.not_allowed = here_changed cells i (cell.value h.0 h.1) h.2 in
-      let never : ⊥ = cc in
-      absurd never
-    ]
+        let h = (formed.of_schema (cells_but cells i) (alike_but i not_before)).each_is n (shape.Value i) there in
+        let changed : cell.value h.0 h.1 ≡ cell.not_allowed = here_changed cells i (cell.value h.0 h.1) h.2 in
+        let never : ⊥ = cc in
+        absurd never
+  ]
 
   pub type_before : (n i : ℕ) → slice_get forms.shapes n ≡ Some (shape.Typed i) → IsBefore order end i
   type_before n i there = elim (before_or_not order end i) [
-      inl before ↦ before
+    | inl before ↦ before
     | inr not_before ↦
-      let h = (formed.of_schema (cells_but cells i) (alike_but i not_before)).each_is n (shape.Typed i) there in
-      let changed : cell.typed h.0 h.1 h.2 ≡ cell.not_allowed = here_changed cells i (cell.typed h.0 h.1 h.2) h.3 in
-      let never : ⊥ = cc in
-      absurd never
-    ]
+        let h = (formed.of_schema (cells_but cells i) (alike_but i not_before)).each_is n (shape.Typed i) there in
+        let changed : cell.typed h.0 h.1 h.2 ≡ cell.not_allowed = here_changed cells i (cell.typed h.0 h.1 h.2) h.3 in
+        let never : ⊥ = cc in
+        absurd never
+  ]
 
   pub shapes_of_schema : AreOfSchema cells (length found.elements.items) forms.shapes
   shapes_of_schema = formed.of_schema cells (record { alike = λ i c h at. at })
@@ -241,21 +242,21 @@ taken_values cells forms i type params part values at has =
 -- what is taken from types in front of a place is known where they have their types
 pub are_taken : (cells : List Cell) (order : List ℕ) (end : ℕ) (forms : Forms) (types : List (Option NodeType)) → AreTypesBefore cells order end forms types → AreTaken cells order end (taken_of cells forms) forms
 are_taken cells order end forms types before = record {
-    each_is = λ i type params part h at.
+  each_is = λ i type params part h at.
       let known = before.each_is i (cell.typed type params part) h at in
       known.taken.has_values.are (taken_of cells forms)
-      ∙ ap (λ vs. Some vs) (sym (taken_values cells forms i type params part known.taken.values at known.taken.has_values))
-  }
+      ∙ ap (λ vs. Some vs) (sym (taken_values cells forms i type params part known.taken.values at known.taken.has_values));
+}
 
 module _ (cells : List Cell) (found : Resolved) (order : List ℕ) (forms : Forms) (all_formed : AreForms cells found order forms) (types : List (Option NodeType)) (before : AreTypesBefore cells order (length order) forms types) (texts : AreTexts cells) where
   -- all that patterns are built of have their types
   pub have_types : HaveTypes cells types forms.shapes (taken_of cells forms) (length found.elements.items)
   have_types = record {
-      of_schema = shapes_of_schema cells found order (length order) forms all_formed.formed;
-      texts = texts;
-      value_has = λ n i type text there at.
+    of_schema = shapes_of_schema cells found order (length order) forms all_formed.formed;
+    texts = texts;
+    value_has = λ n i type text there at.
         before.each_is i (cell.value type text) (value_before cells found order (length order) forms all_formed.formed n i there) at;
-      type_has = λ n i type params part there at.
+    type_has = λ n i type params part there at.
         let known = before.each_is i (cell.typed type params part) (type_before cells found order (length order) forms all_formed.formed n i there) at in
         let P : List Value → Type 0 = λ values. AreExcepts type known.node_type.datatype values known.node_type.excepts in
         record {
@@ -266,7 +267,7 @@ module _ (cells : List Cell) (found : Resolved) (order : List ℕ) (forms : Form
           few = known.taken.few;
           sound = known.taken.sound;
         };
-    }
+  }
 
   known_type : (n : ℕ) (s : Shape) → slice_get forms.shapes n ≡ Some s → HasKnownType types s
   known_type n shape.NotAllowed there = tt
@@ -289,12 +290,12 @@ module _ (cells : List Cell) (found : Resolved) (order : List ℕ) (forms : Form
   -- patterns can be built
   pub is_ready : length found.elements.items < 2 ^ 32 → IsReady cells types forms.shapes
   is_ready few = record {
-      count = length found.elements.items;
-      few = few;
-      of_schema = have_types.of_schema;
-      all_types = before.all;
-      each_known = known_type;
-    }
+    count = length found.elements.items;
+    few = few;
+    of_schema = have_types.of_schema;
+    all_types = before.all;
+    each_known = known_type;
+  }
 
 -- ---- few elements
 

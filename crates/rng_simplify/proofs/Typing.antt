@@ -85,14 +85,15 @@ never_too_many library name params h = never_found _ params h
 pub is_built_in : (type : TypeName) (local name text : List ℕ) (empty same : Bool) → empty ≡ (length type.library == 0) → empty ≡ true → name ≡ type.name → text ≡ local → same ≡ bytes_eq name text → (IsTrue same → type ≡ record { library = []; name = local }) × (type ≡ record { library = []; name = local } → IsTrue same)
 is_built_in type local name text empty same none is_empty name_is text_is is =
     let decides = bytes_eq-Decides name text in
-    let no_library : type.library ≡ [] = no_bytes type.library (sym none ∙ is_empty) in
-    ( (λ h. let equal : name ≡ text = decides.0 (sym is ∙ h) in made type.library type.name no_library (sym name_is ∙ equal ∙ text_is))
-    , (λ e. is ∙ decides.1 (name_is ∙ ap (λ (t : TypeName). t.name) e ∙ sym text_is))
+    let no_library : type.library ≡ [] = no_bytes type.library (sym none ∙ is_empty) in (
+      (λ h. let equal : name ≡ text = decides.0 (sym is ∙ h) in made type.library type.name no_library (sym name_is ∙ equal ∙ text_is)),
+      (λ e. is ∙ decides.1 (name_is ∙ ap (λ (t : TypeName). t.name) e ∙ sym text_is)),
     )
   where
     no_bytes : (xs : List ℕ) → (length xs == 0) ≡ true → xs ≡ []
     no_bytes [] h = refl
     no_bytes (x ∷ xs) h = absurd (grind arith)
+
     made : (library found : List ℕ) → library ≡ [] → found ≡ local → ◌≡◌ {A = TypeName} (record { library = library; name = found }) (record { library = []; name = local })
     made library found e k =
         let step : ◌≡◌ {A = TypeName} (record { library = library; name = found }) (record { library = []; name = found }) = ap (λ l. let t : TypeName = record { library = l; name = found } in t) e in
@@ -110,19 +111,19 @@ a_value type text = record { type = type; text = text }
 module _ (datatype : Datatype) (text copy : List ℕ) (old new : List Except) where
   pub own_taken : (type : TypeName) → Accepts datatype text → IsUtf8 text → copy ≡ text → new ≡ old ++ Own copy ∷ [] → IsTakenBehind type datatype (a_value type text) old new
   own_taken type accepted utf8 same grows = record {
-      added = Own text ∷ [];
-      grows = grows ∙ ap (λ t. old ++ Own t ∷ []) same;
-      takes = own_value accepted no_except;
-      sound = ((is_text text utf8, accepted), tt);
-    }
+    added = Own text ∷ [];
+    grows = grows ∙ ap (λ t. old ++ Own t ∷ []) same;
+    takes = own_value accepted no_except;
+    sound = ((is_text text utf8, accepted), tt);
+  }
 
   pub own_beside : (type : TypeName) → (Accepts datatype text → false ≡ true) → new ≡ old → IsTakenBehind type datatype (a_value type text) old new
   own_beside type refused same = record {
-      added = [];
-      grows = same ∙ sym (append-nil old);
-      takes = own_value_beside (λ h. let never = refused h in cc) no_except;
-      sound = tt;
-    }
+    added = [];
+    grows = same ∙ sym (append-nil old);
+    takes = own_value_beside (λ h. let never = refused h in cc) no_except;
+    sound = tt;
+  }
 
   pub string_taken : (type value : TypeName) → (value ≡ type → false ≡ true) → value ≡ builtin_string → IsUtf8 text → copy ≡ text → new ≡ old ++ BuiltinString copy ∷ [] → IsTakenBehind type datatype (a_value value text) old new
   string_taken type value other is utf8 same grows =
@@ -231,7 +232,7 @@ module _ (cells : List Cell) (type : TypeName) (datatype : Datatype) (values : L
       let Q : List Except → Type 0 = AreTakenFrom cells type datatype (take index values ++ slice_index values index ∷ []) in
       let R : List Value → Type 0 = λ vs. AreExcepts type datatype vs (old ++ next.added) in
       let takes : AreExcepts type datatype (map (value_of cells) (take index values ++ slice_index values index ∷ [])) (old ++ next.added)
-            = subst R (sym (map-append (value_of cells) (take index values) (slice_index values index ∷ []))) (excepts_behind type datatype taken.takes (value_of cells (slice_index values index)) next.added next.takes) in
+      = subst R (sym (map-append (value_of cells) (take index values) (slice_index values index ∷ []))) (excepts_behind type datatype taken.takes (value_of cells (slice_index values index)) next.added next.takes) in
       let few = few_excepts type datatype takes in
       let all = length-map (take index values ++ slice_index values index ∷ []) (value_of cells) in
       subst P (sym (take_more values index 0 less)) (subst Q (sym next.grows) (record {
@@ -242,12 +243,12 @@ module _ (cells : List Cell) (type : TypeName) (datatype : Datatype) (values : L
 
   pub value_refused : (old new : List Except) (why : SchemaFault) → TakesBehind type datatype (value_of cells (slice_index values index)) old new (Err why) → TakesFrom cells type datatype values (Err why)
   value_refused old new (fault.Unreadable cause.UnsupportedExcept) refused = record {
-      v = value_of cells (slice_index values index);
-      among = value_among values index less;
-      not_own = refused.0;
-      not_string = refused.1;
-      not_token = refused.2;
-    }
+    v = value_of cells (slice_index values index);
+    among = value_among values index less;
+    not_own = refused.0;
+    not_string = refused.1;
+    not_token = refused.2;
+  }
     where
       value_among : (values : List ℕ) (index : ℕ) → index < length values → Contains (map (value_of cells) values) (value_of cells (slice_index values index))
       value_among values index less =
@@ -298,45 +299,45 @@ module _ (shapes : List Shape) (number : ℕ) (s : Shape) (there : slice_get sha
   -- a value
   pub one_listed : (i : ℕ) (old new : List ℕ) → s ≡ shape.Value i → new ≡ old ++ i ∷ [] → IsListed shapes number old new
   one_listed i old new is grows = record {
-      values_are = λ cells taken values h.
+    values_are = λ cells taken values h.
         let whole : form_at cells taken shapes number ≡ form.value (value_of cells i) = form_is cells taken ∙ ap (form_by cells taken (form_at cells taken shapes)) is in
         let one : value_of cells i ∷ [] ≡ values = same_Some _ _ (sym (ap values_of whole) ∙ h) in
         ap (map (value_of cells)) grows ∙ map-append (value_of cells) old (i ∷ []) ∙ ap (λ vs. map (value_of cells) old ++ vs) one;
-      each_value = λ cells count are_of values. record {
-          each_is = λ place j h.
-            let P : List ℕ → Type 0 = λ all. slice_get all place ≡ Some j in
-            elim (before_or_last old i place j (subst P grows h)) [
-              inl before ↦ values.each_is place j before
+    each_value = λ cells count are_of values. record {
+      each_is = λ place j h.
+          let P : List ℕ → Type 0 = λ all. slice_get all place ≡ Some j in
+          elim (before_or_last old i place j (subst P grows h)) [
+            | inl before ↦ values.each_is place j before
             | inr last ↦
-              let Q : Shape → Type 0 = IsOfSchema cells count in
-              let cell_is : IsOfSchema cells count (shape.Value i) = subst Q is (are_of.each_is number s there) in
-              let R : ℕ → Type 0 = IsValue cells in
-              subst R (sym last.1) (record { type = cell_is.0; text = cell_is.1; is_cell = cell_is.2 })
-            ]
-        };
-    }
+                let Q : Shape → Type 0 = IsOfSchema cells count in
+                let cell_is : IsOfSchema cells count (shape.Value i) = subst Q is (are_of.each_is number s there) in
+                let R : ℕ → Type 0 = IsValue cells in
+                subst R (sym last.1) (record { type = cell_is.0; text = cell_is.1; is_cell = cell_is.2 })
+          ];
+    };
+  }
 
   -- a choice
   pub both_listed : (first second : ℕ) (old mid new : List ℕ) → s ≡ shape.Joined sign.Choice first second → IsListed shapes first old mid → IsListed shapes second mid new → IsListed shapes number old new
   both_listed first second old mid new is one other = record {
-      values_are = λ cells taken values h.
+    values_are = λ cells taken values h.
         let whole : form_at cells taken shapes number ≡ form.choice (form_at cells taken shapes first) (form_at cells taken shapes second) = form_is cells taken ∙ ap (form_by cells taken (form_at cells taken shapes)) is in
         let both = choice_values (values_of (form_at cells taken shapes first)) (values_of (form_at cells taken shapes second)) values (sym (ap values_of whole) ∙ h) in
         other.values_are cells taken both.second both.second_is
         ∙ ap (λ vs. vs ++ both.second) (one.values_are cells taken both.first both.first_is)
         ∙ append_assoc (map (value_of cells) old) both.first both.second
         ∙ ap (λ vs. map (value_of cells) old ++ vs) both.are;
-      each_value = λ cells count are_of values. other.each_value cells count are_of (one.each_value cells count are_of values);
-    }
+    each_value = λ cells count are_of values. other.each_value cells count are_of (one.each_value cells count are_of values);
+  }
 
   -- nothing else has values, but for what is not allowed
   pub none_listed : (old : List ℕ) → ((i : ℕ) → s ≡ shape.Value i → ⊥) → ((first second : ℕ) → s ≡ shape.Joined sign.Choice first second → ⊥) → IsListed shapes number old old
   none_listed old no_value no_choice = record {
-      values_are = λ cells taken values h.
+    values_are = λ cells taken values h.
         let none : values ≡ [] = no_values cells taken (form_at cells taken shapes) s values no_value no_choice (sym (ap values_of (form_is cells taken)) ∙ h) in
         sym (append-nil (map (value_of cells) old)) ∙ ap (λ vs. map (value_of cells) old ++ vs) (sym none);
-      each_value = λ cells count are_of values. values;
-    }
+    each_value = λ cells count are_of values. values;
+  }
 
 -- ---- what is taken by the values of a form
 
@@ -378,26 +379,26 @@ pub all_taken : (cells : List Cell) (shapes : List Shape) (type : TypeName) (dat
 all_taken cells shapes type datatype number size count start listed nodes result sized is few none list_is nodes_are taken =
     let known = has_counted cells shapes number size count sized is in
     let values_are : map (value_of cells) nodes ≡ known.values =
-      ap (map (value_of cells)) nodes_are
-      ∙ list_is.values_are cells (λ i. []) known.values (known.has_values.are (λ i. []))
-      ∙ ap (λ some. map (value_of cells) some ++ known.values) none in
+    ap (map (value_of cells)) nodes_are
+    ∙ list_is.values_are cells (λ i. []) known.values (known.has_values.are (λ i. []))
+    ∙ ap (λ some. map (value_of cells) some ++ known.values) none in
     let P : List Value → Type 0 = λ values. IsForeign type values in
     by_answer known values_are result taken
   where
     by_answer : (known : HasCounted cells shapes number count) → map (value_of cells) nodes ≡ known.values → (result : Result (List Except) SchemaFault) → TakesFrom cells type datatype nodes result → Takes cells shapes type datatype number result
     by_answer known values_are (Ok excepts) taken = record {
-        values = known.values;
-        has_values = known.has_values;
-        takes = let P : List Value → Type 0 = λ values. AreExcepts type datatype values excepts in subst P values_are taken.takes;
-        allowed = let counted = known.count_is in omega arith;
-        few =
+      values = known.values;
+      has_values = known.has_values;
+      takes = let P : List Value → Type 0 = λ values. AreExcepts type datatype values excepts in subst P values_are taken.takes;
+      allowed = let counted = known.count_is in omega arith;
+      few =
           let all = length-map nodes (value_of cells) in
           let same = ap length values_are in
           let counted = known.count_is in
           let each = taken.few in
           omega arith;
-        sound = taken.sound;
-      }
+      sound = taken.sound;
+    }
     by_answer known values_are (Err (fault.Unreadable cause.UnsupportedExcept)) taken =
         inr (record { values = known.values; has_values = known.has_values; foreign = let P : List Value → Type 0 = IsForeign type in subst P values_are taken })
     by_answer known values_are (Err fault.NoMemory) taken = tt
@@ -479,9 +480,9 @@ module _ (nodes : List Node) (forms : Forms) (i : ℕ) (n : Node) (within : i < 
         length_stays = length-set old i known;
         others_stay = λ j other. get_or-set_other old i j known None other;
         is_type = λ c at.
-          let Q : Cell → Type 0 = λ d. IsTypeOf cells forms d (known_at (slice_set old i known) i) in
-          let R : Option NodeType → Type 0 = λ t. IsTypeOf cells forms (cell_of n) t in
-          subst Q (same_Some _ _ (sym (cell_there nodes i n within is) ∙ at))
+            let Q : Cell → Type 0 = λ d. IsTypeOf cells forms d (known_at (slice_set old i known) i) in
+            let R : Option NodeType → Type 0 = λ t. IsTypeOf cells forms (cell_of n) t in
+            subst Q (same_Some _ _ (sym (cell_there nodes i n within is) ∙ at))
             (subst R (sym (get_or-set_same old i known None (omega arith))) (type_made cells forms (cell_of n) known made));
       })
 
@@ -499,13 +500,13 @@ module _ (nodes : List Node) (forms : Forms) (i : ℕ) (n : Node) (within : i < 
 -- a join has no type
 pub no_type_set : (nodes : List Node) (forms : Forms) (i : ℕ) (old : List (Option NodeType)) → length nodes ≤ i → IsTypeSet (map cell_of nodes) forms i old old
 no_type_set nodes forms i old past = record {
-    length_stays = refl;
-    others_stay = λ j other. refl;
-    is_type = λ c at.
+  length_stays = refl;
+  others_stay = λ j other. refl;
+  is_type = λ c at.
       let inside = slice_get_within (map cell_of nodes) i c at in
       let all = length-map nodes cell_of in
       absurd (omega arith);
-  }
+}
 
 -- ---- types in order
 
@@ -515,39 +516,39 @@ module _ (cells : List Cell) (order : List ℕ) (forms : Forms) where
 
   pub one_more_typed : (end here : ℕ) (old new : List (Option NodeType)) → slice_get order end ≡ Some here → AreTypesBefore cells order end forms old → IsTypeSet cells forms here old new → AreTypesBefore cells order (end + 1) forms new
   one_more_typed end here old new place before set = record {
-      all = set.length_stays ∙ before.all;
-      each_is = λ i c h at.
+    all = set.length_stays ∙ before.all;
+    each_is = λ i c h at.
         let P : ℕ → Type 0 = λ k. IsCell cells k c → IsTypeOf cells forms c (known_at new k) in
         let Q : Option NodeType → Type 0 = IsTypeOf cells forms c in
         elim (equal_or_not i here) [
-          inl same ↦ subst P (sym same) (set.is_type c) at
-        | inr other ↦ elim (before_next order end i here place h) [
-            inl front ↦ subst Q (sym (set.others_stay i other)) (before.each_is i c front at)
-          | inr is ↦ absurd (other is)
+          | inl same ↦ subst P (sym same) (set.is_type c) at
+          | inr other ↦ elim (before_next order end i here place h) [
+            | inl front ↦ subst Q (sym (set.others_stay i other)) (before.each_is i c front at)
+            | inr is ↦ absurd (other is)
           ]
         ];
-    }
+  }
     where
       equal_or_not : (a b : ℕ) → (a ≡ b) ⊎ (a ≡ b → ⊥)
       equal_or_not a b = elim (cases_lt a b) [
-          inl less ↦ inr (λ e. omega arith)
+        | inl less ↦ inr (λ e. omega arith)
         | inr least ↦ elim (cases_lt b a) [
-            inl more ↦ inr (λ e. omega arith)
+          | inl more ↦ inr (λ e. omega arith)
           | inr most ↦ inl (omega arith)
-          ]
         ]
+      ]
 
   pub one_refused : (end here : ℕ) (old new : List (Option NodeType)) (why : SchemaFault) → slice_get order end ≡ Some here → AreTypesBefore cells order end forms old → SetsType cells forms here old new (Err why) → MakesTypes cells order forms (Err why)
   one_refused end here old new (fault.Unreadable why) place before refused = record {
-      place = end;
-      node = here;
-      there = place;
-      cell = refused.0;
-      is_cell = refused.1;
-      types = old;
-      before = before;
-      refused = refused.2;
-    }
+    place = end;
+    node = here;
+    there = place;
+    cell = refused.0;
+    is_cell = refused.1;
+    types = old;
+    before = before;
+    refused = refused.2;
+  }
   one_refused end here old new fault.NoMemory place before refused = tt
   one_refused end here old new fault.Failed place before refused = refused
   one_refused end here old new (fault.Absent a) place before refused = refused

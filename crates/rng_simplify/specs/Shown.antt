@@ -156,10 +156,10 @@ values_beside sign.Interleave first second = None
 
 abbrev pub size_beside : Sign → Size → Size → Size
 size_beside by first second = record {
-    nodes = stopped (stopped (first.nodes + second.nodes) + 1);
-    depth = stopped (max first.depth second.depth + 1);
-    values = values_beside by first.values second.values
-  }
+  nodes = stopped (stopped (first.nodes + second.nodes) + 1);
+  depth = stopped (max first.depth second.depth + 1);
+  values = values_beside by first.values second.values;
+}
 
 -- ---- shapes of a schema
 

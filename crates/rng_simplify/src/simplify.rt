@@ -23,11 +23,7 @@ use std::alloc::Global;
 
 /// The grammar that the file of the URI defines, with those that it leads to. They are fetched depth first, in the order of
 /// their references, an outer file before those that it refers to, and a file that is named twice is fetched twice.
-pub fn simplify<F: Files>(
-    alloc: Global,
-    uri: &str,
-    files: &mut F,
-) -> Result<Grammar, SchemaFault>
+pub fn simplify<F: Files>(alloc: Global, uri: &str, files: &mut F) -> Result<Grammar, SchemaFault>
     ensures { Answers (F.told files.old) uri.now (F.faults files.old) (F.faults files.new) result }
 {
     let whole = whole_schema(alloc, uri, files)?;

@@ -283,11 +283,7 @@ fn type_of(
 }
 
 /// The type of a value's node.
-fn value_node(
-    alloc: Global,
-    name: &TypeName,
-    text: &Bytes,
-) -> Result<Option<NodeType>, SchemaFault>
+fn value_node(alloc: Global, name: &TypeName, text: &Bytes) -> Result<Option<NodeType>, SchemaFault>
     requires library { IsUtf8 name.now.library }
     requires local { IsUtf8 name.now.name }
     requires literal { IsUtf8 text.now }

@@ -9,6 +9,6 @@ of-next-requires c =
 
 pub loop-other-preserved : goal.loop-other-preserved
 loop-other-preserved c = record {
-    so_far = next_joined _ _ _ _ _ _ _ _ _ _ _ _ (ap (λ (of : Vec ℕ Global). of.items) c.loop-other.invariant.of_stays) c.loop-other-test.true c.requires.known c.loop-other.invariant.so_far c.of-next.ensures c.in_ok-joined.ensures;
-    of_stays = c.loop-other.invariant.of_stays;
-  }
+  so_far = next_joined _ _ _ _ _ _ _ _ _ _ _ _ (ap (λ (of : Vec ℕ Global). of.items) c.loop-other.invariant.of_stays) c.loop-other-test.true c.requires.known c.loop-other.invariant.so_far c.of-next.ensures c.in_ok-joined.ensures;
+  of_stays = c.loop-other.invariant.of_stays;
+}
