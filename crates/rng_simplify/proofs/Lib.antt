@@ -46,3 +46,4 @@ pub mod Answered
 pub mod OneType
 pub mod OneComposed
 pub mod Passed
+pub mod Renumbered
