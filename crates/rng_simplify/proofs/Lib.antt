@@ -47,3 +47,4 @@ pub mod OneType
 pub mod OneComposed
 pub mod Passed
 pub mod Renumbered
+pub mod Alike

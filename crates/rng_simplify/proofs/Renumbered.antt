@@ -13,12 +13,13 @@ use Rattle.rnc_parse.specs.declared.surface.Defined.TheVariants as defined
 use Rattle.rng_core.specs.Names.{Class}
 use Rattle.rng_core.specs.Patterns.{Pattern, Definition}
 use Rattle.rng_simplify.specs.Agreeing.{IsOfPlaces}
-use Rattle.rng_simplify.specs.Broken.{Has, IsUndefined, HasNoStart, clash, HasClash, HasBadExcept, HasXmlnsName, HasRefusedType, IsBadValue, WholeIsBroken, PieceIsBroken, IsBroken}
+use Rattle.rng_simplify.specs.Broken.{Has, IsUndefined, HasNoStart, clash, HasClash, HasBadExcept, HasXmlnsName, HasRefusedType, IsBadValue, IsUnsupported, HasTooManyExcepts, WholeIsBroken, PieceIsBroken, IsBroken}
 use Rattle.rng_simplify.specs.Composed.{Composed, Clauses, end_of_clauses, clause_then, same_defined, defines, defining, combines, bodies}
 use Rattle.rng_simplify.specs.Composed as composed
 use Rattle.rng_simplify.specs.Places.{Place, place, parts, IsIn, a_part, a_content, a_definition, Occurs, the_whole, further_in}
 use Rattle.rng_simplify.specs.Simplified.{Simplifies}
 use Rattle.rng_simplify.specs.Unnumbered.{unnumbered, unnumbered_in}
+use Rattle.rng_simplify.proofs.Alike.{alike_by, simple_alike, values_same}
 use Rattle.rng_simplify.proofs.Nodes.{in_none, in_cases, in_first, in_more}
 use Rattle.rng_simplify.proofs.OneComposed.{defines_unnumbered, piece_one}
 use Rattle.rng_simplify.proofs.Passed.{are_passed}
@@ -152,6 +153,33 @@ has_other kind there back whole other same h =
     let Q : Composed → Type 0 = λ p. kind (map unnumbered_in n.scopes) p in
     record { scopes = n.scopes; pattern = n.pattern; occurs = n.occurs; is = back n.scopes n.pattern (subst Q (sym n.pattern_is) (subst P (sym n.scopes_are) (there h.scopes h.pattern h.is))) }
 
+-- and so for a kind that is the same whatever the numbers are
+has_alike : (kind : List Clauses → Composed → Type 0) → ((scopes others : List Clauses) (p other : Composed) → map unnumbered_in scopes ≡ map unnumbered_in others → unnumbered p ≡ unnumbered other → kind scopes p → kind others other) → (whole other : Composed) → unnumbered whole ≡ unnumbered other → Has whole kind → Has other kind
+has_alike kind alike whole other same h =
+    let n = numbered_at other same (occurs_unnumbered h.occurs) in
+    record { scopes = n.scopes; pattern = n.pattern; occurs = n.occurs; is = alike h.scopes n.scopes h.pattern n.pattern (sym n.scopes_are) (sym n.pattern_is) h.is }
+
+many_alike : (scopes others : List Clauses) (p other : Composed) → map unnumbered_in scopes ≡ map unnumbered_in others → unnumbered p ≡ unnumbered other → HasTooManyExcepts scopes p → HasTooManyExcepts others other
+many_alike scopes others (composed.typed type params except) other around same (q, values, simple, are, many) =
+    let h = alike_by (composed.typed type params except) other same in
+    let r = simple_alike simple others h.0 around (sym h.2) in
+    let P : Composed → Type 0 = HasTooManyExcepts others in
+    subst P (sym h.1) (r.form, values, r.simple, sym (values_same q r.form r.same) ∙ are, many)
+many_alike scopes others p other around same h = absurd h
+
+unsupported_alike : (scopes others : List Clauses) (p other : Composed) → map unnumbered_in scopes ≡ map unnumbered_in others → unnumbered p ≡ unnumbered other → IsUnsupported scopes p → IsUnsupported others other
+unsupported_alike scopes others (composed.typed type params except) other around same (q, simple, inl none) =
+    let h = alike_by (composed.typed type params except) other same in
+    let r = simple_alike simple others h.0 around (sym h.2) in
+    let P : Composed → Type 0 = IsUnsupported others in
+    subst P (sym h.1) (r.form, r.simple, inl (sym (values_same q r.form r.same) ∙ none))
+unsupported_alike scopes others (composed.typed type params except) other around same (q, simple, inr (values, are, foreign)) =
+    let h = alike_by (composed.typed type params except) other same in
+    let r = simple_alike simple others h.0 around (sym h.2) in
+    let P : Composed → Type 0 = IsUnsupported others in
+    subst P (sym h.1) (r.form, r.simple, inr (values, sym (values_same q r.form r.same) ∙ are, foreign))
+unsupported_alike scopes others p other around same h = absurd h
+
 -- ---- kinds
 
 undefined_there : (scopes : List Clauses) (p : Composed) → IsUndefined scopes p → IsUndefined (map unnumbered_in scopes) (unnumbered p)
@@ -249,6 +277,8 @@ broken_other whole other same cause.UnknownType of h = has_other (HasRefusedType
 broken_other whole other same cause.UnknownParam of h = has_other (HasRefusedType type_fault.UnknownParam) (type_there type_fault.UnknownParam) (type_back type_fault.UnknownParam) whole other same h
 broken_other whole other same cause.BadParam of h = has_other (HasRefusedType type_fault.BadParam) (type_there type_fault.BadParam) (type_back type_fault.BadParam) whole other same h
 broken_other whole other same cause.BadValue of h = has_other IsBadValue value_there value_back whole other same h
+broken_other whole other same cause.TooManyExcepts of h = has_alike HasTooManyExcepts many_alike whole other same h
+broken_other whole other same cause.UnsupportedExcept of h = has_alike IsUnsupported unsupported_alike whole other same h
 broken_other whole other same why of h = absurd of
 
 module _ (decided : JoinsIsDecided) (files : FileMap) (uri : List ℕ) (start : Pattern) (definitions : List Definition) (simplified : Simplifies files uri start definitions) where
@@ -267,4 +297,6 @@ module _ (decided : JoinsIsDecided) (files : FileMap) (uri : List ℕ) (start : 
   never_broken cause.UnknownParam of h = piece_never cause.UnknownParam of h
   never_broken cause.BadParam of h = piece_never cause.BadParam of h
   never_broken cause.BadValue of h = piece_never cause.BadValue of h
+  never_broken cause.TooManyExcepts of h = piece_never cause.TooManyExcepts of h
+  never_broken cause.UnsupportedExcept of h = piece_never cause.UnsupportedExcept of h
   never_broken why of h = absurd of

@@ -50,7 +50,7 @@ pub record ArePassed (files : FileMap) (uri : List ℕ) : Type 0 where
 abbrev pub ComposedArePassed : Type 0
 ComposedArePassed = (files : FileMap) (uri : List ℕ) (whole : Composed) → ComposesSchema files uri whole → ArePassed files uri
 
--- causes that are seen at one place of a schema, without simple forms
+-- causes that are seen at one place of a schema
 abbrev pub IsOfPlaces : Cause → Type 0
 IsOfPlaces cause.NoDefinition = Unit {0}
 IsOfPlaces cause.NoStart = Unit {0}
@@ -61,6 +61,8 @@ IsOfPlaces cause.UnknownType = Unit {0}
 IsOfPlaces cause.UnknownParam = Unit {0}
 IsOfPlaces cause.BadParam = Unit {0}
 IsOfPlaces cause.BadValue = Unit {0}
+IsOfPlaces cause.TooManyExcepts = Unit {0}
+IsOfPlaces cause.UnsupportedExcept = Unit {0}
 IsOfPlaces why = ⊥
 
 -- files that have a grammar are broken for none of these, whatever numbers elements have
