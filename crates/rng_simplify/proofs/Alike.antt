@@ -12,6 +12,7 @@ use Rattle.rng_simplify.specs.Composed.{Composed, Clauses, end_of_clauses, claus
 use Rattle.rng_simplify.specs.Composed as composed
 use Rattle.rng_simplify.specs.Forms.{Form, Value, list_of, attribute_of, one_or_more_of, choice_of, group_of, interleave_of, combine_of, join_of, values_of}
 use Rattle.rng_simplify.specs.Forms as form
+use Rattle.rng_simplify.specs.Places.{parts}
 use Rattle.rng_simplify.specs.Simple.{Simple, Defines, AreSimple, simple_element, simple_attribute, simple_list, simple_empty, simple_text, simple_not_allowed, simple_value, simple_type, simple_one_or_more, simple_choice, simple_group, simple_interleave, simple_grammar, simple_ref, simple_parent_ref, joined_in_order, none_simple, next_simple}
 use Rattle.rng_simplify.specs.Unnumbered.{unnumbered, unnumbered_in}
 
@@ -145,6 +146,24 @@ pub record IsAlikeScope (scope : Clauses) (outer others : List Clauses) : Type 0
 pub alike_scope : (scope : Clauses) (outer others : List Clauses) → map unnumbered_in (scope ∷ outer) ≡ map unnumbered_in others → IsAlikeScope scope outer others
 alike_scope scope outer [] same = let never : ⊥ = cc in absurd never
 alike_scope scope outer (other ∷ rest) same = record { other = other; rest = rest; is = refl; scope_same = cc; outer_same = cc }
+
+-- the parts of a pattern without numbers
+pub parts_unnumbered : (p : Composed) → parts (unnumbered p) ≡ map unnumbered (parts p)
+parts_unnumbered (composed.element number class p) = refl
+parts_unnumbered (composed.attribute class p) = refl
+parts_unnumbered (composed.listed p) = refl
+parts_unnumbered (composed.ref name) = refl
+parts_unnumbered (composed.parent_ref name) = refl
+parts_unnumbered composed.empty = refl
+parts_unnumbered composed.any_text = refl
+parts_unnumbered composed.not_allowed = refl
+parts_unnumbered (composed.value type text) = refl
+parts_unnumbered (composed.typed type params except) = refl
+parts_unnumbered (composed.grammar clauses) = refl
+parts_unnumbered (composed.one_or_more p) = refl
+parts_unnumbered (composed.choice p q) = refl
+parts_unnumbered (composed.group p q) = refl
+parts_unnumbered (composed.interleave p q) = refl
 
 -- ---- definitions of a name
 

@@ -48,3 +48,4 @@ pub mod OneComposed
 pub mod Passed
 pub mod Renumbered
 pub mod Alike
+pub mod Returning

@@ -13,16 +13,17 @@ use Rattle.rnc_parse.specs.declared.surface.Defined.TheVariants as defined
 use Rattle.rng_core.specs.Names.{Class}
 use Rattle.rng_core.specs.Patterns.{Pattern, Definition}
 use Rattle.rng_simplify.specs.Agreeing.{IsOfPlaces}
-use Rattle.rng_simplify.specs.Broken.{Has, IsUndefined, HasNoStart, clash, HasClash, HasBadExcept, HasXmlnsName, HasRefusedType, IsBadValue, IsUnsupported, HasTooManyExcepts, WholeIsBroken, PieceIsBroken, IsBroken}
+use Rattle.rng_simplify.specs.Broken.{Has, IsUndefined, HasNoStart, clash, HasClash, LeadsBack, HasBadExcept, HasXmlnsName, HasRefusedType, IsBadValue, IsUnsupported, HasTooManyExcepts, WholeIsBroken, PieceIsBroken, IsBroken}
 use Rattle.rng_simplify.specs.Composed.{Composed, Clauses, end_of_clauses, clause_then, same_defined, defines, defining, combines, bodies}
 use Rattle.rng_simplify.specs.Composed as composed
 use Rattle.rng_simplify.specs.Places.{Place, place, parts, IsIn, a_part, a_content, a_definition, Occurs, the_whole, further_in}
 use Rattle.rng_simplify.specs.Simplified.{Simplifies}
 use Rattle.rng_simplify.specs.Unnumbered.{unnumbered, unnumbered_in}
-use Rattle.rng_simplify.proofs.Alike.{alike_by, simple_alike, values_same}
+use Rattle.rng_simplify.proofs.Alike.{alike_by, simple_alike, values_same, parts_unnumbered}
 use Rattle.rng_simplify.proofs.Nodes.{in_none, in_cases, in_first, in_more}
 use Rattle.rng_simplify.proofs.OneComposed.{defines_unnumbered, piece_one}
 use Rattle.rng_simplify.proofs.Passed.{are_passed}
+use Rattle.rng_simplify.proofs.Returning.{returns_again}
 
 -- ---- lists
 
@@ -46,23 +47,6 @@ among_map {B = B} f (first ∷ xs) x h = elim (in_cases first xs x h) [
 ]
 
 -- ---- parts without numbers
-
-parts_unnumbered : (p : Composed) → parts (unnumbered p) ≡ map unnumbered (parts p)
-parts_unnumbered (composed.element number class p) = refl
-parts_unnumbered (composed.attribute class p) = refl
-parts_unnumbered (composed.listed p) = refl
-parts_unnumbered (composed.ref name) = refl
-parts_unnumbered (composed.parent_ref name) = refl
-parts_unnumbered composed.empty = refl
-parts_unnumbered composed.any_text = refl
-parts_unnumbered composed.not_allowed = refl
-parts_unnumbered (composed.value type text) = refl
-parts_unnumbered (composed.typed type params except) = refl
-parts_unnumbered (composed.grammar clauses) = refl
-parts_unnumbered (composed.one_or_more p) = refl
-parts_unnumbered (composed.choice p q) = refl
-parts_unnumbered (composed.group p q) = refl
-parts_unnumbered (composed.interleave p q) = refl
 
 bodies_unnumbered : (clauses : Clauses) → bodies (unnumbered_in clauses) ≡ map unnumbered (bodies clauses)
 bodies_unnumbered end_of_clauses = refl
@@ -180,6 +164,12 @@ unsupported_alike scopes others (composed.typed type params except) other around
     subst P (sym h.1) (r.form, r.simple, inr (values, sym (values_same q r.form r.same) ∙ are, foreign))
 unsupported_alike scopes others p other around same h = absurd h
 
+-- what leads back leads back
+back_other : (whole other : Composed) → unnumbered whole ≡ unnumbered other → Has whole LeadsBack → Has other LeadsBack
+back_other whole other same h =
+    let n = numbered_at other same (occurs_unnumbered h.occurs) in
+    returns_again other (place h.scopes h.pattern) (place n.scopes n.pattern) n.occurs (sym n.scopes_are, sym n.pattern_is) h.is
+
 -- ---- kinds
 
 undefined_there : (scopes : List Clauses) (p : Composed) → IsUndefined scopes p → IsUndefined (map unnumbered_in scopes) (unnumbered p)
@@ -279,6 +269,7 @@ broken_other whole other same cause.BadParam of h = has_other (HasRefusedType ty
 broken_other whole other same cause.BadValue of h = has_other IsBadValue value_there value_back whole other same h
 broken_other whole other same cause.TooManyExcepts of h = has_alike HasTooManyExcepts many_alike whole other same h
 broken_other whole other same cause.UnsupportedExcept of h = has_alike IsUnsupported unsupported_alike whole other same h
+broken_other whole other same cause.RefLoop of h = back_other whole other same h
 broken_other whole other same why of h = absurd of
 
 module _ (decided : JoinsIsDecided) (files : FileMap) (uri : List ℕ) (start : Pattern) (definitions : List Definition) (simplified : Simplifies files uri start definitions) where
@@ -299,4 +290,5 @@ module _ (decided : JoinsIsDecided) (files : FileMap) (uri : List ℕ) (start : 
   never_broken cause.BadValue of h = piece_never cause.BadValue of h
   never_broken cause.TooManyExcepts of h = piece_never cause.TooManyExcepts of h
   never_broken cause.UnsupportedExcept of h = piece_never cause.UnsupportedExcept of h
+  never_broken cause.RefLoop of h = piece_never cause.RefLoop of h
   never_broken why of h = absurd of

@@ -50,11 +50,12 @@ pub record ArePassed (files : FileMap) (uri : List ℕ) : Type 0 where
 abbrev pub ComposedArePassed : Type 0
 ComposedArePassed = (files : FileMap) (uri : List ℕ) (whole : Composed) → ComposesSchema files uri whole → ArePassed files uri
 
--- causes that are seen at one place of a schema
+-- causes of a schema in one piece that its size has no part in
 abbrev pub IsOfPlaces : Cause → Type 0
 IsOfPlaces cause.NoDefinition = Unit {0}
 IsOfPlaces cause.NoStart = Unit {0}
 IsOfPlaces cause.CombineClash = Unit {0}
+IsOfPlaces cause.RefLoop = Unit {0}
 IsOfPlaces cause.BadExcept = Unit {0}
 IsOfPlaces cause.XmlnsName = Unit {0}
 IsOfPlaces cause.UnknownType = Unit {0}
