@@ -30,7 +30,9 @@ piece_broken files uri cause.NoDefinition h = inr h
 piece_broken files uri why h = h
 
 module _ (uri : List ℕ) (cells : List Cell) (root : ℕ) where
-  simplified_if : (told : Option FileMap) → IfTold told (λ files. (number : ℕ → ℕ) → IsOnePiece files uri number cells root) → (grammar : Grammar) → IsGrammarOf cells root grammar → IfTold told (λ files. Simplifies files uri (pattern_of grammar.start) (definitions_of grammar))
+  simplified_if : (told : Option FileMap) → IfTold told (λ files. (number : ℕ → ℕ) → IsOnePiece files uri number cells root) →
+      (grammar : Grammar) → IsGrammarOf cells root grammar →
+      IfTold told (λ files. Simplifies files uri (pattern_of grammar.start) (definitions_of grammar))
   simplified_if None one_piece grammar h = tt
   simplified_if (Some files) one_piece grammar h =
       let one = one_piece h.number in
@@ -46,16 +48,20 @@ module _ (uri : List ℕ) (cells : List Cell) (root : ℕ) where
         definitions_are = s.definitions_are;
       }
 
-  broken_if : (told : Option FileMap) → IfTold told (λ files. (number : ℕ → ℕ) → IsOnePiece files uri number cells root) → (why : Cause) → IsBrokenSchema cells root why → IfTold told (λ files. IsBroken files uri why)
+  broken_if : (told : Option FileMap) → IfTold told (λ files. (number : ℕ → ℕ) → IsOnePiece files uri number cells root) → (why : Cause) →
+      IsBrokenSchema cells root why → IfTold told (λ files. IsBroken files uri why)
   broken_if None one_piece why h = tt
   broken_if (Some files) one_piece why h =
       let one = one_piece h.number in
       piece_broken files uri why (record { whole = one.whole; composed = one.composed; broken = h.broken one.whole one.denotes })
 
 -- the grammar of the files is that of their schema in one piece
-pub answers_so : (told : Option FileMap) (uri : List ℕ) (before after : ℕ) (whole : Whole) (result : Result Grammar SchemaFault) → GivesWhole told uri before after (Ok whole) → GivesGrammar (cells_of whole) whole.root result → Answers told uri before after result
-answers_so told uri before after whole (Ok grammar) one h = (simplified_if uri (cells_of whole) whole.root told one.2 grammar h, h.sound, one.3)
-answers_so told uri before after whole (Err (fault.Unreadable why)) one h = (broken_if uri (cells_of whole) whole.root told one.2 why h, one.3)
+pub answers_so : (told : Option FileMap) (uri : List ℕ) (before after : ℕ) (whole : Whole) (result : Result Grammar SchemaFault) →
+    GivesWhole told uri before after (Ok whole) → GivesGrammar (cells_of whole) whole.root result → Answers told uri before after result
+answers_so told uri before after whole (Ok grammar) one h =
+    (simplified_if uri (cells_of whole) whole.root told one.2 grammar h, h.sound, one.3)
+answers_so told uri before after whole (Err (fault.Unreadable why)) one h =
+    (broken_if uri (cells_of whole) whole.root told one.2 why h, one.3)
 answers_so told uri before after whole (Err fault.NoMemory) one h = one.3
 answers_so told uri before after whole (Err fault.Failed) one h = absurd h
 answers_so told uri before after whole (Err (fault.Absent a)) one h = absurd h

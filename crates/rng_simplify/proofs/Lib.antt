@@ -46,3 +46,6 @@ pub mod Answered
 pub mod OneType
 pub mod OneComposed
 pub mod Passed
+pub mod Renumbered
+pub mod Alike
+pub mod Returning

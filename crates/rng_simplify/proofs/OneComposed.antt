@@ -30,7 +30,9 @@ pub record OpensOne (inner other : Context) (surface others : WrittenSurface) : 
   pub context : inner ≡ other
   pub surface_is : surface ≡ others
 
-pub opens_one : JoinsIsDecided → (files : FileMap) (context : Context) (reference : FileReference) (inner other : Context) (surface others : WrittenSurface) → Opens files context reference inner surface → Opens files context reference other others → OpensOne inner other surface others
+pub opens_one : JoinsIsDecided →
+    (files : FileMap) (context : Context) (reference : FileReference) (inner other : Context) (surface others : WrittenSurface) →
+    Opens files context reference inner surface → Opens files context reference other others → OpensOne inner other surface others
 opens_one decided files context reference inner other surface others is also =
     let uris : is.uri ≡ also.uri = decided.1 context.uri reference.uri is.uri also.uri is.joined also.joined in
     let P : List ℕ → Type 0 = λ uri. Says files uri surface in
@@ -47,28 +49,36 @@ then_unnumbered (clause_then name combine p first) more = ap (clause_then name c
 
 pub defines_unnumbered : (name : Defined) (clauses : Clauses) → defines name (unnumbered_in clauses) ≡ defines name clauses
 defines_unnumbered name end_of_clauses = refl
-defines_unnumbered name (clause_then other combine p more) = ap (λ rest. if same_defined name other then true else rest) (defines_unnumbered name more)
+defines_unnumbered name (clause_then other combine p more) =
+    ap (λ rest. if same_defined name other then true else rest) (defines_unnumbered name more)
 
 -- what the same clauses without numbers define is the same
-pub defines_same : (name : Defined) (some others : Clauses) → unnumbered_in some ≡ unnumbered_in others → defines name some ≡ defines name others
+pub defines_same : (name : Defined) (some others : Clauses) → unnumbered_in some ≡ unnumbered_in others →
+    defines name some ≡ defines name others
 defines_same name some others same = sym (defines_unnumbered name some) ∙ ap (defines name) same ∙ defines_unnumbered name others
 
-but_for_if : (defined : Bool) (name : Defined) (combine : Combine) (p : Composed) (rest : Clauses) (more : Clauses) → unnumbered_in rest ≡ more → unnumbered_in (if defined then rest else clause_then name combine p rest) ≡ (if defined then more else clause_then name combine (unnumbered p) more)
+but_for_if : (defined : Bool) (name : Defined) (combine : Combine) (p : Composed) (rest : Clauses) (more : Clauses) → unnumbered_in
+    rest ≡ more → unnumbered_in
+    (if defined then rest else clause_then name combine p rest) ≡ (if defined then more else clause_then name combine (unnumbered p) more)
 but_for_if true name combine p rest more same = same
 but_for_if false name combine p rest more same = ap (clause_then name combine (unnumbered p)) same
 
-but_for_unnumbered : (others clauses : Clauses) → unnumbered_in (but_for others clauses) ≡ but_for (unnumbered_in others) (unnumbered_in clauses)
+but_for_unnumbered : (others clauses : Clauses) →
+    unnumbered_in (but_for others clauses) ≡ but_for (unnumbered_in others) (unnumbered_in clauses)
 but_for_unnumbered others end_of_clauses = refl
 but_for_unnumbered others (clause_then name combine p more) =
-    but_for_if (defines name others) name combine p (but_for others more) (but_for (unnumbered_in others) (unnumbered_in more)) (but_for_unnumbered others more)
+    but_for_if (defines name others) name combine p (but_for others more) (but_for (unnumbered_in others) (unnumbered_in more))
+    (but_for_unnumbered others more)
     ∙ ap (λ b. if b then but_for (unnumbered_in others) (unnumbered_in more) else clause_then name combine (unnumbered p) (but_for (unnumbered_in others) (unnumbered_in more))) (sym (defines_unnumbered name others))
 
 -- ---- what is composed, by what is written
 
 module _ (decided : JoinsIsDecided) (files : FileMap) where
   abbrev ComposesBy : WrittenPattern → Context → Composed → Type 0
-  ComposesBy (written.element class p) context q = (number : ℕ) × (r : Composed) × Composes files context p r × (q ≡ composed.element number (class_in context.inherited class) r)
-  ComposesBy (written.attribute class p) context q = (r : Composed) × Composes files context p r × (q ≡ composed.attribute (class_in context.inherited class) r)
+  ComposesBy (written.element class p) context q =
+      (number : ℕ) × (r : Composed) × Composes files context p r × (q ≡ composed.element number (class_in context.inherited class) r)
+  ComposesBy (written.attribute class p) context q =
+      (r : Composed) × Composes files context p r × (q ≡ composed.attribute (class_in context.inherited class) r)
   ComposesBy (written.list p) context q = (r : Composed) × Composes files context p r × (q ≡ composed.listed r)
   ComposesBy (written.mixed p) context q = (r : Composed) × Composes files context p r × (q ≡ composed.interleave composed.any_text r)
   ComposesBy (written.ref name) context q = q ≡ composed.ref name
@@ -78,15 +88,21 @@ module _ (decided : JoinsIsDecided) (files : FileMap) where
   ComposesBy written.not_allowed context q = q ≡ composed.not_allowed
   ComposesBy (written.value type text) context q = q ≡ composed.value type text
   ComposesBy (written.typed type params) context q = q ≡ composed.typed type params composed.not_allowed
-  ComposesBy (written.typed_but type params except) context q = (r : Composed) × Composes files context except r × (q ≡ composed.typed type params r)
-  ComposesBy (written.external reference) context q = (inner : Context) × (surface : WrittenSurface) × Opens files context reference inner surface × ComposesFile files inner surface q
+  ComposesBy (written.typed_but type params except) context q =
+      (r : Composed) × Composes files context except r × (q ≡ composed.typed type params r)
+  ComposesBy (written.external reference) context q =
+      (inner : Context) × (surface : WrittenSurface) × Opens files context reference inner surface × ComposesFile files inner surface q
   ComposesBy (written.grammar items) context q = (clauses : Clauses) × Gathers files context items clauses × (q ≡ composed.grammar clauses)
   ComposesBy (written.optional p) context q = (r : Composed) × Composes files context p r × (q ≡ composed.choice r composed.empty)
-  ComposesBy (written.zero_or_more p) context q = (r : Composed) × Composes files context p r × (q ≡ composed.choice (composed.one_or_more r) composed.empty)
+  ComposesBy (written.zero_or_more p) context q =
+      (r : Composed) × Composes files context p r × (q ≡ composed.choice (composed.one_or_more r) composed.empty)
   ComposesBy (written.one_or_more p) context q = (r : Composed) × Composes files context p r × (q ≡ composed.one_or_more r)
-  ComposesBy (written.choice p1 p2) context q = (r1 : Composed) × (r2 : Composed) × Composes files context p1 r1 × Composes files context p2 r2 × (q ≡ composed.choice r1 r2)
-  ComposesBy (written.group p1 p2) context q = (r1 : Composed) × (r2 : Composed) × Composes files context p1 r1 × Composes files context p2 r2 × (q ≡ composed.group r1 r2)
-  ComposesBy (written.interleave p1 p2) context q = (r1 : Composed) × (r2 : Composed) × Composes files context p1 r1 × Composes files context p2 r2 × (q ≡ composed.interleave r1 r2)
+  ComposesBy (written.choice p1 p2) context q =
+      (r1 : Composed) × (r2 : Composed) × Composes files context p1 r1 × Composes files context p2 r2 × (q ≡ composed.choice r1 r2)
+  ComposesBy (written.group p1 p2) context q =
+      (r1 : Composed) × (r2 : Composed) × Composes files context p1 r1 × Composes files context p2 r2 × (q ≡ composed.group r1 r2)
+  ComposesBy (written.interleave p1 p2) context q =
+      (r1 : Composed) × (r2 : Composed) × Composes files context p1 r1 × Composes files context p2 r2 × (q ≡ composed.interleave r1 r2)
 
   composes_by : {context : Context} {p : WrittenPattern} {q : Composed} → Composes files context p q → ComposesBy p context q
   composes_by (by_element number part) = (number, _, part, refl)
@@ -119,7 +135,8 @@ module _ (decided : JoinsIsDecided) (files : FileMap) where
   file_by (of_grammar gathered) = (_, gathered, refl)
 
   -- an include, with what it leads to
-  pub record Includes (context : Context) (reference : FileReference) (replacements : WrittenReplacements) (items : WrittenItems) (all : Clauses) : Type 0 where
+  pub record Includes (context : Context) (reference : FileReference) (replacements : WrittenReplacements) (items : WrittenItems)
+      (all : Clauses) : Type 0 where
     pub inner : Context
     pub surface : WrittenSurface
     pub others : WrittenItems
@@ -135,8 +152,12 @@ module _ (decided : JoinsIsDecided) (files : FileMap) where
     pub all_is : all ≡ then_clauses (but_for new old) (then_clauses new clauses)
 
   abbrev ItemBy : WrittenItem → Context → WrittenItems → Clauses → Type 0
-  ItemBy (written.define name combine p) context items all = (q : Composed) × (rest : Clauses) × Composes files context p q × Gathers files context items rest × (all ≡ clause_then name combine q rest)
-  ItemBy (written.div inside) context items all = (first : Clauses) × (rest : Clauses) × Gathers files context inside first × Gathers files context items rest × (all ≡ then_clauses first rest)
+  ItemBy (written.define name combine p) context items all =
+      (q : Composed) × (rest : Clauses) × Composes files context p q × Gathers files context items rest
+      × (all ≡ clause_then name combine q rest)
+  ItemBy (written.div inside) context items all =
+      (first : Clauses) × (rest : Clauses) × Gathers files context inside first × Gathers files context items rest
+      × (all ≡ then_clauses first rest)
   ItemBy (written.include reference replacements) context items all = Includes context reference replacements items all
 
   abbrev GathersBy : WrittenItems → Context → Clauses → Type 0
@@ -164,21 +185,27 @@ module _ (decided : JoinsIsDecided) (files : FileMap) where
   }
 
   abbrev ReplacementBy : WrittenReplacement → Context → WrittenReplacements → Clauses → Type 0
-  ReplacementBy (written.define_anew name combine p) context more all = (q : Composed) × (rest : Clauses) × Composes files context p q × GathersAnew files context more rest × (all ≡ clause_then name combine q rest)
-  ReplacementBy (written.div_anew inside) context more all = (first : Clauses) × (rest : Clauses) × GathersAnew files context inside first × GathersAnew files context more rest × (all ≡ then_clauses first rest)
+  ReplacementBy (written.define_anew name combine p) context more all =
+      (q : Composed) × (rest : Clauses) × Composes files context p q × GathersAnew files context more rest
+      × (all ≡ clause_then name combine q rest)
+  ReplacementBy (written.div_anew inside) context more all =
+      (first : Clauses) × (rest : Clauses) × GathersAnew files context inside first × GathersAnew files context more rest
+      × (all ≡ then_clauses first rest)
 
   abbrev AnewBy : WrittenReplacements → Context → Clauses → Type 0
   AnewBy written.no_replacements context all = all ≡ end_of_clauses
   AnewBy (written.replacement_then replacement more) context all = ReplacementBy replacement context more all
 
-  anew_by : {context : Context} {replacements : WrittenReplacements} {all : Clauses} → GathersAnew files context replacements all → AnewBy replacements context all
+  anew_by : {context : Context} {replacements : WrittenReplacements} {all : Clauses} → GathersAnew files context replacements all →
+      AnewBy replacements context all
   anew_by none_anew = refl
   anew_by (definition_anew part more) = (_, _, part, more, refl)
   anew_by (division_anew inside more is) = (_, _, inside, more, is)
 
   -- ---- it is one
 
-  both_then : (some others more rest all also : Clauses) → all ≡ then_clauses some more → also ≡ then_clauses others rest → unnumbered_in some ≡ unnumbered_in others → unnumbered_in more ≡ unnumbered_in rest → unnumbered_in all ≡ unnumbered_in also
+  both_then : (some others more rest all also : Clauses) → all ≡ then_clauses some more → also ≡ then_clauses others rest →
+      unnumbered_in some ≡ unnumbered_in others → unnumbered_in more ≡ unnumbered_in rest → unnumbered_in all ≡ unnumbered_in also
   both_then some others more rest all also is again first second =
       ap unnumbered_in is
       ∙ then_unnumbered some more
@@ -187,7 +214,8 @@ module _ (decided : JoinsIsDecided) (files : FileMap) where
       ∙ sym (then_unnumbered others rest)
       ∙ ap unnumbered_in (sym again)
 
-  both_but_for : (new other old also : Clauses) → unnumbered_in new ≡ unnumbered_in other → unnumbered_in old ≡ unnumbered_in also → unnumbered_in (but_for new old) ≡ unnumbered_in (but_for other also)
+  both_but_for : (new other old also : Clauses) → unnumbered_in new ≡ unnumbered_in other → unnumbered_in old ≡ unnumbered_in also →
+      unnumbered_in (but_for new old) ≡ unnumbered_in (but_for other also)
   both_but_for new other old also first second =
       but_for_unnumbered new old
       ∙ ap (λ cs. but_for cs (unnumbered_in old)) first
@@ -195,9 +223,14 @@ module _ (decided : JoinsIsDecided) (files : FileMap) where
       ∙ sym (but_for_unnumbered other also)
 
   mutual
-    composes_one : {context : Context} {p : WrittenPattern} {q r : Composed} → Composes files context p q → Composes files context p r → unnumbered q ≡ unnumbered r
-    composes_one {context = context} (by_element {class = class} number part) again = let h = composes_by again in ap (composed.element 0 (class_in context.inherited class)) (composes_one part h.2) ∙ ap unnumbered (sym h.3)
-    composes_one {context = context} (by_attribute {class = class} part) again = let h = composes_by again in ap (composed.attribute (class_in context.inherited class)) (composes_one part h.1) ∙ ap unnumbered (sym h.2)
+    composes_one : {context : Context} {p : WrittenPattern} {q r : Composed} → Composes files context p q → Composes files context p r →
+        unnumbered q ≡ unnumbered r
+    composes_one {context = context} (by_element {class = class} number part) again =
+        let h = composes_by again in ap (composed.element 0 (class_in context.inherited class)) (composes_one part h.2)
+        ∙ ap unnumbered (sym h.3)
+    composes_one {context = context} (by_attribute {class = class} part) again =
+        let h = composes_by again in ap (composed.attribute (class_in context.inherited class)) (composes_one part h.1)
+        ∙ ap unnumbered (sym h.2)
     composes_one (by_list part) again = let h = composes_by again in ap composed.listed (composes_one part h.1) ∙ ap unnumbered (sym h.2)
     composes_one by_ref again = ap unnumbered (sym (composes_by again))
     composes_one by_parent_ref again = ap unnumbered (sym (composes_by again))
@@ -206,33 +239,45 @@ module _ (decided : JoinsIsDecided) (files : FileMap) where
     composes_one by_not_allowed again = ap unnumbered (sym (composes_by again))
     composes_one by_value again = ap unnumbered (sym (composes_by again))
     composes_one by_type again = ap unnumbered (sym (composes_by again))
-    composes_one (by_type_but {type = type} {params = params} part) again = let h = composes_by again in ap (composed.typed type params) (composes_one part h.1) ∙ ap unnumbered (sym h.2)
+    composes_one (by_type_but {type = type} {params = params} part) again =
+        let h = composes_by again in ap (composed.typed type params) (composes_one part h.1) ∙ ap unnumbered (sym h.2)
     composes_one {context = context} {r = r} (by_external {inner = inner} {reference = reference} {surface = surface} opens file) again =
         let h = composes_by again in
         let same = opens_one decided files context reference h.0 inner h.1 surface h.2 opens in
         let P : Context → Type 0 = λ k. ComposesFile files k h.1 r in
         let Q : WrittenSurface → Type 0 = λ s. ComposesFile files inner s r in
         file_one file (subst Q same.surface_is (subst P same.context h.3))
-    composes_one (by_grammar gathered) again = let h = composes_by again in ap composed.grammar (gathers_one gathered h.1) ∙ ap unnumbered (sym h.2)
-    composes_one (by_optional part) again = let h = composes_by again in ap (λ s. composed.choice s composed.empty) (composes_one part h.1) ∙ ap unnumbered (sym h.2)
-    composes_one (by_zero_or_more part) again = let h = composes_by again in ap (λ s. composed.choice (composed.one_or_more s) composed.empty) (composes_one part h.1) ∙ ap unnumbered (sym h.2)
-    composes_one (by_one_or_more part) again = let h = composes_by again in ap composed.one_or_more (composes_one part h.1) ∙ ap unnumbered (sym h.2)
-    composes_one (by_mixed part) again = let h = composes_by again in ap (composed.interleave composed.any_text) (composes_one part h.1) ∙ ap unnumbered (sym h.2)
+    composes_one (by_grammar gathered) again =
+        let h = composes_by again in ap composed.grammar (gathers_one gathered h.1) ∙ ap unnumbered (sym h.2)
+    composes_one (by_optional part) again =
+        let h = composes_by again in ap (λ s. composed.choice s composed.empty) (composes_one part h.1) ∙ ap unnumbered (sym h.2)
+    composes_one (by_zero_or_more part) again =
+        let h = composes_by again in ap (λ s. composed.choice (composed.one_or_more s) composed.empty) (composes_one part h.1)
+        ∙ ap unnumbered (sym h.2)
+    composes_one (by_one_or_more part) again =
+        let h = composes_by again in ap composed.one_or_more (composes_one part h.1) ∙ ap unnumbered (sym h.2)
+    composes_one (by_mixed part) again =
+        let h = composes_by again in ap (composed.interleave composed.any_text) (composes_one part h.1) ∙ ap unnumbered (sym h.2)
     composes_one (by_choice {q2 = second} one other) again =
         let h = composes_by again in
-        ap (λ s. composed.choice s (unnumbered second)) (composes_one one h.2) ∙ ap (composed.choice (unnumbered h.0)) (composes_one other h.3) ∙ ap unnumbered (sym h.4)
+        ap (λ s. composed.choice s (unnumbered second)) (composes_one one h.2)
+        ∙ ap (composed.choice (unnumbered h.0)) (composes_one other h.3) ∙ ap unnumbered (sym h.4)
     composes_one (by_group {q2 = second} one other) again =
         let h = composes_by again in
-        ap (λ s. composed.group s (unnumbered second)) (composes_one one h.2) ∙ ap (composed.group (unnumbered h.0)) (composes_one other h.3) ∙ ap unnumbered (sym h.4)
+        ap (λ s. composed.group s (unnumbered second)) (composes_one one h.2)
+        ∙ ap (composed.group (unnumbered h.0)) (composes_one other h.3) ∙ ap unnumbered (sym h.4)
     composes_one (by_interleave {q2 = second} one other) again =
         let h = composes_by again in
-        ap (λ s. composed.interleave s (unnumbered second)) (composes_one one h.2) ∙ ap (composed.interleave (unnumbered h.0)) (composes_one other h.3) ∙ ap unnumbered (sym h.4)
+        ap (λ s. composed.interleave s (unnumbered second)) (composes_one one h.2)
+        ∙ ap (composed.interleave (unnumbered h.0)) (composes_one other h.3) ∙ ap unnumbered (sym h.4)
 
-    file_one : {context : Context} {surface : WrittenSurface} {q r : Composed} → ComposesFile files context surface q → ComposesFile files context surface r → unnumbered q ≡ unnumbered r
+    file_one : {context : Context} {surface : WrittenSurface} {q r : Composed} → ComposesFile files context surface q →
+        ComposesFile files context surface r → unnumbered q ≡ unnumbered r
     file_one (of_pattern part) again = composes_one part (file_by again)
     file_one (of_grammar gathered) again = let h = file_by again in ap composed.grammar (gathers_one gathered h.1) ∙ ap unnumbered (sym h.2)
 
-    pub gathers_one : {context : Context} {items : WrittenItems} {all also : Clauses} → Gathers files context items all → Gathers files context items also → unnumbered_in all ≡ unnumbered_in also
+    pub gathers_one : {context : Context} {items : WrittenItems} {all also : Clauses} → Gathers files context items all →
+        Gathers files context items also → unnumbered_in all ≡ unnumbered_in also
     gathers_one no_item again = ap unnumbered_in (sym (gathers_by again))
     gathers_one (definition {name = name} {combine = combine} {clauses = rest} part more) again =
         let h = gathers_by again in
@@ -254,7 +299,8 @@ module _ (decided : JoinsIsDecided) (files : FileMap) where
         (both_but_for new h.new old h.old new_same old_same)
         (both_then new h.new rest h.clauses (then_clauses new rest) (then_clauses h.new h.clauses) refl refl new_same (gathers_one more h.more))
 
-    anew_one : {context : Context} {replacements : WrittenReplacements} {all also : Clauses} → GathersAnew files context replacements all → GathersAnew files context replacements also → unnumbered_in all ≡ unnumbered_in also
+    anew_one : {context : Context} {replacements : WrittenReplacements} {all also : Clauses} → GathersAnew files context replacements all →
+        GathersAnew files context replacements also → unnumbered_in all ≡ unnumbered_in also
     anew_one none_anew again = ap unnumbered_in (sym (anew_by again))
     anew_one (definition_anew {name = name} {combine = combine} {clauses = rest} part more) again =
         let h = anew_by again in
@@ -266,7 +312,8 @@ module _ (decided : JoinsIsDecided) (files : FileMap) where
         both_then first h.0 rest h.1 all also is h.4 (anew_one inside h.2) (anew_one more h.3)
 
 -- files make one piece
-pub piece_one : JoinsIsDecided → (files : FileMap) (uri : List ℕ) (whole other : Composed) → ComposesSchema files uri whole → ComposesSchema files uri other → unnumbered whole ≡ unnumbered other
+pub piece_one : JoinsIsDecided → (files : FileMap) (uri : List ℕ) (whole other : Composed) → ComposesSchema files uri whole →
+    ComposesSchema files uri other → unnumbered whole ≡ unnumbered other
 piece_one decided files uri whole other is also =
     let same = says_one files uri also.surface is.surface also.says is.says in
     let P : WrittenSurface → Type 0 = λ surface. ComposesFile files (top uri) surface other in

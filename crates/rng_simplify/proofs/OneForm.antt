@@ -40,7 +40,8 @@ SimpleBy composed.empty scopes q = q ≡ form.empty
 SimpleBy composed.any_text scopes q = q ≡ form.any_text
 SimpleBy composed.not_allowed scopes q = q ≡ form.not_allowed
 SimpleBy (composed.value type text) scopes q = q ≡ form.value (record { type = type; text = text })
-SimpleBy (composed.typed type params except) scopes q = (r : Form) × (values : List Value) × Simple scopes except r × (values_of r ≡ Some values) × (q ≡ form.typed type params values)
+SimpleBy (composed.typed type params except) scopes q =
+    (r : Form) × (values : List Value) × Simple scopes except r × (values_of r ≡ Some values) × (q ≡ form.typed type params values)
 SimpleBy (composed.grammar clauses) scopes q = Defines clauses scopes defined.Start q
 SimpleBy (composed.one_or_more p) scopes q = (r : Form) × Simple scopes p r × (q ≡ one_or_more_of r)
 SimpleBy (composed.choice p1 p2) scopes q = BothBy scopes p1 p2 choice_of q
@@ -66,14 +67,18 @@ simple_by (simple_parent_ref named) = named
 
 -- what a name stands for is its definitions' forms, joined
 abbrev DefinesBy : Clauses → List Clauses → Defined → Form → Type 0
-DefinesBy scope outer name q = (first : Form) × (more : List Form) × AreSimple (scope ∷ outer) (bodies (defining name scope)) (first ∷ more) × (q ≡ bodies_form (combine_of (combines (defining name scope))) (first ∷ more))
+DefinesBy scope outer name q =
+    (first : Form) × (more : List Form) × AreSimple (scope ∷ outer) (bodies (defining name scope)) (first ∷ more)
+    × (q ≡ bodies_form (combine_of (combines (defining name scope))) (first ∷ more))
 
-defines_by : {scope : Clauses} {outer : List Clauses} {name : Defined} {q : Form} → Defines scope outer name q → DefinesBy scope outer name q
+defines_by : {scope : Clauses} {outer : List Clauses} {name : Defined} {q : Form} → Defines scope outer name q →
+    DefinesBy scope outer name q
 defines_by (joined_in_order are is) = (_, _, are, is)
 
 abbrev AreSimpleBy : List Composed → List Clauses → List Form → Type 0
 AreSimpleBy [] scopes qs = qs ≡ []
-AreSimpleBy (p ∷ ps) scopes qs = (first : Form) × (more : List Form) × Simple scopes p first × AreSimple scopes ps more × (qs ≡ first ∷ more)
+AreSimpleBy (p ∷ ps) scopes qs =
+    (first : Form) × (more : List Form) × Simple scopes p first × AreSimple scopes ps more × (qs ≡ first ∷ more)
 
 are_simple_by : {scopes : List Clauses} {ps : List Composed} {qs : List Form} → AreSimple scopes ps qs → AreSimpleBy ps scopes qs
 are_simple_by none_simple = refl
@@ -84,7 +89,8 @@ are_simple_by (next_simple one more) = (_, _, one, more, refl)
 mutual
   pub simple_one : {scopes : List Clauses} {p : Composed} {q r : Form} → Simple scopes p q → Simple scopes p r → q ≡ r
   simple_one simple_element again = sym (simple_by again)
-  simple_one (simple_attribute {class = class} part) again = let h = simple_by again in ap (attribute_of class) (simple_one part h.1) ∙ sym h.2
+  simple_one (simple_attribute {class = class} part) again =
+      let h = simple_by again in ap (attribute_of class) (simple_one part h.1) ∙ sym h.2
   simple_one (simple_list part) again = let h = simple_by again in ap list_of (simple_one part h.1) ∙ sym h.2
   simple_one simple_empty again = sym (simple_by again)
   simple_one simple_text again = sym (simple_by again)
@@ -108,12 +114,14 @@ mutual
   simple_one (simple_ref named) again = defines_one named (simple_by again)
   simple_one (simple_parent_ref named) again = defines_one named (simple_by again)
 
-  defines_one : {scope : Clauses} {outer : List Clauses} {name : Defined} {q r : Form} → Defines scope outer name q → Defines scope outer name r → q ≡ r
+  defines_one : {scope : Clauses} {outer : List Clauses} {name : Defined} {q r : Form} → Defines scope outer name q →
+      Defines scope outer name r → q ≡ r
   defines_one (joined_in_order {scope = scope} {name = name} are is) again =
       let h = defines_by again in
       is ∙ ap (bodies_form (combine_of (combines (defining name scope)))) (are_simple_one are h.2) ∙ sym h.3
 
-  are_simple_one : {scopes : List Clauses} {ps : List Composed} {qs rs : List Form} → AreSimple scopes ps qs → AreSimple scopes ps rs → qs ≡ rs
+  are_simple_one : {scopes : List Clauses} {ps : List Composed} {qs rs : List Form} → AreSimple scopes ps qs → AreSimple scopes ps rs →
+      qs ≡ rs
   are_simple_one none_simple again = sym (are_simple_by again)
   are_simple_one (next_simple {qs = qs} one more) again =
       let h = are_simple_by again in
@@ -129,23 +137,30 @@ pub record IsElementOf (whole : Composed) (n : ℕ) : Type 0 where
   pub occurs : Occurs whole (place scopes (composed.element n class pattern))
 
 mutual
-  number_occurs : (whole : Composed) (scopes : List Clauses) (p : Composed) (n : ℕ) → Occurs whole (place scopes p) → Contains (numbers p) n → IsElementOf whole n
+  number_occurs : (whole : Composed) (scopes : List Clauses) (p : Composed) (n : ℕ) → Occurs whole (place scopes p) →
+      Contains (numbers p) n → IsElementOf whole n
   number_occurs whole scopes (composed.element number class p) n occurs among =
       elim (in_cases number (numbers p) n among) [
-        | inl is ↦ let P : ℕ → Type 0 = λ m. Occurs whole (place scopes (composed.element m class p)) in record { scopes = scopes; class = class; pattern = p; occurs = subst P is occurs }
+        | inl is ↦ let P : ℕ → Type 0 = λ m. Occurs whole (place scopes (composed.element m class p)) in
+            record { scopes = scopes; class = class; pattern = p; occurs = subst P is occurs }
         | inr more ↦ number_occurs whole scopes p n (further_in occurs a_content) more
       ]
-  number_occurs whole scopes (composed.attribute class p) n occurs among = number_occurs whole scopes p n (further_in occurs (a_part (in_first p []))) among
-  number_occurs whole scopes (composed.listed p) n occurs among = number_occurs whole scopes p n (further_in occurs (a_part (in_first p []))) among
+  number_occurs whole scopes (composed.attribute class p) n occurs among =
+      number_occurs whole scopes p n (further_in occurs (a_part (in_first p []))) among
+  number_occurs whole scopes (composed.listed p) n occurs among =
+      number_occurs whole scopes p n (further_in occurs (a_part (in_first p []))) among
   number_occurs whole scopes (composed.ref name) n occurs among = absurd (in_none among)
   number_occurs whole scopes (composed.parent_ref name) n occurs among = absurd (in_none among)
   number_occurs whole scopes composed.empty n occurs among = absurd (in_none among)
   number_occurs whole scopes composed.any_text n occurs among = absurd (in_none among)
   number_occurs whole scopes composed.not_allowed n occurs among = absurd (in_none among)
   number_occurs whole scopes (composed.value type text) n occurs among = absurd (in_none among)
-  number_occurs whole scopes (composed.typed type params except) n occurs among = number_occurs whole scopes except n (further_in occurs (a_part (in_first except []))) among
-  number_occurs whole scopes (composed.grammar clauses) n occurs among = number_occurs_in whole scopes clauses clauses n occurs (λ q within. within) among
-  number_occurs whole scopes (composed.one_or_more p) n occurs among = number_occurs whole scopes p n (further_in occurs (a_part (in_first p []))) among
+  number_occurs whole scopes (composed.typed type params except) n occurs among =
+      number_occurs whole scopes except n (further_in occurs (a_part (in_first except []))) among
+  number_occurs whole scopes (composed.grammar clauses) n occurs among =
+      number_occurs_in whole scopes clauses clauses n occurs (λ q within. within) among
+  number_occurs whole scopes (composed.one_or_more p) n occurs among =
+      number_occurs whole scopes p n (further_in occurs (a_part (in_first p []))) among
   number_occurs whole scopes (composed.choice p q) n occurs among =
       elim (Contains-append_cases (numbers p) (numbers q) n among) [
         | inl first ↦ number_occurs whole scopes p n (further_in occurs (a_part (in_first p (q ∷ [])))) first
@@ -162,7 +177,9 @@ mutual
         | inr second ↦ number_occurs whole scopes q n (further_in occurs (a_part (in_more p (q ∷ []) q (in_first q [])))) second
       ]
 
-  number_occurs_in : (whole : Composed) (scopes : List Clauses) (all clauses : Clauses) (n : ℕ) → Occurs whole (place scopes (composed.grammar all)) → ((q : Composed) → Contains (bodies clauses) q → Contains (bodies all) q) → Contains (numbers_in clauses) n → IsElementOf whole n
+  number_occurs_in : (whole : Composed) (scopes : List Clauses) (all clauses : Clauses) (n : ℕ) →
+      Occurs whole (place scopes (composed.grammar all)) → ((q : Composed) → Contains (bodies clauses) q → Contains (bodies all) q) →
+      Contains (numbers_in clauses) n → IsElementOf whole n
   number_occurs_in whole scopes all end_of_clauses n occurs within among = absurd (in_none among)
   number_occurs_in whole scopes all (clause_then name combine p more) n occurs within among =
       elim (Contains-append_cases (numbers p) (numbers_in more) n among) [
@@ -175,7 +192,8 @@ mutual
 abbrev no_definition : FormDefinition
 no_definition = record { class = any_name; content = form.empty }
 
-module _ (whole : Composed) (start : Form) (definitions : List FormDefinition) (is : IsForm whole start definitions) (other : Form) (others : List FormDefinition) (also : IsForm whole other others) where
+module _ (whole : Composed) (start : Form) (definitions : List FormDefinition) (is : IsForm whole start definitions) (other : Form)
+    (others : List FormDefinition) (also : IsForm whole other others) where
   pub start_same : start ≡ other
   start_same = simple_one is.start_is also.start_is
 

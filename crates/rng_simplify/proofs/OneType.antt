@@ -30,10 +30,13 @@ string_is_no_token same =
 module _ (type : TypeName) (datatype : Datatype) where
   -- one value takes this, before what others take
   pub data TakesFirst (v : Value) (values : List Value) (excepts : List Except) : Type 0 where
-    takes_own : (more : List Except) → v.type ≡ type → Accepts datatype v.text → AreExcepts type datatype values more → excepts ≡ Own v.text ∷ more → TakesFirst v values excepts
+    takes_own : (more : List Except) → v.type ≡ type → Accepts datatype v.text → AreExcepts type datatype values more →
+        excepts ≡ Own v.text ∷ more → TakesFirst v values excepts
     takes_nothing : v.type ≡ type → ¬ Accepts datatype v.text → AreExcepts type datatype values excepts → TakesFirst v values excepts
-    takes_string : (more : List Except) → v.type ≡ builtin_string → type ≢ builtin_string → AreExcepts type datatype values more → excepts ≡ BuiltinString v.text ∷ more → TakesFirst v values excepts
-    takes_token : (more : List Except) → v.type ≡ builtin_token → type ≢ builtin_token → AreExcepts type datatype values more → excepts ≡ BuiltinToken v.text ∷ more → TakesFirst v values excepts
+    takes_string : (more : List Except) → v.type ≡ builtin_string → type ≢ builtin_string → AreExcepts type datatype values more →
+        excepts ≡ BuiltinString v.text ∷ more → TakesFirst v values excepts
+    takes_token : (more : List Except) → v.type ≡ builtin_token → type ≢ builtin_token → AreExcepts type datatype values more →
+        excepts ≡ BuiltinToken v.text ∷ more → TakesFirst v values excepts
 
   abbrev TakenBy : List Value → List Except → Type 0
   TakenBy [] excepts = excepts ≡ []
@@ -46,7 +49,8 @@ module _ (type : TypeName) (datatype : Datatype) where
   taken_by (string_value other more) = takes_string _ refl other more refl
   taken_by (token_value other more) = takes_token _ refl other more refl
 
-  excepts_one : {values : List Value} {some others : List Except} → AreExcepts type datatype values some → AreExcepts type datatype values others → some ≡ others
+  excepts_one : {values : List Value} {some others : List Except} → AreExcepts type datatype values some →
+      AreExcepts type datatype values others → some ≡ others
   excepts_one no_except again = sym (taken_by again)
   excepts_one (own_value {text = text} accepted more) again = elim (taken_by again) [
     | takes_own rest own also others is ↦ ap (λ es. Own text ∷ es) (excepts_one more others) ∙ sym is
@@ -81,7 +85,8 @@ TypedBy form.empty q = q ≡ pattern.empty
 TypedBy form.any_text q = q ≡ pattern.any_text
 TypedBy (form.value v) q = (datatype : Datatype) × (datatype_of v.type [] ≡ Ok datatype) × (q ≡ pattern.literal datatype v.text)
 TypedBy (form.typed type params values) q =
-    (datatype : Datatype) × (excepts : List Except) × (datatype_of type params ≡ Ok datatype) × AreExcepts type datatype values excepts × (q ≡ pattern.typed datatype excepts)
+    (datatype : Datatype) × (excepts : List Except) × (datatype_of type params ≡ Ok datatype) × AreExcepts type datatype values excepts
+    × (q ≡ pattern.typed datatype excepts)
 TypedBy (form.listed p) q = (r : Pattern) × Typed p r × (q ≡ pattern.listed r)
 TypedBy (form.attribute class p) q = (r : Pattern) × Typed p r × (q ≡ pattern.attribute class r)
 TypedBy (form.ref number) q = q ≡ pattern.ref number
@@ -117,7 +122,8 @@ typed_one (typed_type {type = type} {params = params} {values = values} {datatyp
     let P : Datatype → Type 0 = λ d. AreExcepts type d values excepts in
     ap (λ d. pattern.typed d excepts) same ∙ ap (pattern.typed h.0) (excepts_one type h.0 (subst P same taken) h.3) ∙ sym h.4
 typed_one (typed_list part) again = let h = typed_by again in ap pattern.listed (typed_one part h.1) ∙ sym h.2
-typed_one (typed_attribute {class = class} part) again = let h = typed_by again in ap (pattern.attribute class) (typed_one part h.1) ∙ sym h.2
+typed_one (typed_attribute {class = class} part) again =
+    let h = typed_by again in ap (pattern.attribute class) (typed_one part h.1) ∙ sym h.2
 typed_one typed_ref again = sym (typed_by again)
 typed_one (typed_one_or_more part) again = let h = typed_by again in ap pattern.one_or_more (typed_one part h.1) ∙ sym h.2
 typed_one (typed_choice {q2 = second} one other) again =
@@ -134,7 +140,8 @@ typed_one (typed_interleave {q2 = second} one other) again =
 
 abbrev AreTypedBy : List FormDefinition → List Definition → Type 0
 AreTypedBy [] ds = ds ≡ []
-AreTypedBy (f ∷ fs) ds = (q : Pattern) × (more : List Definition) × Typed f.content q × AreTyped fs more × (ds ≡ record { class = f.class; content = q } ∷ more)
+AreTypedBy (f ∷ fs) ds =
+    (q : Pattern) × (more : List Definition) × Typed f.content q × AreTyped fs more × (ds ≡ record { class = f.class; content = q } ∷ more)
 
 are_typed_by : {fs : List FormDefinition} {ds : List Definition} → AreTyped fs ds → AreTypedBy fs ds
 are_typed_by none_typed = refl
@@ -144,13 +151,17 @@ pub are_typed_one : {fs : List FormDefinition} {ds es : List Definition} → Are
 are_typed_one none_typed again = sym (are_typed_by again)
 are_typed_one (next_typed {class = class} {qs = ds} one more) again =
     let h = are_typed_by again in
-    ap (λ (q : Pattern). record { class = class; content = q } ∷ ds) (typed_one one h.2) ∙ ap (λ rest. record { class = class; content = h.0 } ∷ rest) (are_typed_one more h.3) ∙ sym h.4
+    ap (λ (q : Pattern). record { class = class; content = q } ∷ ds) (typed_one one h.2)
+    ∙ ap (λ rest. record { class = class; content = h.0 } ∷ rest) (are_typed_one more h.3) ∙ sym h.4
 
 -- a schema in one piece has one grammar
-pub grammar_one : (whole : Composed) (start other : Pattern) (definitions others : List Definition) → IsSimplified whole start definitions → IsSimplified whole other others → (start ≡ other) × (definitions ≡ others)
+pub grammar_one : (whole : Composed) (start other : Pattern) (definitions others : List Definition) → IsSimplified whole start definitions →
+    IsSimplified whole other others → (start ≡ other) × (definitions ≡ others)
 grammar_one whole start other definitions others is also =
     let P : Form → Type 0 = λ p. Typed p start in
     let Q : List FormDefinition → Type 0 = λ ps. AreTyped ps definitions in (
-      typed_one (subst P (start_same whole is.start_form is.definition_forms is.form also.start_form also.definition_forms also.form) is.start_is) also.start_is,
+      typed_one
+          (subst P (start_same whole is.start_form is.definition_forms is.form also.start_form also.definition_forms also.form) is.start_is)
+          also.start_is,
       are_typed_one (subst Q (definitions_same whole is.start_form is.definition_forms is.form also.start_form also.definition_forms also.form) is.definitions_are) also.definitions_are,
     )

@@ -27,14 +27,17 @@ names_then : (first more : Clauses) → names_of (then_clauses first more) ≡ n
 names_then end_of_clauses more = refl
 names_then (clause_then name combine p first) more = ap (λ names. name ∷ names) (names_then first more)
 
-names_gathered : {files : FileMap} {context : Context} {replacements : WrittenReplacements} {new : Clauses} → GathersAnew files context replacements new → names_of new ≡ names_anew replacements
+names_gathered : {files : FileMap} {context : Context} {replacements : WrittenReplacements} {new : Clauses} →
+    GathersAnew files context replacements new → names_of new ≡ names_anew replacements
 names_gathered none_anew = refl
 names_gathered (definition_anew {name = name} part more) = ap (λ names. name ∷ names) (names_gathered more)
 names_gathered (division_anew {inside = inside} {first = first} {clauses = rest} within more is) =
-    ap names_of is ∙ names_then first rest ∙ ap (λ names. names ++ names_of rest) (names_gathered within) ∙ ap (λ names. names_anew inside ++ names) (names_gathered more)
+    ap names_of is ∙ names_then first rest ∙ ap (λ names. names ++ names_of rest) (names_gathered within)
+    ∙ ap (λ names. names_anew inside ++ names) (names_gathered more)
 
 -- each of them is defined
-each_defined : (old : Clauses) (names : List Defined) (name : Defined) → DefinesEach old names → Contains names name → defines name old ≡ true
+each_defined : (old : Clauses) (names : List Defined) (name : Defined) → DefinesEach old names → Contains names name →
+    defines name old ≡ true
 each_defined old [] name each among = absurd (in_none among)
 each_defined old (first ∷ names) name each among =
     elim (in_cases first names name among) [
@@ -48,7 +51,8 @@ module _ (files : FileMap) where
   -- the file is one piece, as a pattern or as the definitions of a grammar
   pub data IsWhole (context : Context) (surface : WrittenSurface) : Type 0 where
     as_file : (q : Composed) → ComposesFile files context surface q → IsWhole context surface
-    as_items : (items : WrittenItems) (clauses : Clauses) → grammar_items surface ≡ Some items → Gathers files context items clauses → IsWhole context surface
+    as_items : (items : WrittenItems) (clauses : Clauses) → grammar_items surface ≡ Some items → Gathers files context items clauses →
+        IsWhole context surface
 
   -- an include leads to a grammar, which defines all that is defined anew
   pub record IsIncluded (inner : Context) (surface : WrittenSurface) (replacements : WrittenReplacements) : Type 0 where
@@ -78,12 +82,14 @@ module _ (files : FileMap) where
   no_mention : {context : Context} → EachLeads context []
   no_mention mention among = absurd (in_none among)
 
-  both_lead : {context : Context} (first second : List Mention) → EachLeads context first → EachLeads context second → EachLeads context (first ++ second)
+  both_lead : {context : Context} (first second : List Mention) → EachLeads context first → EachLeads context second →
+      EachLeads context (first ++ second)
   both_lead first second one other mention among =
       elim (Contains-append_cases first second mention among) [ inl here ↦ one mention here | inr there ↦ other mention there ]
 
   one_leads : {context : Context} (first : Mention) → LeadsToFile context first → EachLeads context (first ∷ [])
-  one_leads {context = context} first leads mention among = let P : Mention → Type 0 = LeadsToFile context in subst P (in_one first mention among) leads
+  one_leads {context = context} first leads mention among =
+      let P : Mention → Type 0 = LeadsToFile context in subst P (in_one first mention among) leads
 
   mutual
     pattern_leads : {context : Context} {p : WrittenPattern} {q : Composed} → Composes files context p q → EachLeads context (mentions p)
@@ -105,14 +111,19 @@ module _ (files : FileMap) where
     pattern_leads (by_zero_or_more part) = pattern_leads part
     pattern_leads (by_one_or_more part) = pattern_leads part
     pattern_leads (by_mixed part) = pattern_leads part
-    pattern_leads (by_choice {p1 = p1} {p2 = p2} one other) = both_lead (mentions p1) (mentions p2) (pattern_leads one) (pattern_leads other)
+    pattern_leads (by_choice {p1 = p1} {p2 = p2} one other) =
+        both_lead (mentions p1) (mentions p2) (pattern_leads one) (pattern_leads other)
     pattern_leads (by_group {p1 = p1} {p2 = p2} one other) = both_lead (mentions p1) (mentions p2) (pattern_leads one) (pattern_leads other)
-    pattern_leads (by_interleave {p1 = p1} {p2 = p2} one other) = both_lead (mentions p1) (mentions p2) (pattern_leads one) (pattern_leads other)
+    pattern_leads (by_interleave {p1 = p1} {p2 = p2} one other) =
+        both_lead (mentions p1) (mentions p2) (pattern_leads one) (pattern_leads other)
 
-    items_lead : {context : Context} {items : WrittenItems} {clauses : Clauses} → Gathers files context items clauses → EachLeads context (mentions_of_items items)
+    items_lead : {context : Context} {items : WrittenItems} {clauses : Clauses} → Gathers files context items clauses →
+        EachLeads context (mentions_of_items items)
     items_lead no_item = no_mention
-    items_lead (definition {p = p} {items = items} part more) = both_lead (mentions p) (mentions_of_items items) (pattern_leads part) (items_lead more)
-    items_lead (division {inside = inside} {items = items} within more is) = both_lead (mentions_of_items inside) (mentions_of_items items) (items_lead within) (items_lead more)
+    items_lead (definition {p = p} {items = items} part more) =
+        both_lead (mentions p) (mentions_of_items items) (pattern_leads part) (items_lead more)
+    items_lead (division {inside = inside} {items = items} within more is) =
+        both_lead (mentions_of_items inside) (mentions_of_items items) (items_lead within) (items_lead more)
     items_lead (inclusion {reference = reference} {replacements = replacements} {others = others} {items = items} {old = old} {new = new} opens is_grammar gathered anew each more is) =
         both_lead (an_include reference replacements ∷ mentions_anew replacements) (mentions_of_items items)
         (both_lead (an_include reference replacements ∷ []) (mentions_anew replacements)
@@ -126,17 +137,22 @@ module _ (files : FileMap) where
         (anew_lead anew))
         (items_lead more)
 
-    anew_lead : {context : Context} {replacements : WrittenReplacements} {clauses : Clauses} → GathersAnew files context replacements clauses → EachLeads context (mentions_anew replacements)
+    anew_lead : {context : Context} {replacements : WrittenReplacements} {clauses : Clauses} →
+        GathersAnew files context replacements clauses → EachLeads context (mentions_anew replacements)
     anew_lead none_anew = no_mention
-    anew_lead (definition_anew {p = p} {replacements = replacements} part more) = both_lead (mentions p) (mentions_anew replacements) (pattern_leads part) (anew_lead more)
-    anew_lead (division_anew {inside = inside} {replacements = replacements} within more is) = both_lead (mentions_anew inside) (mentions_anew replacements) (anew_lead within) (anew_lead more)
+    anew_lead (definition_anew {p = p} {replacements = replacements} part more) =
+        both_lead (mentions p) (mentions_anew replacements) (pattern_leads part) (anew_lead more)
+    anew_lead (division_anew {inside = inside} {replacements = replacements} within more is) =
+        both_lead (mentions_anew inside) (mentions_anew replacements) (anew_lead within) (anew_lead more)
 
-  file_leads : {context : Context} {surface : WrittenSurface} {q : Composed} → ComposesFile files context surface q → EachLeads context (mentions_of surface)
+  file_leads : {context : Context} {surface : WrittenSurface} {q : Composed} → ComposesFile files context surface q →
+      EachLeads context (mentions_of surface)
   file_leads (of_pattern part) = pattern_leads part
   file_leads (of_grammar gathered) = items_lead gathered
 
   -- the items of a grammar mention what its file mentions
-  items_mention : (surface : WrittenSurface) (items : WrittenItems) → grammar_items surface ≡ Some items → mentions_of surface ≡ mentions_of_items items
+  items_mention : (surface : WrittenSurface) (items : WrittenItems) → grammar_items surface ≡ Some items →
+      mentions_of surface ≡ mentions_of_items items
   items_mention (a_grammar others) items is = ap mentions_of_items (same_Some others items is)
   items_mention (a_pattern (written.grammar others)) items is = ap mentions_of_items (same_Some others items is)
   items_mention (a_pattern p) items is = let never : ⊥ = cc in absurd never
@@ -155,7 +171,8 @@ module _ (files : FileMap) where
       pub says : Says files context.uri surface
       pub is_whole : IsWhole context surface
 
-    leads_from : {context : Context} {surface : WrittenSurface} {mention : Mention} → IsGoodFile context → Says files context.uri surface → Contains (mentions_of surface) mention → LeadsToFile context mention
+    leads_from : {context : Context} {surface : WrittenSurface} {mention : Mention} → IsGoodFile context → Says files context.uri surface →
+        Contains (mentions_of surface) mention → LeadsToFile context mention
     leads_from {context = context} {surface = surface} {mention = mention} good says mentioned =
         let P : WrittenSurface → Type 0 = λ s. Contains (mentions_of s) mention in
         whole_leads good.is_whole mention (subst P (says_one files context.uri surface good.surface says good.says) mentioned)
@@ -164,8 +181,10 @@ module _ (files : FileMap) where
     good_file the_first = record { surface = schema.surface; says = schema.says; is_whole = as_file whole schema.composed }
     good_file (a_further {context = context} {surface = surface} {mention = mention} {other = other} reached says mentioned joins apart) =
         let leads = leads_from (good_file reached) says mentioned in
-        let uris : leads.opens.uri ≡ other = decided.1 context.uri (reference_of mention).uri leads.opens.uri other leads.opens.joined joins in
-        let inner : leads.inner ≡ referred context (reference_of mention) other = leads.opens.inner_is ∙ ap (referred context (reference_of mention)) uris in
+        let uris : leads.opens.uri ≡ other =
+        decided.1 context.uri (reference_of mention).uri leads.opens.uri other leads.opens.joined joins in
+        let inner : leads.inner ≡ referred context (reference_of mention) other =
+        leads.opens.inner_is ∙ ap (referred context (reference_of mention)) uris in
         let P : List ℕ → Type 0 = λ u. Says files u leads.surface in
         let Q : Context → Type 0 = λ k. IsWhole k leads.surface in
         record { surface = leads.surface; says = subst P uris leads.opens.says; is_whole = subst Q inner leads.whole }
@@ -219,12 +238,16 @@ module _ (files : FileMap) where
     replaces_never h =
         let leads = mention_leads h.mentioned in
         let same = opens_one decided files h.context h.reference h.inner leads.inner h.surface leads.surface h.opens leads.opens in
-        let items : h.items ≡ leads.included.items = same_Some h.items leads.included.items (sym h.items_are ∙ ap grammar_items same.surface_is ∙ leads.included.is_grammar) in
+        let items : h.items ≡ leads.included.items =
+        same_Some h.items leads.included.items (sym h.items_are ∙ ap grammar_items same.surface_is ∙ leads.included.is_grammar) in
         let P : Context → Type 0 = λ k. Gathers files k h.items h.clauses in
         let Q : WrittenItems → Type 0 = λ s. Gathers files leads.inner s h.clauses in
-        let clauses : unnumbered_in h.clauses ≡ unnumbered_in leads.included.old = gathers_one decided files (subst Q items (subst P same.context h.gathered)) leads.included.gathered in
+        let clauses : unnumbered_in h.clauses ≡ unnumbered_in leads.included.old =
+        gathers_one decided files (subst Q items (subst P same.context h.gathered)) leads.included.gathered in
         let R : List Defined → Type 0 = λ names. Contains names h.name in
-        let defined : defines h.name leads.included.old ≡ true = each_defined leads.included.old (names_of leads.included.new) h.name leads.included.each (subst R (sym leads.included.anew) h.anew) in
+        let defined : defines h.name leads.included.old ≡ true =
+        each_defined leads.included.old (names_of leads.included.new) h.name leads.included.each
+        (subst R (sym leads.included.anew) h.anew) in
         let both : false ≡ true = sym h.undefined ∙ defines_same h.name h.clauses leads.included.old clauses ∙ defined in
         let never : ⊥ = cc in
         never

@@ -39,7 +39,8 @@ pub record IsSimplified (whole : Composed) (start : Pattern) (definitions : List
 -- a grammar is that of the schema that cells stand for, where elements have some numbers
 pub record IsGrammarOf (cells : List Cell) (root : ℕ) (grammar : Grammar) : Type 0 where
   pub number : ℕ → ℕ
-  pub simplified : (whole : Composed) → Denotes cells number root whole → IsSimplified whole (pattern_of grammar.start) (definitions_of grammar)
+  pub simplified : (whole : Composed) → Denotes cells number root whole →
+      IsSimplified whole (pattern_of grammar.start) (definitions_of grammar)
   pub sound : IsSound grammar
 
 -- the schema is broken so, where elements have some numbers
@@ -69,11 +70,13 @@ pub record HasForms (cells : List Cell) (root : ℕ) (found : Resolved) (order :
   pub forms_are : AreForms cells found order forms
 
 -- and their types
-pub record HasTypes (cells : List Cell) (root : ℕ) (found : Resolved) (order : List ℕ) (forms : Forms) (types : List (Option NodeType)) : Type 0 where
+pub record HasTypes (cells : List Cell) (root : ℕ) (found : Resolved) (order : List ℕ) (forms : Forms) (types : List (Option NodeType))
+    : Type 0 where
   pub formed : HasForms cells root found order forms
   pub types_are : AreTypesBefore cells order (length order) forms types
 
 -- and are within the limits
-pub record IsMeasured (cells : List Cell) (root : ℕ) (found : Resolved) (order : List ℕ) (forms : Forms) (types : List (Option NodeType)) : Type 0 where
+pub record IsMeasured (cells : List Cell) (root : ℕ) (found : Resolved) (order : List ℕ) (forms : Forms) (types : List (Option NodeType))
+    : Type 0 where
   pub typed : HasTypes cells root found order forms types
   pub limited : (taken : ℕ → List Value) → AreWithinLimits cells taken forms root found.elements.items

@@ -1,6 +1,6 @@
 //! Laws of composing and of simple forms. Nothing here runs.
 
-ghost use Rattle.rng_simplify.specs.Agreeing.{SimpleFormIsOne, SchemaFormIsOne, GrammarIsOne, PieceIsOne, ComposedArePassed};
+ghost use Rattle.rng_simplify.specs.Agreeing.{SimpleFormIsOne, SchemaFormIsOne, GrammarIsOne, PieceIsOne, ComposedArePassed, SimplifiedIsNotBroken};
 ghost use Rattle.rng_simplify.specs.Composition.{NoPieceIsMissing, MadeIsWellFormed, MadeIsText, WellFormedDenotes, MadeIsComposed, RefusedIsBroken};
 ghost use Rattle.rng_simplify.specs.Supplying.{PatternsAreComposed};
 
@@ -66,6 +66,13 @@ pub fn piece_is_one()
 /// Files that make one piece are there, say something, and refer to files as they may.
 pub fn composed_are_passed()
     ensures { ComposedArePassed }
+{
+    joins_is_decided();
+}
+
+/// Files that have a grammar are not broken for a cause that is seen at one place of a schema.
+pub fn simplified_is_not_broken()
+    ensures { SimplifiedIsNotBroken }
 {
     joins_is_decided();
 }
