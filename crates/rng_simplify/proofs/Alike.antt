@@ -1,11 +1,10 @@
 -- Simple forms of a schema in one piece are the same whatever numbers its elements have, but for those numbers.
-use Rattle.std.proofs.Common.{◌≡◌, refl, sym, ap, ◌∙◌, subst, ℕ, Bool, true, false, List, [], ◌∷◌, ◌++◌, map, Option, Some, None}
+use Rattle.std.proofs.Common.{◌≡◌, refl, sym, ap, ◌∙◌, subst, ℕ, Bool, true, false, List, [], ◌∷◌, ◌++◌, map}
 use Rattle.std.specs.Prelude.{if◌then◌else◌}
 use Rattle.std.specs.Option.{option_map, option_and_then}
 use Rattle.rnc_parse.specs.declared.surface.Combine.{Combine}
 use Rattle.rnc_parse.specs.declared.surface.Combine.TheVariants as combine
 use Rattle.rnc_parse.specs.declared.surface.Defined.{Defined}
-use Rattle.rnc_parse.specs.declared.surface.Defined.TheVariants as defined
 use Rattle.rnc_parse.specs.Written.{joined}
 use Rattle.rng_core.specs.Names.{Class}
 use Rattle.rng_simplify.specs.Composed.{Composed, Clauses, end_of_clauses, clause_then, same_defined, defining, combines, bodies}
@@ -227,12 +226,12 @@ defines_of scope outer name c first more q (other ∷ others) c_is is same are =
       form = joined (join_of (combine_of (combines (defining name scope)))) other others;
       defines = joined_in_order are refl;
       same =
-        ap plain is
-        ∙ joined_plain c first more
-        ∙ ap (λ p. joined (join_of c) p (map plain more)) head
-        ∙ ap (joined (join_of c) (plain other)) tail
-        ∙ sym (joined_plain c other others)
-        ∙ ap (λ d. plain (joined (join_of d) other others)) c_is;
+          ap plain is
+          ∙ joined_plain c first more
+          ∙ ap (λ p. joined (join_of c) p (map plain more)) head
+          ∙ ap (joined (join_of c) (plain other)) tail
+          ∙ sym (joined_plain c other others)
+          ∙ ap (λ d. plain (joined (join_of d) other others)) c_is;
     }
 
 mutual

@@ -1,5 +1,5 @@
 -- A schema in one piece is broken for the same causes, whatever numbers its elements have.
-use Rattle.std.proofs.Common.{◌≡◌, refl, sym, ap, ◌∙◌, subst, ℕ, Bool, true, false, inl, inr, ◌⊎◌, List, [], ◌∷◌, map, Contains}
+use Rattle.std.proofs.Common.{◌≡◌, refl, sym, ap, ◌∙◌, subst, ℕ, Bool, true, false, inl, inr, List, [], ◌∷◌, map, Contains}
 use Rattle.std.specs.Prelude.{if◌then◌else◌}
 use Rattle.nx_base.specs.declared.cause.Cause.{Cause}
 use Rattle.nx_base.specs.declared.cause.Cause.TheVariants as cause

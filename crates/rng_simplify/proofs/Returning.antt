@@ -1,9 +1,9 @@
 -- What leads back in a schema in one piece leads back whatever numbers its elements have: its places are so many, and no more.
 use Rattle.std.specs.Prelude.{if◌then◌else◌}
-use Rattle.std.proofs.Common.{◌≡◌, ◌≢◌, Bool, true, false, refl, sym, ap, ◌∙◌, subst, ℕ, zero, suc, ◌+◌, ◌-◌, ◌<◌, ◌≤◌, inl, inr, ◌⊎◌, List, [], ◌∷◌, ◌++◌, length, map, get_or, slice_get, Some, Contains, arith}
+use Rattle.std.proofs.Common.{◌≡◌, Bool, true, false, sym, ap, ◌∙◌, subst, ℕ, zero, suc, ◌-◌, ◌<◌, ◌≤◌, inl, inr, ◌⊎◌, List, [], ◌∷◌, ◌++◌, length, map, slice_get, Some, Contains, arith}
 use Rattle.std.proofs.lemmas.Bool.{cases_lt}
 use Rattle.std.proofs.lemmas.List.Elements.{Contains-append_left, Contains-append_right, Contains-append_cases}
-use Rattle.std.proofs.lemmas.Option.{same_Some, slice_get_within, slice_get-get_or}
+use Rattle.std.proofs.lemmas.Option.{same_Some, slice_get-get_or}
 use Rattle.rnc_parse.specs.declared.surface.Combine.{Combine}
 use Rattle.rnc_parse.specs.declared.surface.Defined.{Defined}
 use Rattle.rnc_parse.specs.declared.surface.Defined.TheVariants as defined
@@ -385,7 +385,7 @@ module _ (whole : Composed) (back : Place) (leads : LeadsOn back back) where
       let one = chain h twice.first in
       let other = chain h twice.second in
       let same : other.at ≡ one.at =
-        same_Some other.at one.at (sym (index other).2 ∙ ap (slice_get (places [] whole)) (sym twice.same) ∙ (index one).2) in
+      same_Some other.at one.at (sym (index other).2 ∙ ap (slice_get (places [] whole)) (sym twice.same) ∙ (index one).2) in
       let P : Place → Type 0 = λ at. LeadsOn one.at at in
       record { scopes = one.at.scopes; pattern = one.at.pattern; occurs = one.occurs; is = subst P same (chain_leads h twice.first twice.second twice.before) }
 
