@@ -1,5 +1,6 @@
 -- A schema in one piece is broken for the same causes, whatever numbers its elements have.
-use Rattle.std.proofs.Common.{◌≡◌, refl, sym, ap, ◌∙◌, subst, ℕ, Bool, true, false, inl, inr, ◌⊎◌, List, [], ◌∷◌, map, Contains}
+use Rattle.std.proofs.lemmas.Option.{same_Some, slice_get_within}
+use Rattle.std.proofs.Common.{◌≡◌, arith, ◌<◌, ◌≤◌, slice_get, refl, sym, ap, ◌∙◌, subst, ℕ, Bool, true, false, inl, inr, ◌⊎◌, List, [], ◌∷◌, map, Contains}
 use Rattle.std.specs.Prelude.{if◌then◌else◌}
 use Rattle.nx_base.specs.declared.cause.Cause.{Cause}
 use Rattle.nx_base.specs.declared.cause.Cause.TheVariants as cause
@@ -12,18 +13,22 @@ use Rattle.rnc_parse.specs.declared.surface.Defined.{Defined}
 use Rattle.rnc_parse.specs.declared.surface.Defined.TheVariants as defined
 use Rattle.rng_core.specs.Names.{Class}
 use Rattle.rng_core.specs.Patterns.{Pattern, Definition}
-use Rattle.rng_simplify.specs.Agreeing.{IsOfPlaces}
-use Rattle.rng_simplify.specs.Broken.{Has, IsUndefined, HasNoStart, clash, HasClash, LeadsBack, HasBadExcept, HasXmlnsName, HasRefusedType, IsBadValue, IsUnsupported, HasTooManyExcepts, WholeIsBroken, PieceIsBroken, IsBroken}
+use Rattle.rng_simplify.specs.Agreeing.{ArePassed}
+use Rattle.rng_simplify.specs.Broken.{Has, IsUndefined, HasNoStart, clash, HasClash, LeadsBack, HasBadExcept, HasXmlnsName, HasRefusedType, IsBadValue, IsUnsupported, HasTooManyExcepts, node_limit, nodes_of_all, IsTooDeep, IsTooLarge, WholeIsBroken, PieceIsBroken, IsBroken}
 use Rattle.rng_simplify.specs.Composed.{Composed, Clauses, end_of_clauses, clause_then, same_defined, defines, defining, combines, bodies}
 use Rattle.rng_simplify.specs.Composed as composed
+use Rattle.rng_simplify.specs.Forms.{Form, FormDefinition, depth}
 use Rattle.rng_simplify.specs.Places.{Place, place, parts, IsIn, a_part, a_content, a_definition, Occurs, the_whole, further_in}
 use Rattle.rng_simplify.specs.Simplified.{Simplifies}
+use Rattle.rng_simplify.specs.Whole.{IsForm}
 use Rattle.rng_simplify.specs.Unnumbered.{unnumbered, unnumbered_in}
-use Rattle.rng_simplify.proofs.Alike.{alike_by, simple_alike, values_same, parts_unnumbered}
+use Rattle.rng_simplify.proofs.Alike.{plain, alike_by, simple_alike, values_same, parts_unnumbered}
 use Rattle.rng_simplify.proofs.Nodes.{in_none, in_cases, in_first, in_more}
+use Rattle.rng_simplify.proofs.OneForm.{simple_one, number_occurs}
 use Rattle.rng_simplify.proofs.OneComposed.{defines_unnumbered, piece_one}
 use Rattle.rng_simplify.proofs.Passed.{are_passed}
 use Rattle.rng_simplify.proofs.Returning.{returns_again}
+use Rattle.rng_simplify.proofs.Sizes.{depth_same, starts, same_total}
 
 -- ---- lists
 
@@ -255,40 +260,65 @@ value_back : (scopes : List Clauses) (p : Composed) → IsBadValue (map unnumber
 value_back scopes (composed.value type text) h = h
 value_back scopes p h = absurd h
 
+-- ---- sizes
+
+-- what is too large is too large
+module _ (whole other : Composed) (same : unnumbered whole ≡ unnumbered other) (begin : Form) (others : List FormDefinition) (also : IsForm other begin others) where
+  large_other : (start : Form) (definitions : List FormDefinition) → IsForm whole start definitions → (node_limit < nodes_of_all start definitions) ⊎ IsTooDeep start definitions → (node_limit < nodes_of_all begin others) ⊎ IsTooDeep begin others
+  large_other start definitions is (inl many) = let totals = same_total whole other start begin definitions others is also same in inl (omega arith)
+  large_other start definitions is (inr (inl deep)) =
+      let depths = depth_same start begin (starts whole other start begin definitions others is also same) in inr (inl (omega arith))
+  large_other start definitions is (inr (inr (number, definition, there, deep))) =
+      let e = number_occurs whole [] whole number the_whole ((is.each_number number).1 (slice_get_within definitions number definition there)) in
+      let d = is.each_element e.scopes number e.class e.pattern e.occurs in
+      let n = numbered_at other same (occurs_unnumbered e.occurs) in
+      let h = alike_by (composed.element number e.class e.pattern) n.pattern (sym n.pattern_is) in
+      let P : Composed → Type 0 = λ p. Occurs other (place n.scopes p) in
+      let f = also.each_element n.scopes h.0 e.class h.1 (subst P h.2 n.occurs) in
+      let r = simple_alike d.simple n.scopes h.1 (sym n.scopes_are) (sym h.3) in
+      let depths = depth_same d.content f.content (r.same ∙ ap plain (simple_one r.simple f.simple)) in
+      let here : depth definition.content ≡ depth d.content = ap (λ (k : FormDefinition). depth k.content) (same_Some definition _ (sym there ∙ d.there)) in
+      inr (inr (h.0, record { class = e.class; content = f.content }, f.there, omega arith))
+
+  too_large_other : IsTooLarge whole → IsTooLarge other
+  too_large_other h = record { start = begin; definitions = others; form = also; large = large_other h.start h.definitions h.form h.large }
+
 -- ---- causes
 
-broken_other : (whole other : Composed) → unnumbered whole ≡ unnumbered other → (why : Cause) → IsOfPlaces why → WholeIsBroken whole why → WholeIsBroken other why
-broken_other whole other same cause.NoDefinition of h = has_other IsUndefined undefined_there undefined_back whole other same h
-broken_other whole other same cause.NoStart of h = has_other HasNoStart start_there start_back whole other same h
-broken_other whole other same cause.CombineClash of h = has_other HasClash clash_there clash_back whole other same h
-broken_other whole other same cause.BadExcept of h = has_other HasBadExcept except_there except_back whole other same h
-broken_other whole other same cause.XmlnsName of h = has_other HasXmlnsName xmlns_there xmlns_back whole other same h
-broken_other whole other same cause.UnknownType of h = has_other (HasRefusedType type_fault.UnknownType) (type_there type_fault.UnknownType) (type_back type_fault.UnknownType) whole other same h
-broken_other whole other same cause.UnknownParam of h = has_other (HasRefusedType type_fault.UnknownParam) (type_there type_fault.UnknownParam) (type_back type_fault.UnknownParam) whole other same h
-broken_other whole other same cause.BadParam of h = has_other (HasRefusedType type_fault.BadParam) (type_there type_fault.BadParam) (type_back type_fault.BadParam) whole other same h
-broken_other whole other same cause.BadValue of h = has_other IsBadValue value_there value_back whole other same h
-broken_other whole other same cause.TooManyExcepts of h = has_alike HasTooManyExcepts many_alike whole other same h
-broken_other whole other same cause.UnsupportedExcept of h = has_alike IsUnsupported unsupported_alike whole other same h
-broken_other whole other same cause.RefLoop of h = back_other whole other same h
-broken_other whole other same why of h = absurd of
+broken_other : (whole other : Composed) → unnumbered whole ≡ unnumbered other → (begin : Form) (others : List FormDefinition) → IsForm other begin others → (why : Cause) → WholeIsBroken whole why → WholeIsBroken other why
+broken_other whole other same begin others form cause.NoDefinition h = has_other IsUndefined undefined_there undefined_back whole other same h
+broken_other whole other same begin others form cause.NoStart h = has_other HasNoStart start_there start_back whole other same h
+broken_other whole other same begin others form cause.CombineClash h = has_other HasClash clash_there clash_back whole other same h
+broken_other whole other same begin others form cause.BadExcept h = has_other HasBadExcept except_there except_back whole other same h
+broken_other whole other same begin others form cause.XmlnsName h = has_other HasXmlnsName xmlns_there xmlns_back whole other same h
+broken_other whole other same begin others form cause.UnknownType h = has_other (HasRefusedType type_fault.UnknownType) (type_there type_fault.UnknownType) (type_back type_fault.UnknownType) whole other same h
+broken_other whole other same begin others form cause.UnknownParam h = has_other (HasRefusedType type_fault.UnknownParam) (type_there type_fault.UnknownParam) (type_back type_fault.UnknownParam) whole other same h
+broken_other whole other same begin others form cause.BadParam h = has_other (HasRefusedType type_fault.BadParam) (type_there type_fault.BadParam) (type_back type_fault.BadParam) whole other same h
+broken_other whole other same begin others form cause.BadValue h = has_other IsBadValue value_there value_back whole other same h
+broken_other whole other same begin others form cause.TooManyExcepts h = has_alike HasTooManyExcepts many_alike whole other same h
+broken_other whole other same begin others form cause.UnsupportedExcept h = has_alike IsUnsupported unsupported_alike whole other same h
+broken_other whole other same begin others form cause.RefLoop h = back_other whole other same h
+broken_other whole other same begin others form cause.TooLarge h = too_large_other whole other same begin others form h
+broken_other whole other same begin others form why h = absurd h
 
 module _ (decided : JoinsIsDecided) (files : FileMap) (uri : List ℕ) (start : Pattern) (definitions : List Definition) (simplified : Simplifies files uri start definitions) where
-  piece_never : (why : Cause) → IsOfPlaces why → PieceIsBroken files uri why → ⊥
-  piece_never why of h = simplified.unbroken why (broken_other h.whole simplified.whole (piece_one decided files uri h.whole simplified.whole h.composed simplified.composed) why of h.broken)
+  piece_never : (why : Cause) → PieceIsBroken files uri why → ⊥
+  piece_never why h = simplified.unbroken why (broken_other h.whole simplified.whole (piece_one decided files uri h.whole simplified.whole h.composed simplified.composed) simplified.start_form simplified.definition_forms simplified.form why h.broken)
+
+  passed : ArePassed files uri
+  passed = are_passed decided files uri simplified.whole simplified.composed
 
   -- files that have a grammar are not broken
-  pub never_broken : (why : Cause) → IsOfPlaces why → IsBroken files uri why → ⊥
-  never_broken cause.NoDefinition of (inl h) = (are_passed decided files uri simplified.whole simplified.composed).replaced_defined h
-  never_broken cause.NoDefinition of (inr h) = piece_never cause.NoDefinition of h
-  never_broken cause.NoStart of h = piece_never cause.NoStart of h
-  never_broken cause.CombineClash of h = piece_never cause.CombineClash of h
-  never_broken cause.BadExcept of h = piece_never cause.BadExcept of h
-  never_broken cause.XmlnsName of h = piece_never cause.XmlnsName of h
-  never_broken cause.UnknownType of h = piece_never cause.UnknownType of h
-  never_broken cause.UnknownParam of h = piece_never cause.UnknownParam of h
-  never_broken cause.BadParam of h = piece_never cause.BadParam of h
-  never_broken cause.BadValue of h = piece_never cause.BadValue of h
-  never_broken cause.TooManyExcepts of h = piece_never cause.TooManyExcepts of h
-  never_broken cause.UnsupportedExcept of h = piece_never cause.UnsupportedExcept of h
-  never_broken cause.RefLoop of h = piece_never cause.RefLoop of h
-  never_broken why of h = absurd of
+  pub never_broken : (why : Cause) → IsBroken files uri why → ⊥
+  never_broken cause.BadEscape h = passed.none_refused cause.BadEscape h
+  never_broken cause.BadLiteral h = passed.none_refused cause.BadLiteral h
+  never_broken cause.BadCharacter h = passed.none_refused cause.BadCharacter h
+  never_broken cause.Syntax h = passed.none_refused cause.Syntax h
+  never_broken cause.TooDeep h = passed.none_refused cause.TooDeep h
+  never_broken cause.UndeclaredPrefix h = passed.none_refused cause.UndeclaredPrefix h
+  never_broken cause.Twice h = passed.none_refused cause.Twice h
+  never_broken cause.NotGrammar h = passed.grammars_included h
+  never_broken cause.IncludeLoop h = passed.no_loop h
+  never_broken cause.NoDefinition (inl h) = passed.replaced_defined h
+  never_broken cause.NoDefinition (inr h) = piece_never cause.NoDefinition h
+  never_broken why h = piece_never why h

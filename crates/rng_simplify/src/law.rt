@@ -70,7 +70,7 @@ pub fn composed_are_passed()
     joins_is_decided();
 }
 
-/// Files that have a grammar are not broken for a cause that is seen at one place of a schema.
+/// Files that have a grammar are not broken.
 pub fn simplified_is_not_broken()
     ensures { SimplifiedIsNotBroken }
 {
