@@ -1,6 +1,6 @@
 -- A schema in one piece is broken for the same causes, whatever numbers its elements have.
 use Rattle.std.proofs.lemmas.Option.{same_Some, slice_get_within}
-use Rattle.std.proofs.Common.{◌≡◌, arith, ◌<◌, ◌≤◌, slice_get, refl, sym, ap, ◌∙◌, subst, ℕ, Bool, true, false, inl, inr, ◌⊎◌, List, [], ◌∷◌, map, Contains}
+use Rattle.std.proofs.Common.{◌≡◌, Some, Ok, Err, arith, ◌<◌, ◌≤◌, slice_get, refl, sym, ap, ◌∙◌, subst, ℕ, Bool, true, false, inl, inr, ◌⊎◌, List, [], ◌∷◌, map, Contains}
 use Rattle.std.specs.Prelude.{if◌then◌else◌}
 use Rattle.nx_base.specs.declared.cause.Cause.{Cause}
 use Rattle.nx_base.specs.declared.cause.Cause.TheVariants as cause
@@ -12,14 +12,18 @@ use Rattle.rnc_parse.specs.declared.surface.Combine.{Combine}
 use Rattle.rnc_parse.specs.declared.surface.Defined.{Defined}
 use Rattle.rnc_parse.specs.declared.surface.Defined.TheVariants as defined
 use Rattle.rng_core.specs.Names.{Class}
+use Rattle.rng_core.specs.declared.grammar.Grammar.{Grammar}
+use Rattle.rng_core.specs.Meaning.{pattern_of, definitions_of}
 use Rattle.rng_core.specs.Patterns.{Pattern, Definition}
+use Rattle.rng_simplify.specs.declared.fault.SchemaFault.{SchemaFault}
+use Rattle.rng_simplify.specs.declared.fault.SchemaFault.TheVariants as fault
 use Rattle.rng_simplify.specs.Agreeing.{ArePassed}
 use Rattle.rng_simplify.specs.Broken.{Has, IsUndefined, HasNoStart, clash, HasClash, LeadsBack, HasBadExcept, HasXmlnsName, HasRefusedType, IsBadValue, IsUnsupported, HasTooManyExcepts, node_limit, nodes_of_all, IsTooDeep, IsTooLarge, WholeIsBroken, PieceIsBroken, IsBroken}
 use Rattle.rng_simplify.specs.Composed.{Composed, Clauses, end_of_clauses, clause_then, same_defined, defines, defining, combines, bodies}
 use Rattle.rng_simplify.specs.Composed as composed
 use Rattle.rng_simplify.specs.Forms.{Form, FormDefinition, depth}
 use Rattle.rng_simplify.specs.Places.{Place, place, parts, IsIn, a_part, a_content, a_definition, Occurs, the_whole, further_in}
-use Rattle.rng_simplify.specs.Simplified.{Simplifies}
+use Rattle.rng_simplify.specs.Simplified.{Simplifies, Answers}
 use Rattle.rng_simplify.specs.Whole.{IsForm}
 use Rattle.rng_simplify.specs.Unnumbered.{unnumbered, unnumbered_in}
 use Rattle.rng_simplify.proofs.Alike.{plain, alike_by, simple_alike, values_same, parts_unnumbered}
@@ -322,3 +326,12 @@ module _ (decided : JoinsIsDecided) (files : FileMap) (uri : List ℕ) (start : 
   never_broken cause.NoDefinition (inl h) = passed.replaced_defined h
   never_broken cause.NoDefinition (inr h) = piece_never cause.NoDefinition h
   never_broken why h = piece_never why h
+
+-- nor are they refused for another cause than want of memory or of the files
+pub no_refusal : JoinsIsDecided → (files : FileMap) (uri : List ℕ) (before after : ℕ) (grammar : Grammar) (refusal : SchemaFault) → Answers (Some files) uri before after (Ok grammar) → Answers (Some files) uri before after (Err refusal) → (refusal ≡ fault.NoMemory) ⊎ (refusal ≡ fault.Failed)
+no_refusal decided files uri before after grammar fault.NoMemory h r = inl refl
+no_refusal decided files uri before after grammar fault.Failed h r = inr refl
+no_refusal decided files uri before after grammar (fault.Absent absent) h r = absurd ((are_passed decided files uri h.0.whole h.0.composed).none_absent absent r.0)
+no_refusal decided files uri before after grammar (fault.NotUtf8 wrong at) h r = absurd ((are_passed decided files uri h.0.whole h.0.composed).all_texts wrong at r.0)
+no_refusal decided files uri before after grammar (fault.BadUri text) h r = absurd ((are_passed decided files uri h.0.whole h.0.composed).no_bad_uri text r.0)
+no_refusal decided files uri before after grammar (fault.Unreadable why) h r = absurd (never_broken decided files uri (pattern_of grammar.start) (definitions_of grammar) h.0 why r.0)

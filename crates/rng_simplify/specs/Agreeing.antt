@@ -1,15 +1,18 @@
 -- Laws of simple forms and of pieces: what the definitions say, they say of one thing.
-use Rattle.std.specs.Prelude.{◌≡◌, ℕ, List}
+use Rattle.std.specs.Prelude.{◌≡◌, ◌⊎◌, ℕ, List, Some, Ok, Err}
 use Rattle.nx_base.specs.declared.cause.Cause.{Cause}
 use Rattle.nx_host.specs.Files.{FileMap}
+use Rattle.rng_core.specs.declared.grammar.Grammar.{Grammar}
 use Rattle.rng_core.specs.Patterns.{Pattern, Definition}
+use Rattle.rng_simplify.specs.declared.fault.SchemaFault.{SchemaFault}
+use Rattle.rng_simplify.specs.declared.fault.SchemaFault.TheVariants.{NoMemory, Failed}
 use Rattle.rng_simplify.specs.Broken.{IsAbsent, IsNoText, HasBadUri, IsRefused, HasIncludeLoop, IncludesOther, ReplacesNothing, IsBroken}
 use Rattle.rng_simplify.specs.Composed.{Composed, Clauses}
 use Rattle.rng_simplify.specs.Composing.{ComposesSchema}
 use Rattle.rng_simplify.specs.Forms.{Form, FormDefinition}
 use Rattle.rng_simplify.specs.Grammars.{IsSimplified}
 use Rattle.rng_simplify.specs.Simple.{Simple}
-use Rattle.rng_simplify.specs.Simplified.{Simplifies}
+use Rattle.rng_simplify.specs.Simplified.{Simplifies, Answers}
 use Rattle.rng_simplify.specs.Unnumbered.{unnumbered}
 use Rattle.rng_simplify.specs.Whole.{IsForm}
 
@@ -54,3 +57,10 @@ abbrev pub SimplifiedIsNotBroken : Type 0
 SimplifiedIsNotBroken =
     (files : FileMap) (uri : List ℕ) (start : Pattern) (definitions : List Definition) → Simplifies files uri start definitions →
     (why : Cause) → IsBroken files uri why → ⊥
+
+-- and they are refused for want of memory alone, or where the files could not be had
+abbrev pub GrammarIsNoRefusal : Type 0
+GrammarIsNoRefusal =
+    (files : FileMap) (uri : List ℕ) (before after : ℕ) (grammar : Grammar) (refusal : SchemaFault) →
+    Answers (Some files) uri before after (Ok grammar) → Answers (Some files) uri before after (Err refusal) →
+    (refusal ≡ NoMemory) ⊎ (refusal ≡ Failed)
