@@ -1,23 +1,23 @@
 -- A schema in one piece is as large as it is, whatever numbers its elements have.
-use Rattle.std.proofs.Common.{◌≡◌, ◌≢◌, ◌↔◌, refl, sym, ap, ◌∙◌, subst, ℕ, zero, suc, ◌+◌, ◌<◌, ◌≤◌, ◌==◌, max, inl, inr, ◌⊎◌, List, [], ◌∷◌, ◌++◌, length, map, get_or, slice_get, Some, Contains, arith}
+use Rattle.std.proofs.Common.{◌≡◌, refl, sym, ap, ◌∙◌, subst, ℕ, zero, suc, ◌+◌, ◌<◌, ◌≤◌, ◌==◌, max, inl, inr, ◌⊎◌, List, [], ◌∷◌, ◌++◌, length, map, get_or, Contains, arith}
 use Rattle.std.specs.Prelude.{sum_by}
 use Rattle.std.specs.List.{IsDistinct, fold}
 use Rattle.std.proofs.lemmas.Bool.{cases_lt}
 use Rattle.std.proofs.lemmas.List.{map-append}
-use Rattle.std.proofs.lemmas.Option.{same_Some, get_or_from_slice_get, slice_get_within}
+use Rattle.std.proofs.lemmas.Option.{get_or_from_slice_get}
 use Rattle.rng_core.specs.Names.{Class, any_name}
-use Rattle.rng_simplify.specs.Broken.{node_limit, depth_limit, nodes_of_all, IsTooDeep, IsTooLarge}
+use Rattle.rng_simplify.specs.Broken.{nodes_of_all}
 use Rattle.rng_simplify.specs.Composed.{Composed, Clauses, end_of_clauses, clause_then, bodies, numbers, numbers_in}
 use Rattle.rng_simplify.specs.Composed as composed
 use Rattle.rng_simplify.specs.Forms.{Form, FormDefinition, nodes, depth}
 use Rattle.rng_simplify.specs.Forms as form
 use Rattle.rng_simplify.specs.Places.{place, Occurs, the_whole, further_in, a_part, a_content, a_definition}
 use Rattle.rng_simplify.specs.Unnumbered.{unnumbered, unnumbered_in}
-use Rattle.rng_simplify.specs.Whole.{IsForm, IsDefinedAt}
+use Rattle.rng_simplify.specs.Whole.{IsForm}
 use Rattle.rng_simplify.proofs.Alike.{plain, alike_by, simple_alike}
 use Rattle.rng_simplify.proofs.Dense.{distinct_first, distinct_rest}
 use Rattle.rng_simplify.proofs.Nodes.{in_none, in_cases, in_first, in_more}
-use Rattle.rng_simplify.proofs.OneForm.{simple_one, number_occurs}
+use Rattle.rng_simplify.proofs.OneForm.{simple_one}
 
 -- ---- sizes without numbers
 
@@ -108,32 +108,39 @@ none_masked g n (x ∷ xs) none =
     let rest = none_masked g n xs (λ among. none (in_more x xs n among)) in
     ap (λ m. m + total (map (mask (suc n) g) xs)) here ∙ ap (λ m. mask n g x + m) rest
 
-one_masked : (g : ℕ → ℕ) (n : ℕ) (xs : List ℕ) → IsDistinct (λ a b. a == b) xs → Contains xs n → total (map (mask (suc n) g) xs) ≡ total (map (mask n g) xs) + g n
+one_masked : (g : ℕ → ℕ) (n : ℕ) (xs : List ℕ) → IsDistinct (λ a b. a == b) xs → Contains xs n →
+    total (map (mask (suc n) g) xs) ≡ total (map (mask n g) xs) + g n
 one_masked g n [] distinct among = absurd (in_none among)
 one_masked g n (x ∷ xs) distinct among = elim (in_cases x xs n among) [
   | inl is ↦
-    let here : mask (suc n) g x ≡ g x = masked_in (g x) x (suc n) (cases_lt x (suc n)) (omega arith) in
-    let gone : mask n g x ≡ 0 = masked_out (g x) x n (cases_lt x n) (omega arith) in
-    let rest = none_masked g n xs (λ further. distinct_first x xs distinct n further is) in
-    let same = ap g is in
-    ap (λ m. m + total (map (mask (suc n) g) xs)) here ∙ ap (λ m. g x + m) rest ∙ turned (g x) (g n) (mask n g x) (total (map (mask n g) xs)) same gone
+      let here : mask (suc n) g x ≡ g x = masked_in (g x) x (suc n) (cases_lt x (suc n)) (omega arith) in
+      let gone : mask n g x ≡ 0 = masked_out (g x) x n (cases_lt x n) (omega arith) in
+      let rest = none_masked g n xs (λ further. distinct_first x xs distinct n further is) in
+      let same = ap g is in
+      ap (λ m. m + total (map (mask (suc n) g) xs)) here ∙ ap (λ m. g x + m) rest
+      ∙ turned (g x) (g n) (mask n g x) (total (map (mask n g) xs)) same gone
   | inr further ↦
-    let here = mask_same g n x (distinct_first x xs distinct n further) in
-    let rest = one_masked g n xs (distinct_rest x xs distinct) further in
-    ap (λ m. m + total (map (mask (suc n) g) xs)) here ∙ ap (λ m. mask n g x + m) rest ∙ moved (mask n g x) (total (map (mask n g) xs)) (g n)
+      let here = mask_same g n x (distinct_first x xs distinct n further) in
+      let rest = one_masked g n xs (distinct_rest x xs distinct) further in
+      ap (λ m. m + total (map (mask (suc n) g) xs)) here ∙ ap (λ m. mask n g x + m) rest
+      ∙ moved (mask n g x) (total (map (mask n g) xs)) (g n)
 ]
   where
     turned : (a b m t : ℕ) → a ≡ b → m ≡ 0 → a + t ≡ (m + t) + b
     turned a b m t same gone = omega arith
+
     moved : (m t b : ℕ) → m + (t + b) ≡ (m + t) + b
     moved m t b = omega arith
 
-all_masked : (g : ℕ → ℕ) (xs : List ℕ) → IsDistinct (λ a b. a == b) xs → (n : ℕ) → ((x : ℕ) → x < n → Contains xs x) → total (map (mask n g) xs) ≡ up_to g n
+all_masked : (g : ℕ → ℕ) (xs : List ℕ) → IsDistinct (λ a b. a == b) xs → (n : ℕ) → ((x : ℕ) → x < n → Contains xs x) →
+    total (map (mask n g) xs) ≡ up_to g n
 all_masked g xs distinct zero among = nothing xs
   where
     nothing : (ys : List ℕ) → total (map (mask 0 g) ys) ≡ 0
     nothing [] = refl
-    nothing (y ∷ ys) = let here = masked_out (g y) y 0 (cases_lt y 0) (omega arith) in ap (λ m. m + total (map (mask 0 g) ys)) here ∙ ap (λ m. 0 + m) (nothing ys)
+    nothing (y ∷ ys) =
+        let here = masked_out (g y) y 0 (cases_lt y 0) (omega arith) in ap (λ m. m + total (map (mask 0 g) ys)) here
+        ∙ ap (λ m. 0 + m) (nothing ys)
 all_masked g xs distinct (suc n) among =
     one_masked g n xs distinct (among n (omega arith)) ∙ ap (λ m. m + g n) (all_masked g xs distinct n (λ x less. among x (omega arith)))
 
@@ -151,9 +158,11 @@ no_definition = record { class = any_name; content = form.empty }
 abbrev weight : List FormDefinition → ℕ → ℕ
 weight definitions n = nodes (get_or definitions n no_definition).content
 
-sum_is : (definitions : List FormDefinition) (start : ℕ) → fold (λ n (d : FormDefinition). n + nodes d.content) start definitions ≡ start + from_front (weight definitions) (length definitions)
+sum_is : (definitions : List FormDefinition) (start : ℕ) →
+    fold (λ n (d : FormDefinition). n + nodes d.content) start definitions ≡ start + from_front (weight definitions) (length definitions)
 sum_is [] start = omega arith
-sum_is (d ∷ definitions) start = sum_is definitions (start + nodes d.content) ∙ moved start (nodes d.content) (from_front (weight definitions) (length definitions))
+sum_is (d ∷ definitions) start =
+    sum_is definitions (start + nodes d.content) ∙ moved start (nodes d.content) (from_front (weight definitions) (length definitions))
   where
     moved : (a b c : ℕ) → (a + b) + c ≡ a + (b + c)
     moved a b c = omega arith
@@ -172,14 +181,17 @@ module _ (whole : Composed) (start : Form) (definitions : List FormDefinition) (
 
 -- ---- with other numbers
 
-module _ (whole other : Composed) (start begin : Form) (definitions others : List FormDefinition) (is : IsForm whole start definitions) (also : IsForm other begin others) where
+module _ (whole other : Composed) (start begin : Form) (definitions others : List FormDefinition) (is : IsForm whole start definitions)
+    (also : IsForm other begin others) where
   abbrev one : ℕ → ℕ
   one = weight definitions
 
   abbrev two : ℕ → ℕ
   two = weight others
 
-  content_same : (scopes around : List Clauses) (n m : ℕ) (class : Class) (p q : Composed) → Occurs whole (place scopes (composed.element n class p)) → Occurs other (place around (composed.element m class q)) → map unnumbered_in scopes ≡ map unnumbered_in around → unnumbered p ≡ unnumbered q → one n ≡ two m
+  content_same : (scopes around : List Clauses) (n m : ℕ) (class : Class) (p q : Composed) →
+      Occurs whole (place scopes (composed.element n class p)) → Occurs other (place around (composed.element m class q)) →
+      map unnumbered_in scopes ≡ map unnumbered_in around → unnumbered p ≡ unnumbered q → one n ≡ two m
   content_same scopes around n m class p q here there same alike =
       let a = is.each_element scopes n class p here in
       let b = also.each_element around m class q there in
@@ -190,7 +202,8 @@ module _ (whole other : Composed) (start begin : Form) (definitions others : Lis
       ∙ sym (ap (λ (d : FormDefinition). nodes d.content) (get_or_from_slice_get others m _ no_definition b.there))
 
   joined_weights : (ns ms ks ls : List ℕ) → map one ns ≡ map two ms → map one ks ≡ map two ls → map one (ns ++ ks) ≡ map two (ms ++ ls)
-  joined_weights ns ms ks ls first second = map-append one ns ks ∙ ap (λ ws. ws ++ map one ks) first ∙ ap (λ ws. map two ms ++ ws) second ∙ sym (map-append two ms ls)
+  joined_weights ns ms ks ls first second =
+      map-append one ns ks ∙ ap (λ ws. ws ++ map one ks) first ∙ ap (λ ws. map two ms ++ ws) second ∙ sym (map-append two ms ls)
 
   -- a pattern that is this one
   numbers_of : (p q : Composed) (ns : List ℕ) → q ≡ p → map one ns ≡ map two (numbers p) → map one ns ≡ map two (numbers q)
@@ -200,13 +213,14 @@ module _ (whole other : Composed) (start begin : Form) (definitions others : Lis
   there_by around p q is occurs = let P : Composed → Type 0 = λ r. Occurs other (place around r) in subst P is occurs
 
   mutual
-    same_weights : (scopes around : List Clauses) (p q : Composed) → Occurs whole (place scopes p) → Occurs other (place around q) → map unnumbered_in scopes ≡ map unnumbered_in around → unnumbered p ≡ unnumbered q → map one (numbers p) ≡ map two (numbers q)
+    same_weights : (scopes around : List Clauses) (p q : Composed) → Occurs whole (place scopes p) → Occurs other (place around q) →
+        map unnumbered_in scopes ≡ map unnumbered_in around → unnumbered p ≡ unnumbered q → map one (numbers p) ≡ map two (numbers q)
     same_weights scopes around (composed.element n class p) q here there same alike =
         let h = alike_by (composed.element n class p) q alike in
         let at = there_by around (composed.element h.0 class h.1) q h.2 there in
         let rest = same_weights scopes around p h.1 (further_in here a_content) (further_in at a_content) same (sym h.3) in
         numbers_of (composed.element h.0 class h.1) q (n ∷ numbers p) h.2
-          (ap (λ w. w ∷ map one (numbers p)) (content_same scopes around n h.0 class p h.1 here at same (sym h.3)) ∙ ap (λ ws. two h.0 ∷ ws) rest)
+        (ap (λ w. w ∷ map one (numbers p)) (content_same scopes around n h.0 class p h.1 here at same (sym h.3)) ∙ ap (λ ws. two h.0 ∷ ws) rest)
     same_weights scopes around (composed.attribute class p) q here there same alike =
         let h = alike_by (composed.attribute class p) q alike in
         let at = there_by around (composed.attribute class h.0) q h.1 there in
@@ -226,47 +240,62 @@ module _ (whole other : Composed) (start begin : Form) (definitions others : Lis
     same_weights scopes around (composed.choice p r) q here there same alike =
         let h = alike_by (composed.choice p r) q alike in
         let at = there_by around (composed.choice h.0 h.1) q h.2 there in
-        numbers_of (composed.choice h.0 h.1) q (numbers p ++ numbers r) h.2 (joined_weights (numbers p) (numbers h.0) (numbers r) (numbers h.1)
-          (same_weights scopes around p h.0 (further_in here (a_part (in_first p (r ∷ [])))) (further_in at (a_part (in_first h.0 (h.1 ∷ [])))) same (sym h.3))
-          (same_weights scopes around r h.1 (further_in here (a_part (in_more p (r ∷ []) r (in_first r [])))) (further_in at (a_part (in_more h.0 (h.1 ∷ []) h.1 (in_first h.1 [])))) same (sym h.4)))
+        numbers_of (composed.choice h.0 h.1) q (numbers p ++ numbers r) h.2
+        (joined_weights (numbers p) (numbers h.0) (numbers r) (numbers h.1)
+        (same_weights scopes around p h.0 (further_in here (a_part (in_first p (r ∷ [])))) (further_in at (a_part (in_first h.0 (h.1 ∷ [])))) same (sym h.3))
+        (same_weights scopes around r h.1 (further_in here (a_part (in_more p (r ∷ []) r (in_first r [])))) (further_in at (a_part (in_more h.0 (h.1 ∷ []) h.1 (in_first h.1 [])))) same (sym h.4)))
     same_weights scopes around (composed.group p r) q here there same alike =
         let h = alike_by (composed.group p r) q alike in
         let at = there_by around (composed.group h.0 h.1) q h.2 there in
-        numbers_of (composed.group h.0 h.1) q (numbers p ++ numbers r) h.2 (joined_weights (numbers p) (numbers h.0) (numbers r) (numbers h.1)
-          (same_weights scopes around p h.0 (further_in here (a_part (in_first p (r ∷ [])))) (further_in at (a_part (in_first h.0 (h.1 ∷ [])))) same (sym h.3))
-          (same_weights scopes around r h.1 (further_in here (a_part (in_more p (r ∷ []) r (in_first r [])))) (further_in at (a_part (in_more h.0 (h.1 ∷ []) h.1 (in_first h.1 [])))) same (sym h.4)))
+        numbers_of (composed.group h.0 h.1) q (numbers p ++ numbers r) h.2
+        (joined_weights (numbers p) (numbers h.0) (numbers r) (numbers h.1)
+        (same_weights scopes around p h.0 (further_in here (a_part (in_first p (r ∷ [])))) (further_in at (a_part (in_first h.0 (h.1 ∷ [])))) same (sym h.3))
+        (same_weights scopes around r h.1 (further_in here (a_part (in_more p (r ∷ []) r (in_first r [])))) (further_in at (a_part (in_more h.0 (h.1 ∷ []) h.1 (in_first h.1 [])))) same (sym h.4)))
     same_weights scopes around (composed.interleave p r) q here there same alike =
         let h = alike_by (composed.interleave p r) q alike in
         let at = there_by around (composed.interleave h.0 h.1) q h.2 there in
-        numbers_of (composed.interleave h.0 h.1) q (numbers p ++ numbers r) h.2 (joined_weights (numbers p) (numbers h.0) (numbers r) (numbers h.1)
-          (same_weights scopes around p h.0 (further_in here (a_part (in_first p (r ∷ [])))) (further_in at (a_part (in_first h.0 (h.1 ∷ [])))) same (sym h.3))
-          (same_weights scopes around r h.1 (further_in here (a_part (in_more p (r ∷ []) r (in_first r [])))) (further_in at (a_part (in_more h.0 (h.1 ∷ []) h.1 (in_first h.1 [])))) same (sym h.4)))
-    same_weights scopes around (composed.ref name) q here there same alike = numbers_of (composed.ref name) q [] (alike_by (composed.ref name) q alike) refl
-    same_weights scopes around (composed.parent_ref name) q here there same alike = numbers_of (composed.parent_ref name) q [] (alike_by (composed.parent_ref name) q alike) refl
-    same_weights scopes around composed.empty q here there same alike = numbers_of composed.empty q [] (alike_by composed.empty q alike) refl
-    same_weights scopes around composed.any_text q here there same alike = numbers_of composed.any_text q [] (alike_by composed.any_text q alike) refl
-    same_weights scopes around composed.not_allowed q here there same alike = numbers_of composed.not_allowed q [] (alike_by composed.not_allowed q alike) refl
-    same_weights scopes around (composed.value type text) q here there same alike = numbers_of (composed.value type text) q [] (alike_by (composed.value type text) q alike) refl
+        numbers_of (composed.interleave h.0 h.1) q (numbers p ++ numbers r) h.2
+        (joined_weights (numbers p) (numbers h.0) (numbers r) (numbers h.1)
+        (same_weights scopes around p h.0 (further_in here (a_part (in_first p (r ∷ [])))) (further_in at (a_part (in_first h.0 (h.1 ∷ [])))) same (sym h.3))
+        (same_weights scopes around r h.1 (further_in here (a_part (in_more p (r ∷ []) r (in_first r [])))) (further_in at (a_part (in_more h.0 (h.1 ∷ []) h.1 (in_first h.1 [])))) same (sym h.4)))
+    same_weights scopes around (composed.ref name) q here there same alike =
+        numbers_of (composed.ref name) q [] (alike_by (composed.ref name) q alike) refl
+    same_weights scopes around (composed.parent_ref name) q here there same alike =
+        numbers_of (composed.parent_ref name) q [] (alike_by (composed.parent_ref name) q alike) refl
+    same_weights scopes around composed.empty q here there same alike =
+        numbers_of composed.empty q [] (alike_by composed.empty q alike) refl
+    same_weights scopes around composed.any_text q here there same alike =
+        numbers_of composed.any_text q [] (alike_by composed.any_text q alike) refl
+    same_weights scopes around composed.not_allowed q here there same alike =
+        numbers_of composed.not_allowed q [] (alike_by composed.not_allowed q alike) refl
+    same_weights scopes around (composed.value type text) q here there same alike =
+        numbers_of (composed.value type text) q [] (alike_by (composed.value type text) q alike) refl
     same_weights scopes around (composed.grammar clauses) q here there same alike =
         let h = alike_by (composed.grammar clauses) q alike in
         let at = there_by around (composed.grammar h.0) q h.1 there in
         numbers_of (composed.grammar h.0) q (numbers_in clauses) h.1
-          (same_weights_in (clauses ∷ scopes) (h.0 ∷ around) clauses h.0
-            (λ r within. further_in here (a_definition within))
-            (λ r within. further_in at (a_definition within))
-            (ap (λ c. c ∷ map unnumbered_in scopes) (sym h.2) ∙ ap (λ cs. unnumbered_in h.0 ∷ cs) same)
-            (sym h.2))
+        (same_weights_in (clauses ∷ scopes) (h.0 ∷ around) clauses h.0
+        (λ r within. further_in here (a_definition within))
+        (λ r within. further_in at (a_definition within))
+        (ap (λ c. c ∷ map unnumbered_in scopes) (sym h.2) ∙ ap (λ cs. unnumbered_in h.0 ∷ cs) same)
+        (sym h.2))
 
-    same_weights_in : (scopes around : List Clauses) (clauses also_clauses : Clauses) → ((r : Composed) → Contains (bodies clauses) r → Occurs whole (place scopes r)) → ((r : Composed) → Contains (bodies also_clauses) r → Occurs other (place around r)) → map unnumbered_in scopes ≡ map unnumbered_in around → unnumbered_in clauses ≡ unnumbered_in also_clauses → map one (numbers_in clauses) ≡ map two (numbers_in also_clauses)
+    same_weights_in : (scopes around : List Clauses) (clauses also_clauses : Clauses) →
+        ((r : Composed) → Contains (bodies clauses) r → Occurs whole (place scopes r)) →
+        ((r : Composed) → Contains (bodies also_clauses) r → Occurs other (place around r)) →
+        map unnumbered_in scopes ≡ map unnumbered_in around → unnumbered_in clauses ≡ unnumbered_in also_clauses →
+        map one (numbers_in clauses) ≡ map two (numbers_in also_clauses)
     same_weights_in scopes around end_of_clauses end_of_clauses here there same alike = refl
-    same_weights_in scopes around end_of_clauses (clause_then name combine q more) here there same alike = let never : ⊥ = cc in absurd never
-    same_weights_in scopes around (clause_then name combine p more) end_of_clauses here there same alike = let never : ⊥ = cc in absurd never
+    same_weights_in scopes around end_of_clauses (clause_then name combine q more) here there same alike =
+        let never : ⊥ = cc in absurd never
+    same_weights_in scopes around (clause_then name combine p more) end_of_clauses here there same alike =
+        let never : ⊥ = cc in absurd never
     same_weights_in scopes around (clause_then name combine p more) (clause_then name2 combine2 q rest) here there same alike =
         let head : unnumbered p ≡ unnumbered q = cc in
         let tail : unnumbered_in more ≡ unnumbered_in rest = cc in
         joined_weights (numbers p) (numbers q) (numbers_in more) (numbers_in rest)
-          (same_weights scopes around p q (here p (in_first p (bodies more))) (there q (in_first q (bodies rest))) same head)
-          (same_weights_in scopes around more rest (λ r within. here r (in_more p (bodies more) r within)) (λ r within. there r (in_more q (bodies rest) r within)) same tail)
+        (same_weights scopes around p q (here p (in_first p (bodies more))) (there q (in_first q (bodies rest))) same head)
+        (same_weights_in scopes around more rest (λ r within. here r (in_more p (bodies more) r within)) (λ r within. there r (in_more q (bodies rest) r within)) same tail)
 
   -- ---- as large as the other
 
@@ -278,6 +307,6 @@ module _ (whole other : Composed) (start begin : Form) (definitions others : Lis
     same_total =
         ap (λ n. n + sum_by (λ (d : FormDefinition). nodes d.content) definitions) (nodes_same start begin starts)
         ∙ ap (λ n. nodes begin + n) (
-          sum_of_numbers whole start definitions is
-          ∙ ap total (same_weights [] [] whole other the_whole the_whole refl alike)
-          ∙ sym (sum_of_numbers other begin others also))
+        sum_of_numbers whole start definitions is
+        ∙ ap total (same_weights [] [] whole other the_whole the_whole refl alike)
+        ∙ sym (sum_of_numbers other begin others also))
