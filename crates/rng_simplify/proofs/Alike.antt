@@ -70,9 +70,11 @@ join_plain combine.Alone p q = choice_plain p q
 join_plain combine.Choice p q = choice_plain p q
 join_plain combine.Interleave p q = interleave_plain p q
 
-joined_plain : (c : Combine) (first : Form) (more : List Form) → plain (joined (join_of c) first more) ≡ joined (join_of c) (plain first) (map plain more)
+joined_plain : (c : Combine) (first : Form) (more : List Form) →
+    plain (joined (join_of c) first more) ≡ joined (join_of c) (plain first) (map plain more)
 joined_plain c first [] = refl
-joined_plain c first (next ∷ more) = joined_plain c (join_of c first next) more ∙ ap (λ p. joined (join_of c) p (map plain more)) (join_plain c first next)
+joined_plain c first (next ∷ more) =
+    joined_plain c (join_of c first next) more ∙ ap (λ p. joined (join_of c) p (map plain more)) (join_plain c first next)
 
 values_plain : (p : Form) → values_of (plain p) ≡ values_of p
 values_plain form.not_allowed = refl
@@ -109,9 +111,12 @@ NumberedBy (composed.value type text) p = p ≡ composed.value type text
 NumberedBy (composed.typed type params r) p = (q : Composed) × (p ≡ composed.typed type params q) × (unnumbered q ≡ r)
 NumberedBy (composed.grammar clauses) p = (all : Clauses) × (p ≡ composed.grammar all) × (unnumbered_in all ≡ clauses)
 NumberedBy (composed.one_or_more r) p = (q : Composed) × (p ≡ composed.one_or_more q) × (unnumbered q ≡ r)
-NumberedBy (composed.choice r1 r2) p = (q1 : Composed) × (q2 : Composed) × (p ≡ composed.choice q1 q2) × (unnumbered q1 ≡ r1) × (unnumbered q2 ≡ r2)
-NumberedBy (composed.group r1 r2) p = (q1 : Composed) × (q2 : Composed) × (p ≡ composed.group q1 q2) × (unnumbered q1 ≡ r1) × (unnumbered q2 ≡ r2)
-NumberedBy (composed.interleave r1 r2) p = (q1 : Composed) × (q2 : Composed) × (p ≡ composed.interleave q1 q2) × (unnumbered q1 ≡ r1) × (unnumbered q2 ≡ r2)
+NumberedBy (composed.choice r1 r2) p =
+    (q1 : Composed) × (q2 : Composed) × (p ≡ composed.choice q1 q2) × (unnumbered q1 ≡ r1) × (unnumbered q2 ≡ r2)
+NumberedBy (composed.group r1 r2) p =
+    (q1 : Composed) × (q2 : Composed) × (p ≡ composed.group q1 q2) × (unnumbered q1 ≡ r1) × (unnumbered q2 ≡ r2)
+NumberedBy (composed.interleave r1 r2) p =
+    (q1 : Composed) × (q2 : Composed) × (p ≡ composed.interleave q1 q2) × (unnumbered q1 ≡ r1) × (unnumbered q2 ≡ r2)
 
 numbered_by : (p : Composed) → NumberedBy (unnumbered p) p
 numbered_by (composed.element number class p) = (number, p, refl, refl)
@@ -142,7 +147,8 @@ pub record IsAlikeScope (scope : Clauses) (outer others : List Clauses) : Type 0
   pub scope_same : unnumbered_in scope ≡ unnumbered_in other
   pub outer_same : map unnumbered_in outer ≡ map unnumbered_in rest
 
-pub alike_scope : (scope : Clauses) (outer others : List Clauses) → map unnumbered_in (scope ∷ outer) ≡ map unnumbered_in others → IsAlikeScope scope outer others
+pub alike_scope : (scope : Clauses) (outer others : List Clauses) → map unnumbered_in (scope ∷ outer) ≡ map unnumbered_in others →
+    IsAlikeScope scope outer others
 alike_scope scope outer [] same = let never : ⊥ = cc in absurd never
 alike_scope scope outer (other ∷ rest) same = record { other = other; rest = rest; is = refl; scope_same = cc; outer_same = cc }
 
@@ -166,13 +172,15 @@ parts_unnumbered (composed.interleave p q) = refl
 
 -- ---- definitions of a name
 
-defining_if : (b : Bool) (name : Defined) (c : Combine) (p : Composed) (rest more : Clauses) → unnumbered_in rest ≡ more → unnumbered_in (if b then clause_then name c p rest else rest) ≡ (if b then clause_then name c (unnumbered p) more else more)
+defining_if : (b : Bool) (name : Defined) (c : Combine) (p : Composed) (rest more : Clauses) → unnumbered_in rest ≡ more →
+    unnumbered_in (if b then clause_then name c p rest else rest) ≡ (if b then clause_then name c (unnumbered p) more else more)
 defining_if true name c p rest more same = ap (clause_then name c (unnumbered p)) same
 defining_if false name c p rest more same = same
 
 defining_unnumbered : (name : Defined) (clauses : Clauses) → unnumbered_in (defining name clauses) ≡ defining name (unnumbered_in clauses)
 defining_unnumbered name end_of_clauses = refl
-defining_unnumbered name (clause_then other c p more) = defining_if (same_defined name other) other c p (defining name more) (defining name (unnumbered_in more)) (defining_unnumbered name more)
+defining_unnumbered name (clause_then other c p more) = defining_if (same_defined name other) other c p (defining name more)
+    (defining name (unnumbered_in more)) (defining_unnumbered name more)
 
 combines_plain : (clauses : Clauses) → combines (unnumbered_in clauses) ≡ combines clauses
 combines_plain end_of_clauses = refl
@@ -182,14 +190,19 @@ bodies_plain : (clauses : Clauses) → bodies (unnumbered_in clauses) ≡ map un
 bodies_plain end_of_clauses = refl
 bodies_plain (clause_then name c p more) = ap (λ ps. unnumbered p ∷ ps) (bodies_plain more)
 
-defining_same : (name : Defined) (scope other : Clauses) → unnumbered_in scope ≡ unnumbered_in other → unnumbered_in (defining name scope) ≡ unnumbered_in (defining name other)
+defining_same : (name : Defined) (scope other : Clauses) → unnumbered_in scope ≡ unnumbered_in other →
+    unnumbered_in (defining name scope) ≡ unnumbered_in (defining name other)
 defining_same name scope other same = defining_unnumbered name scope ∙ ap (defining name) same ∙ sym (defining_unnumbered name other)
 
-pub bodies_same : (name : Defined) (scope other : Clauses) → unnumbered_in scope ≡ unnumbered_in other → map unnumbered (bodies (defining name scope)) ≡ map unnumbered (bodies (defining name other))
-bodies_same name scope other same = sym (bodies_plain (defining name scope)) ∙ ap bodies (defining_same name scope other same) ∙ bodies_plain (defining name other)
+pub bodies_same : (name : Defined) (scope other : Clauses) → unnumbered_in scope ≡ unnumbered_in other →
+    map unnumbered (bodies (defining name scope)) ≡ map unnumbered (bodies (defining name other))
+bodies_same name scope other same =
+    sym (bodies_plain (defining name scope)) ∙ ap bodies (defining_same name scope other same) ∙ bodies_plain (defining name other)
 
-combines_same : (name : Defined) (scope other : Clauses) → unnumbered_in scope ≡ unnumbered_in other → combines (defining name scope) ≡ combines (defining name other)
-combines_same name scope other same = sym (combines_plain (defining name scope)) ∙ ap combines (defining_same name scope other same) ∙ combines_plain (defining name other)
+combines_same : (name : Defined) (scope other : Clauses) → unnumbered_in scope ≡ unnumbered_in other →
+    combines (defining name scope) ≡ combines (defining name other)
+combines_same name scope other same =
+    sym (combines_plain (defining name scope)) ∙ ap combines (defining_same name scope other same) ∙ combines_plain (defining name other)
 
 -- ---- simple forms
 
@@ -213,11 +226,15 @@ record HaveAlike (scopes : List Clauses) (ps : List Composed) (qs : List Form) :
 of_this : {scopes : List Clauses} {q : Form} (p other : Composed) → other ≡ p → HasAlike scopes p q → HasAlike scopes other q
 of_this {scopes = scopes} {q = q} p other is h = let P : Composed → Type 0 = λ r. HasAlike scopes r q in subst P (sym is) h
 
-both_alike : (by : Form → Form → Form) → ((p q : Form) → plain (by p q) ≡ by (plain p) (plain q)) → (p q r s : Form) → plain p ≡ plain r → plain q ≡ plain s → plain (by p q) ≡ plain (by r s)
+both_alike : (by : Form → Form → Form) → ((p q : Form) → plain (by p q) ≡ by (plain p) (plain q)) → (p q r s : Form) → plain p ≡ plain r →
+    plain q ≡ plain s → plain (by p q) ≡ plain (by r s)
 both_alike by commutes p q r s one other = commutes p q ∙ ap (λ f. by f (plain q)) one ∙ ap (by (plain r)) other ∙ sym (commutes r s)
 
 -- definitions of as many patterns
-defines_of : (scope : Clauses) (outer : List Clauses) (name : Defined) (c : Combine) (first : Form) (more : List Form) (q : Form) (forms : List Form) → c ≡ combine_of (combines (defining name scope)) → q ≡ joined (join_of c) first more → map plain (first ∷ more) ≡ map plain forms → AreSimple (scope ∷ outer) (bodies (defining name scope)) forms → DefinesAlike scope outer name q
+defines_of : (scope : Clauses) (outer : List Clauses) (name : Defined) (c : Combine) (first : Form) (more : List Form) (q : Form)
+    (forms : List Form) → c ≡ combine_of (combines (defining name scope)) → q ≡ joined (join_of c) first more →
+    map plain (first ∷ more) ≡ map plain forms → AreSimple (scope ∷ outer) (bodies (defining name scope)) forms →
+    DefinesAlike scope outer name q
 defines_of scope outer name c first more q [] c_is is same are = let never : ⊥ = cc in absurd never
 defines_of scope outer name c first more q (other ∷ others) c_is is same are =
     let head : plain first ≡ plain other = cc in
@@ -235,7 +252,8 @@ defines_of scope outer name c first more q (other ∷ others) c_is is same are =
     }
 
 mutual
-  pub simple_alike : {scopes : List Clauses} {p : Composed} {q : Form} → Simple scopes p q → (others : List Clauses) (other : Composed) → map unnumbered_in scopes ≡ map unnumbered_in others → unnumbered p ≡ unnumbered other → HasAlike others other q
+  pub simple_alike : {scopes : List Clauses} {p : Composed} {q : Form} → Simple scopes p q → (others : List Clauses) (other : Composed) →
+      map unnumbered_in scopes ≡ map unnumbered_in others → unnumbered p ≡ unnumbered other → HasAlike others other q
   simple_alike {p = p} (simple_element {number = number} {class = class} {p = inner}) others other around same =
       let h = alike_by (composed.element number class inner) other same in
       of_this _ other h.2 (record { form = form.ref h.0; simple = simple_element; same = refl })
@@ -247,11 +265,15 @@ mutual
       let h = alike_by (composed.listed inner) other same in
       let r = simple_alike part others h.0 around (sym h.2) in
       of_this _ other h.1 (record { form = list_of r.form; simple = simple_list r.simple; same = list_plain q ∙ ap list_of r.same ∙ sym (list_plain r.form) })
-  simple_alike simple_empty others other around same = of_this _ other (alike_by composed.empty other same) (record { form = form.empty; simple = simple_empty; same = refl })
-  simple_alike simple_text others other around same = of_this _ other (alike_by composed.any_text other same) (record { form = form.any_text; simple = simple_text; same = refl })
-  simple_alike simple_not_allowed others other around same = of_this _ other (alike_by composed.not_allowed other same) (record { form = form.not_allowed; simple = simple_not_allowed; same = refl })
+  simple_alike simple_empty others other around same =
+      of_this _ other (alike_by composed.empty other same) (record { form = form.empty; simple = simple_empty; same = refl })
+  simple_alike simple_text others other around same =
+      of_this _ other (alike_by composed.any_text other same) (record { form = form.any_text; simple = simple_text; same = refl })
+  simple_alike simple_not_allowed others other around same = of_this _ other (alike_by composed.not_allowed other same)
+      (record { form = form.not_allowed; simple = simple_not_allowed; same = refl })
   simple_alike (simple_value {type = type} {text = text}) others other around same =
-      of_this _ other (alike_by (composed.value type text) other same) (record { form = form.value (record { type = type; text = text }); simple = simple_value; same = refl })
+      of_this _ other (alike_by (composed.value type text) other same)
+      (record { form = form.value (record { type = type; text = text }); simple = simple_value; same = refl })
   simple_alike (simple_type {type = type} {params = params} {except = except} {q = q} {values = values} part are) others other around same =
       let h = alike_by (composed.typed type params except) other same in
       let r = simple_alike part others h.0 around (sym h.2) in
@@ -292,12 +314,21 @@ mutual
       let P : List Clauses → Type 0 = λ ss. HasAlike ss other q in
       subst P (sym is) (of_this _ other (alike_by (composed.parent_ref name) other same) (record { form = r.form; simple = simple_parent_ref r.defines; same = r.same }))
 
-  defines_alike : {scope : Clauses} {outer : List Clauses} {name : Defined} {q : Form} → Defines scope outer name q → (other : Clauses) (rest : List Clauses) → unnumbered_in scope ≡ unnumbered_in other → map unnumbered_in outer ≡ map unnumbered_in rest → DefinesAlike other rest name q
-  defines_alike (joined_in_order {scope = scope} {outer = outer} {name = name} {first = first} {q = q} {more = more} are is) other rest same around =
-      let h = all_alike are (other ∷ rest) (bodies (defining name other)) (ap (λ c. c ∷ map unnumbered_in outer) same ∙ ap (λ cs. unnumbered_in other ∷ cs) around) (bodies_same name scope other same) in
-      defines_of other rest name (combine_of (combines (defining name scope))) first more q h.forms (ap combine_of (combines_same name scope other same)) is h.same h.simple
+  defines_alike : {scope : Clauses} {outer : List Clauses} {name : Defined} {q : Form} → Defines scope outer name q →
+      (other : Clauses) (rest : List Clauses) → unnumbered_in scope ≡ unnumbered_in other →
+      map unnumbered_in outer ≡ map unnumbered_in rest → DefinesAlike other rest name q
+  defines_alike (joined_in_order {scope = scope} {outer = outer} {name = name} {first = first} {q = q} {more = more} are is) other rest same
+      around =
+      let h =
+      all_alike are (other ∷ rest) (bodies (defining name other))
+      (ap (λ c. c ∷ map unnumbered_in outer) same ∙ ap (λ cs. unnumbered_in other ∷ cs) around) (bodies_same name scope other same)
+      in
+      defines_of other rest name (combine_of (combines (defining name scope))) first more q h.forms
+      (ap combine_of (combines_same name scope other same)) is h.same h.simple
 
-  all_alike : {scopes : List Clauses} {ps : List Composed} {qs : List Form} → AreSimple scopes ps qs → (others : List Clauses) (alike : List Composed) → map unnumbered_in scopes ≡ map unnumbered_in others → map unnumbered ps ≡ map unnumbered alike → HaveAlike others alike qs
+  all_alike : {scopes : List Clauses} {ps : List Composed} {qs : List Form} → AreSimple scopes ps qs →
+      (others : List Clauses) (alike : List Composed) → map unnumbered_in scopes ≡ map unnumbered_in others →
+      map unnumbered ps ≡ map unnumbered alike → HaveAlike others alike qs
   all_alike none_simple others [] around same = record { forms = []; simple = none_simple; same = refl }
   all_alike none_simple others (p ∷ alike) around same = let never : ⊥ = cc in absurd never
   all_alike (next_simple one more) others [] around same = let never : ⊥ = cc in absurd never

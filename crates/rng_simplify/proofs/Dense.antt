@@ -208,11 +208,11 @@ with_element {cells = cells} {i = i} {part = part} {number = number} {class = cl
 
 -- ---- distinct nodes
 
-distinct_first : (x : ℕ) (xs : List ℕ) → IsDistinct (λ a b. a == b) (x ∷ xs) → (y : ℕ) → Contains xs y → x ≢ y
+pub distinct_first : (x : ℕ) (xs : List ℕ) → IsDistinct (λ a b. a == b) (x ∷ xs) → (y : ℕ) → Contains xs y → x ≢ y
 unfolding IsDistinct
 distinct_first x xs h y among = eqb-false x y (All-contains (λ z. (x == z) ≡ false) xs y (All-from_recursion (λ z. (x == z) ≡ false) xs h.0) among)
 
-distinct_rest : (x : ℕ) (xs : List ℕ) → IsDistinct (λ a b. a == b) (x ∷ xs) → IsDistinct (λ a b. a == b) xs
+pub distinct_rest : (x : ℕ) (xs : List ℕ) → IsDistinct (λ a b. a == b) (x ∷ xs) → IsDistinct (λ a b. a == b) xs
 unfolding IsDistinct
 distinct_rest x xs h = h.1
 

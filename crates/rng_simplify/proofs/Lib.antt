@@ -49,3 +49,4 @@ pub mod Passed
 pub mod Renumbered
 pub mod Alike
 pub mod Returning
+pub mod Sizes

@@ -137,7 +137,7 @@ pub record IsElementOf (whole : Composed) (n : ℕ) : Type 0 where
   pub occurs : Occurs whole (place scopes (composed.element n class pattern))
 
 mutual
-  number_occurs : (whole : Composed) (scopes : List Clauses) (p : Composed) (n : ℕ) → Occurs whole (place scopes p) →
+  pub number_occurs : (whole : Composed) (scopes : List Clauses) (p : Composed) (n : ℕ) → Occurs whole (place scopes p) →
       Contains (numbers p) n → IsElementOf whole n
   number_occurs whole scopes (composed.element number class p) n occurs among =
       elim (in_cases number (numbers p) n among) [

@@ -1,5 +1,6 @@
 -- A schema in one piece is broken for the same causes, whatever numbers its elements have.
-use Rattle.std.proofs.Common.{◌≡◌, refl, sym, ap, ◌∙◌, subst, ℕ, Bool, true, false, inl, inr, List, [], ◌∷◌, map, Contains}
+use Rattle.std.proofs.lemmas.Option.{same_Some, slice_get_within}
+use Rattle.std.proofs.Common.{◌≡◌, Some, Ok, Err, arith, ◌<◌, refl, sym, ap, ◌∙◌, subst, ℕ, Bool, true, false, inl, inr, ◌⊎◌, List, [], ◌∷◌, map, Contains}
 use Rattle.std.specs.Prelude.{if◌then◌else◌}
 use Rattle.nx_base.specs.declared.cause.Cause.{Cause}
 use Rattle.nx_base.specs.declared.cause.Cause.TheVariants as cause
@@ -11,19 +12,27 @@ use Rattle.rnc_parse.specs.declared.surface.Combine.{Combine}
 use Rattle.rnc_parse.specs.declared.surface.Defined.{Defined}
 use Rattle.rnc_parse.specs.declared.surface.Defined.TheVariants as defined
 use Rattle.rng_core.specs.Names.{Class}
+use Rattle.rng_core.specs.declared.grammar.Grammar.{Grammar}
+use Rattle.rng_core.specs.Meaning.{pattern_of, definitions_of}
 use Rattle.rng_core.specs.Patterns.{Pattern, Definition}
-use Rattle.rng_simplify.specs.Agreeing.{IsOfPlaces}
-use Rattle.rng_simplify.specs.Broken.{Has, IsUndefined, HasNoStart, clash, HasClash, LeadsBack, HasBadExcept, HasXmlnsName, HasRefusedType, IsBadValue, IsUnsupported, HasTooManyExcepts, WholeIsBroken, PieceIsBroken, IsBroken}
+use Rattle.rng_simplify.specs.declared.fault.SchemaFault.{SchemaFault}
+use Rattle.rng_simplify.specs.declared.fault.SchemaFault.TheVariants as fault
+use Rattle.rng_simplify.specs.Agreeing.{ArePassed}
+use Rattle.rng_simplify.specs.Broken.{Has, IsUndefined, HasNoStart, clash, HasClash, LeadsBack, HasBadExcept, HasXmlnsName, HasRefusedType, IsBadValue, IsUnsupported, HasTooManyExcepts, node_limit, nodes_of_all, IsTooDeep, IsTooLarge, WholeIsBroken, PieceIsBroken, IsBroken}
 use Rattle.rng_simplify.specs.Composed.{Composed, Clauses, end_of_clauses, clause_then, same_defined, defines, defining, combines, bodies}
 use Rattle.rng_simplify.specs.Composed as composed
+use Rattle.rng_simplify.specs.Forms.{Form, FormDefinition, depth}
 use Rattle.rng_simplify.specs.Places.{Place, place, parts, IsIn, a_part, a_content, a_definition, Occurs, the_whole, further_in}
-use Rattle.rng_simplify.specs.Simplified.{Simplifies}
+use Rattle.rng_simplify.specs.Simplified.{Simplifies, Answers}
+use Rattle.rng_simplify.specs.Whole.{IsForm}
 use Rattle.rng_simplify.specs.Unnumbered.{unnumbered, unnumbered_in}
-use Rattle.rng_simplify.proofs.Alike.{alike_by, simple_alike, values_same, parts_unnumbered}
+use Rattle.rng_simplify.proofs.Alike.{plain, alike_by, simple_alike, values_same, parts_unnumbered}
 use Rattle.rng_simplify.proofs.Nodes.{in_none, in_cases, in_first, in_more}
+use Rattle.rng_simplify.proofs.OneForm.{simple_one, number_occurs}
 use Rattle.rng_simplify.proofs.OneComposed.{defines_unnumbered, piece_one}
 use Rattle.rng_simplify.proofs.Passed.{are_passed}
 use Rattle.rng_simplify.proofs.Returning.{returns_again}
+use Rattle.rng_simplify.proofs.Sizes.{depth_same, starts, same_total}
 
 -- ---- lists
 
@@ -59,7 +68,8 @@ record IsElementWith (p : Composed) (class : Class) (content : Composed) : Type 
   is : p ≡ composed.element number class inner
   content_is : unnumbered inner ≡ content
 
-element_with : (p : Composed) (number : ℕ) (class : Class) (content : Composed) → unnumbered p ≡ composed.element number class content → IsElementWith p class content
+element_with : (p : Composed) (number : ℕ) (class : Class) (content : Composed) → unnumbered p ≡ composed.element number class content →
+    IsElementWith p class content
 element_with (composed.element m other inner) number class content h =
     let same : other ≡ class = cc in
     let content_is : unnumbered inner ≡ content = cc in
@@ -116,7 +126,9 @@ inner_numbered {whole = whole} (a_definition {scopes = scopes} {clauses = clause
     let P : Composed → Type 0 = λ r. Occurs whole (place h.scopes r) in
     let Q : Clauses → Type 0 = λ cs. Contains (bodies cs) p in
     let R : List Composed → Type 0 = λ rs. Contains rs p in
-    let from = among_from unnumbered (bodies grammar.inner) p (subst R (bodies_unnumbered grammar.inner) (subst Q (sym grammar.clauses_are) within)) in
+    let from =
+    among_from unnumbered (bodies grammar.inner) p
+    (subst R (bodies_unnumbered grammar.inner) (subst Q (sym grammar.clauses_are) within)) in
     record {
       scopes = grammar.inner ∷ h.scopes;
       pattern = from.from;
@@ -130,7 +142,10 @@ numbered_at other same the_whole = record { scopes = []; pattern = other; occurs
 numbered_at other same (further_in occurs within) = inner_numbered within (numbered_at other same occurs)
 
 -- what stands in a piece stands in one with other numbers
-has_other : (kind : List Clauses → Composed → Type 0) → ((scopes : List Clauses) (p : Composed) → kind scopes p → kind (map unnumbered_in scopes) (unnumbered p)) → ((scopes : List Clauses) (p : Composed) → kind (map unnumbered_in scopes) (unnumbered p) → kind scopes p) → (whole other : Composed) → unnumbered whole ≡ unnumbered other → Has whole kind → Has other kind
+has_other : (kind : List Clauses → Composed → Type 0) →
+    ((scopes : List Clauses) (p : Composed) → kind scopes p → kind (map unnumbered_in scopes) (unnumbered p)) →
+    ((scopes : List Clauses) (p : Composed) → kind (map unnumbered_in scopes) (unnumbered p) → kind scopes p) → (whole other : Composed) →
+    unnumbered whole ≡ unnumbered other → Has whole kind → Has other kind
 has_other kind there back whole other same h =
     let n = numbered_at other same (occurs_unnumbered h.occurs) in
     let P : List Clauses → Type 0 = λ scopes. kind scopes (unnumbered h.pattern) in
@@ -143,7 +158,8 @@ has_alike kind alike whole other same h =
     let n = numbered_at other same (occurs_unnumbered h.occurs) in
     record { scopes = n.scopes; pattern = n.pattern; occurs = n.occurs; is = alike h.scopes n.scopes h.pattern n.pattern (sym n.scopes_are) (sym n.pattern_is) h.is }
 
-many_alike : (scopes others : List Clauses) (p other : Composed) → map unnumbered_in scopes ≡ map unnumbered_in others → unnumbered p ≡ unnumbered other → HasTooManyExcepts scopes p → HasTooManyExcepts others other
+many_alike : (scopes others : List Clauses) (p other : Composed) → map unnumbered_in scopes ≡ map unnumbered_in others →
+    unnumbered p ≡ unnumbered other → HasTooManyExcepts scopes p → HasTooManyExcepts others other
 many_alike scopes others (composed.typed type params except) other around same (q, values, simple, are, many) =
     let h = alike_by (composed.typed type params except) other same in
     let r = simple_alike simple others h.0 around (sym h.2) in
@@ -151,7 +167,8 @@ many_alike scopes others (composed.typed type params except) other around same (
     subst P (sym h.1) (r.form, values, r.simple, sym (values_same q r.form r.same) ∙ are, many)
 many_alike scopes others p other around same h = absurd h
 
-unsupported_alike : (scopes others : List Clauses) (p other : Composed) → map unnumbered_in scopes ≡ map unnumbered_in others → unnumbered p ≡ unnumbered other → IsUnsupported scopes p → IsUnsupported others other
+unsupported_alike : (scopes others : List Clauses) (p other : Composed) → map unnumbered_in scopes ≡ map unnumbered_in others →
+    unnumbered p ≡ unnumbered other → IsUnsupported scopes p → IsUnsupported others other
 unsupported_alike scopes others (composed.typed type params except) other around same (q, simple, inl none) =
     let h = alike_by (composed.typed type params except) other same in
     let r = simple_alike simple others h.0 around (sym h.2) in
@@ -200,14 +217,17 @@ start_back : (scopes : List Clauses) (p : Composed) → HasNoStart (map unnumber
 start_back scopes (composed.grammar clauses) h = sym (defines_unnumbered defined.Start clauses) ∙ h
 start_back scopes p h = absurd h
 
-combines_if : (b : Bool) (name : Defined) (combine : Combine) (p q : Composed) (some others : Clauses) → combines some ≡ combines others → combines (if b then clause_then name combine p some else some) ≡ combines (if b then clause_then name combine q others else others)
+combines_if : (b : Bool) (name : Defined) (combine : Combine) (p q : Composed) (some others : Clauses) → combines some ≡ combines others →
+    combines (if b then clause_then name combine p some else some) ≡ combines (if b then clause_then name combine q others else others)
 combines_if true name combine p q some others same = ap (λ cs. combine ∷ cs) same
 combines_if false name combine p q some others same = same
 
-combines_unnumbered : (name : Defined) (clauses : Clauses) → combines (defining name (unnumbered_in clauses)) ≡ combines (defining name clauses)
+combines_unnumbered : (name : Defined) (clauses : Clauses) →
+    combines (defining name (unnumbered_in clauses)) ≡ combines (defining name clauses)
 combines_unnumbered name end_of_clauses = refl
 combines_unnumbered name (clause_then other combine p more) =
-    combines_if (same_defined name other) other combine (unnumbered p) p (defining name (unnumbered_in more)) (defining name more) (combines_unnumbered name more)
+    combines_if (same_defined name other) other combine (unnumbered p) p (defining name (unnumbered_in more)) (defining name more)
+    (combines_unnumbered name more)
 
 clash_there : (scopes : List Clauses) (p : Composed) → HasClash scopes p → HasClash (map unnumbered_in scopes) (unnumbered p)
 clash_there scopes (composed.grammar clauses) h = (h.0, ap clash (combines_unnumbered h.0 clauses) ∙ h.1)
@@ -237,12 +257,14 @@ xmlns_back scopes (composed.element number class p) h = h
 xmlns_back scopes (composed.attribute class p) h = h
 xmlns_back scopes p h = absurd h
 
-type_there : (why : TypeFault) (scopes : List Clauses) (p : Composed) → HasRefusedType why scopes p → HasRefusedType why (map unnumbered_in scopes) (unnumbered p)
+type_there : (why : TypeFault) (scopes : List Clauses) (p : Composed) → HasRefusedType why scopes p →
+    HasRefusedType why (map unnumbered_in scopes) (unnumbered p)
 type_there why scopes (composed.value type text) h = h
 type_there why scopes (composed.typed type params except) h = h
 type_there why scopes p h = absurd h
 
-type_back : (why : TypeFault) (scopes : List Clauses) (p : Composed) → HasRefusedType why (map unnumbered_in scopes) (unnumbered p) → HasRefusedType why scopes p
+type_back : (why : TypeFault) (scopes : List Clauses) (p : Composed) → HasRefusedType why (map unnumbered_in scopes) (unnumbered p) →
+    HasRefusedType why scopes p
 type_back why scopes (composed.value type text) h = h
 type_back why scopes (composed.typed type params except) h = h
 type_back why scopes p h = absurd h
@@ -255,40 +277,93 @@ value_back : (scopes : List Clauses) (p : Composed) → IsBadValue (map unnumber
 value_back scopes (composed.value type text) h = h
 value_back scopes p h = absurd h
 
+-- ---- sizes
+
+-- what is too large is too large
+module _ (whole other : Composed) (same : unnumbered whole ≡ unnumbered other) (begin : Form) (others : List FormDefinition)
+    (also : IsForm other begin others) where
+  large_other : (start : Form) (definitions : List FormDefinition) → IsForm whole start definitions →
+      (node_limit < nodes_of_all start definitions) ⊎ IsTooDeep start definitions →
+      (node_limit < nodes_of_all begin others) ⊎ IsTooDeep begin others
+  large_other start definitions is (inl many) =
+      let totals = same_total whole other start begin definitions others is also same in inl (omega arith)
+  large_other start definitions is (inr (inl deep)) =
+      let depths = depth_same start begin (starts whole other start begin definitions others is also same) in inr (inl (omega arith))
+  large_other start definitions is (inr (inr (number, definition, there, deep))) =
+      let e =
+      number_occurs whole [] whole number the_whole ((is.each_number number).1 (slice_get_within definitions number definition there))
+      in
+      let d = is.each_element e.scopes number e.class e.pattern e.occurs in
+      let n = numbered_at other same (occurs_unnumbered e.occurs) in
+      let h = alike_by (composed.element number e.class e.pattern) n.pattern (sym n.pattern_is) in
+      let P : Composed → Type 0 = λ p. Occurs other (place n.scopes p) in
+      let f = also.each_element n.scopes h.0 e.class h.1 (subst P h.2 n.occurs) in
+      let r = simple_alike d.simple n.scopes h.1 (sym n.scopes_are) (sym h.3) in
+      let depths = depth_same d.content f.content (r.same ∙ ap plain (simple_one r.simple f.simple)) in
+      let here : depth definition.content ≡ depth d.content =
+      ap (λ (k : FormDefinition). depth k.content) (same_Some definition _ (sym there ∙ d.there)) in
+      inr (inr (h.0, record { class = e.class; content = f.content }, f.there, omega arith))
+
+  too_large_other : IsTooLarge whole → IsTooLarge other
+  too_large_other h = record { start = begin; definitions = others; form = also; large = large_other h.start h.definitions h.form h.large }
+
 -- ---- causes
 
-broken_other : (whole other : Composed) → unnumbered whole ≡ unnumbered other → (why : Cause) → IsOfPlaces why → WholeIsBroken whole why → WholeIsBroken other why
-broken_other whole other same cause.NoDefinition of h = has_other IsUndefined undefined_there undefined_back whole other same h
-broken_other whole other same cause.NoStart of h = has_other HasNoStart start_there start_back whole other same h
-broken_other whole other same cause.CombineClash of h = has_other HasClash clash_there clash_back whole other same h
-broken_other whole other same cause.BadExcept of h = has_other HasBadExcept except_there except_back whole other same h
-broken_other whole other same cause.XmlnsName of h = has_other HasXmlnsName xmlns_there xmlns_back whole other same h
-broken_other whole other same cause.UnknownType of h = has_other (HasRefusedType type_fault.UnknownType) (type_there type_fault.UnknownType) (type_back type_fault.UnknownType) whole other same h
-broken_other whole other same cause.UnknownParam of h = has_other (HasRefusedType type_fault.UnknownParam) (type_there type_fault.UnknownParam) (type_back type_fault.UnknownParam) whole other same h
-broken_other whole other same cause.BadParam of h = has_other (HasRefusedType type_fault.BadParam) (type_there type_fault.BadParam) (type_back type_fault.BadParam) whole other same h
-broken_other whole other same cause.BadValue of h = has_other IsBadValue value_there value_back whole other same h
-broken_other whole other same cause.TooManyExcepts of h = has_alike HasTooManyExcepts many_alike whole other same h
-broken_other whole other same cause.UnsupportedExcept of h = has_alike IsUnsupported unsupported_alike whole other same h
-broken_other whole other same cause.RefLoop of h = back_other whole other same h
-broken_other whole other same why of h = absurd of
+broken_other : (whole other : Composed) → unnumbered whole ≡ unnumbered other → (begin : Form) (others : List FormDefinition) →
+    IsForm other begin others → (why : Cause) → WholeIsBroken whole why → WholeIsBroken other why
+broken_other whole other same begin others form cause.NoDefinition h =
+    has_other IsUndefined undefined_there undefined_back whole other same h
+broken_other whole other same begin others form cause.NoStart h = has_other HasNoStart start_there start_back whole other same h
+broken_other whole other same begin others form cause.CombineClash h = has_other HasClash clash_there clash_back whole other same h
+broken_other whole other same begin others form cause.BadExcept h = has_other HasBadExcept except_there except_back whole other same h
+broken_other whole other same begin others form cause.XmlnsName h = has_other HasXmlnsName xmlns_there xmlns_back whole other same h
+broken_other whole other same begin others form cause.UnknownType h = has_other (HasRefusedType type_fault.UnknownType)
+    (type_there type_fault.UnknownType) (type_back type_fault.UnknownType) whole other same h
+broken_other whole other same begin others form cause.UnknownParam h = has_other (HasRefusedType type_fault.UnknownParam)
+    (type_there type_fault.UnknownParam) (type_back type_fault.UnknownParam) whole other same h
+broken_other whole other same begin others form cause.BadParam h =
+    has_other (HasRefusedType type_fault.BadParam) (type_there type_fault.BadParam) (type_back type_fault.BadParam) whole other same h
+broken_other whole other same begin others form cause.BadValue h = has_other IsBadValue value_there value_back whole other same h
+broken_other whole other same begin others form cause.TooManyExcepts h = has_alike HasTooManyExcepts many_alike whole other same h
+broken_other whole other same begin others form cause.UnsupportedExcept h = has_alike IsUnsupported unsupported_alike whole other same h
+broken_other whole other same begin others form cause.RefLoop h = back_other whole other same h
+broken_other whole other same begin others form cause.TooLarge h = too_large_other whole other same begin others form h
+broken_other whole other same begin others form why h = absurd h
 
-module _ (decided : JoinsIsDecided) (files : FileMap) (uri : List ℕ) (start : Pattern) (definitions : List Definition) (simplified : Simplifies files uri start definitions) where
-  piece_never : (why : Cause) → IsOfPlaces why → PieceIsBroken files uri why → ⊥
-  piece_never why of h = simplified.unbroken why (broken_other h.whole simplified.whole (piece_one decided files uri h.whole simplified.whole h.composed simplified.composed) why of h.broken)
+module _ (decided : JoinsIsDecided) (files : FileMap) (uri : List ℕ) (start : Pattern) (definitions : List Definition)
+    (simplified : Simplifies files uri start definitions) where
+  piece_never : (why : Cause) → PieceIsBroken files uri why → ⊥
+  piece_never why h = simplified.unbroken why (broken_other h.whole simplified.whole (piece_one decided files uri h.whole simplified.whole h.composed simplified.composed) simplified.start_form simplified.definition_forms simplified.form why h.broken)
+
+  passed : ArePassed files uri
+  passed = are_passed decided files uri simplified.whole simplified.composed
 
   -- files that have a grammar are not broken
-  pub never_broken : (why : Cause) → IsOfPlaces why → IsBroken files uri why → ⊥
-  never_broken cause.NoDefinition of (inl h) = (are_passed decided files uri simplified.whole simplified.composed).replaced_defined h
-  never_broken cause.NoDefinition of (inr h) = piece_never cause.NoDefinition of h
-  never_broken cause.NoStart of h = piece_never cause.NoStart of h
-  never_broken cause.CombineClash of h = piece_never cause.CombineClash of h
-  never_broken cause.BadExcept of h = piece_never cause.BadExcept of h
-  never_broken cause.XmlnsName of h = piece_never cause.XmlnsName of h
-  never_broken cause.UnknownType of h = piece_never cause.UnknownType of h
-  never_broken cause.UnknownParam of h = piece_never cause.UnknownParam of h
-  never_broken cause.BadParam of h = piece_never cause.BadParam of h
-  never_broken cause.BadValue of h = piece_never cause.BadValue of h
-  never_broken cause.TooManyExcepts of h = piece_never cause.TooManyExcepts of h
-  never_broken cause.UnsupportedExcept of h = piece_never cause.UnsupportedExcept of h
-  never_broken cause.RefLoop of h = piece_never cause.RefLoop of h
-  never_broken why of h = absurd of
+  pub never_broken : (why : Cause) → IsBroken files uri why → ⊥
+  never_broken cause.BadEscape h = passed.none_refused cause.BadEscape h
+  never_broken cause.BadLiteral h = passed.none_refused cause.BadLiteral h
+  never_broken cause.BadCharacter h = passed.none_refused cause.BadCharacter h
+  never_broken cause.Syntax h = passed.none_refused cause.Syntax h
+  never_broken cause.TooDeep h = passed.none_refused cause.TooDeep h
+  never_broken cause.UndeclaredPrefix h = passed.none_refused cause.UndeclaredPrefix h
+  never_broken cause.Twice h = passed.none_refused cause.Twice h
+  never_broken cause.NotGrammar h = passed.grammars_included h
+  never_broken cause.IncludeLoop h = passed.no_loop h
+  never_broken cause.NoDefinition (inl h) = passed.replaced_defined h
+  never_broken cause.NoDefinition (inr h) = piece_never cause.NoDefinition h
+  never_broken why h = piece_never why h
+
+-- nor are they refused for another cause than want of memory or of the files
+pub no_refusal : JoinsIsDecided → (files : FileMap) (uri : List ℕ) (before after : ℕ) (grammar : Grammar) (refusal : SchemaFault) →
+    Answers (Some files) uri before after (Ok grammar) → Answers (Some files) uri before after (Err refusal) →
+    (refusal ≡ fault.NoMemory) ⊎ (refusal ≡ fault.Failed)
+no_refusal decided files uri before after grammar fault.NoMemory h r = inl refl
+no_refusal decided files uri before after grammar fault.Failed h r = inr refl
+no_refusal decided files uri before after grammar (fault.Absent absent) h r =
+    absurd ((are_passed decided files uri h.0.whole h.0.composed).none_absent absent r.0)
+no_refusal decided files uri before after grammar (fault.NotUtf8 wrong at) h r =
+    absurd ((are_passed decided files uri h.0.whole h.0.composed).all_texts wrong at r.0)
+no_refusal decided files uri before after grammar (fault.BadUri text) h r =
+    absurd ((are_passed decided files uri h.0.whole h.0.composed).no_bad_uri text r.0)
+no_refusal decided files uri before after grammar (fault.Unreadable why) h r =
+    absurd (never_broken decided files uri (pattern_of grammar.start) (definitions_of grammar) h.0 why r.0)

@@ -48,7 +48,8 @@ left_out v n = left_by v n (cases_lt v n)
 
 left_below : (v n bound : ℕ) (h : (v < n) ⊎ (n ≤ v)) → n < suc bound → v < suc bound → (n ≡ v → ⊥) → left_by v n h < bound
 left_below v n bound (inl more) less also other = omega arith
-left_below v n bound (inr least) less also other = elim (cases_lt n v) [ inl smaller ↦ omega arith | inr most ↦ absurd (other (omega arith)) ]
+left_below v n bound (inr least) less also other =
+    elim (cases_lt n v) [ inl smaller ↦ omega arith | inr most ↦ absurd (other (omega arith)) ]
 
 left_same : (v n m : ℕ) (h : (v < n) ⊎ (n ≤ v)) (k : (v < m) ⊎ (m ≤ v)) → (n ≡ v → ⊥) → (m ≡ v → ⊥) → left_by v n h ≡ left_by v m k → n ≡ m
 left_same v n m (inl a) (inl b) other also is = omega arith
@@ -69,7 +70,8 @@ some_twice (suc bound) f below = elim (comes_again f (f 0) (suc bound)) [
         second = suc rest.second;
         before = omega arith;
         within = omega arith;
-        same = left_same (f 0) (f (suc rest.first)) (f (suc rest.second)) (cases_lt (f 0) (f (suc rest.first))) (cases_lt (f 0) (f (suc rest.second))) (none rest.first (omega arith)) (none rest.second (omega arith)) rest.same;
+        same = left_same (f 0) (f (suc rest.first)) (f (suc rest.second)) (cases_lt (f 0) (f (suc rest.first)))
+            (cases_lt (f 0) (f (suc rest.second))) (none rest.first (omega arith)) (none rest.second (omega arith)) rest.same;
       }
 ]
 
@@ -114,24 +116,31 @@ own_place scopes composed.any_text = in_first (place scopes composed.any_text) [
 own_place scopes composed.not_allowed = in_first (place scopes composed.not_allowed) []
 own_place scopes (composed.value type text) = in_first (place scopes (composed.value type text)) []
 
-body_place : (scopes : List Clauses) (clauses : Clauses) (q : Composed) → Contains (bodies clauses) q → Contains (places_in scopes clauses) (place scopes q)
+body_place : (scopes : List Clauses) (clauses : Clauses) (q : Composed) → Contains (bodies clauses) q →
+    Contains (places_in scopes clauses) (place scopes q)
 body_place scopes end_of_clauses q within = absurd (in_none within)
 body_place scopes (clause_then name combine p more) q within = elim (in_cases p (bodies more) q within) [
-  | inl is ↦ let P : Composed → Type 0 = λ r. Contains (places scopes p ++ places_in scopes more) (place scopes r) in subst P is (Contains-append_left (places scopes p) (places_in scopes more) (place scopes p) (own_place scopes p))
+  | inl is ↦ let P : Composed → Type 0 = λ r. Contains (places scopes p ++ places_in scopes more) (place scopes r) in
+      subst P is (Contains-append_left (places scopes p) (places_in scopes more) (place scopes p) (own_place scopes p))
   | inr further ↦ Contains-append_right (places scopes p) (places_in scopes more) (place scopes q) (body_place scopes more q further)
 ]
 
 -- a part has its place
-only_place : (first : Place) (scopes : List Clauses) (p q : Composed) → Contains (p ∷ []) q → Contains (first ∷ places scopes p) (place scopes q)
+only_place : (first : Place) (scopes : List Clauses) (p q : Composed) → Contains (p ∷ []) q →
+    Contains (first ∷ places scopes p) (place scopes q)
 only_place first scopes p q within =
     let P : Composed → Type 0 = λ r. Contains (first ∷ places scopes p) (place scopes r) in
     subst P (in_one p q within) (in_more first (places scopes p) (place scopes p) (own_place scopes p))
 
-either_place : (at : Place) (scopes : List Clauses) (p r q : Composed) → Contains (p ∷ r ∷ []) q → Contains (at ∷ (places scopes p ++ places scopes r)) (place scopes q)
-either_place at scopes p r q within = in_more at (places scopes p ++ places scopes r) (place scopes q) (elim (in_cases p (r ∷ []) q within) [
-  | inl is ↦ let P : Composed → Type 0 = λ t. Contains (places scopes p ++ places scopes r) (place scopes t) in subst P is (Contains-append_left (places scopes p) (places scopes r) (place scopes p) (own_place scopes p))
-  | inr further ↦ let P : Composed → Type 0 = λ t. Contains (places scopes p ++ places scopes r) (place scopes t) in subst P (in_one r q further) (Contains-append_right (places scopes p) (places scopes r) (place scopes r) (own_place scopes r))
-])
+either_place : (at : Place) (scopes : List Clauses) (p r q : Composed) → Contains (p ∷ r ∷ []) q →
+    Contains (at ∷ (places scopes p ++ places scopes r)) (place scopes q)
+either_place at scopes p r q within =
+    in_more at (places scopes p ++ places scopes r) (place scopes q) (elim (in_cases p (r ∷ []) q within) [
+      | inl is ↦ let P : Composed → Type 0 = λ t. Contains (places scopes p ++ places scopes r) (place scopes t) in
+          subst P is (Contains-append_left (places scopes p) (places scopes r) (place scopes p) (own_place scopes p))
+      | inr further ↦ let P : Composed → Type 0 = λ t. Contains (places scopes p ++ places scopes r) (place scopes t) in
+          subst P (in_one r q further) (Contains-append_right (places scopes p) (places scopes r) (place scopes r) (own_place scopes r))
+    ])
 
 part_place : (scopes : List Clauses) (p q : Composed) → Contains (parts p) q → Contains (places scopes p) (place scopes q)
 part_place scopes (composed.element number class p) q within = absurd (in_none within)
@@ -153,17 +162,21 @@ part_place scopes (composed.value type text) q within = absurd (in_none within)
 -- what stands directly in a pattern has its place
 inner_place : {outer inner : Place} → IsIn outer inner → Contains (places outer.scopes outer.pattern) inner
 inner_place (a_part {scopes = scopes} {p = p} {q = q} within) = part_place scopes p q within
-inner_place (a_content {scopes = scopes} {number = number} {class = class} {p = p}) = in_more (place scopes (composed.element number class p)) (places scopes p) (place scopes p) (own_place scopes p)
-inner_place (a_definition {scopes = scopes} {clauses = clauses} {p = p} within) = in_more (place scopes (composed.grammar clauses)) (places_in (clauses ∷ scopes) clauses) (place (clauses ∷ scopes) p) (body_place (clauses ∷ scopes) clauses p within)
+inner_place (a_content {scopes = scopes} {number = number} {class = class} {p = p}) =
+    in_more (place scopes (composed.element number class p)) (places scopes p) (place scopes p) (own_place scopes p)
+inner_place (a_definition {scopes = scopes} {clauses = clauses} {p = p} within) = in_more (place scopes (composed.grammar clauses))
+    (places_in (clauses ∷ scopes) clauses) (place (clauses ∷ scopes) p) (body_place (clauses ∷ scopes) clauses p within)
 
-directly : (scopes : List Clauses) (p : Composed) (at inner : Place) → at ≡ place scopes p → IsIn at inner → Contains (places scopes p) inner
+directly : (scopes : List Clauses) (p : Composed) (at inner : Place) → at ≡ place scopes p → IsIn at inner →
+    Contains (places scopes p) inner
 directly scopes p at inner is within = let P : Place → Type 0 = λ k. IsIn k inner in inner_place (subst P is within)
 
 in_one_of : {first at : Place} → Contains (first ∷ []) at → at ≡ first
 in_one_of {first = first} {at = at} among = sym (in_one first at among)
 
 mutual
-  in_places : (scopes : List Clauses) (p : Composed) (at inner : Place) → Contains (places scopes p) at → IsIn at inner → Contains (places scopes p) inner
+  in_places : (scopes : List Clauses) (p : Composed) (at inner : Place) → Contains (places scopes p) at → IsIn at inner →
+      Contains (places scopes p) inner
   in_places scopes (composed.element number class p) at inner among within = elim (in_cases _ (places scopes p) at among) [
     | inl is ↦ directly scopes (composed.element number class p) at inner (sym is) within
     | inr further ↦ in_more _ (places scopes p) inner (in_places scopes p at inner further within)
@@ -186,46 +199,54 @@ mutual
   ]
   in_places scopes (composed.choice p q) at inner among within = elim (in_cases _ (places scopes p ++ places scopes q) at among) [
     | inl is ↦ directly scopes (composed.choice p q) at inner (sym is) within
-    | inr further ↦ in_more _ (places scopes p ++ places scopes q) inner (elim (Contains-append_cases (places scopes p) (places scopes q) at further) [
-      | inl first ↦ Contains-append_left (places scopes p) (places scopes q) inner (in_places scopes p at inner first within)
-      | inr second ↦ Contains-append_right (places scopes p) (places scopes q) inner (in_places scopes q at inner second within)
-    ])
+    | inr further ↦ in_more _ (places scopes p ++ places scopes q) inner
+        (elim (Contains-append_cases (places scopes p) (places scopes q) at further) [
+          | inl first ↦ Contains-append_left (places scopes p) (places scopes q) inner (in_places scopes p at inner first within)
+          | inr second ↦ Contains-append_right (places scopes p) (places scopes q) inner (in_places scopes q at inner second within)
+        ])
   ]
   in_places scopes (composed.group p q) at inner among within = elim (in_cases _ (places scopes p ++ places scopes q) at among) [
     | inl is ↦ directly scopes (composed.group p q) at inner (sym is) within
-    | inr further ↦ in_more _ (places scopes p ++ places scopes q) inner (elim (Contains-append_cases (places scopes p) (places scopes q) at further) [
-      | inl first ↦ Contains-append_left (places scopes p) (places scopes q) inner (in_places scopes p at inner first within)
-      | inr second ↦ Contains-append_right (places scopes p) (places scopes q) inner (in_places scopes q at inner second within)
-    ])
+    | inr further ↦ in_more _ (places scopes p ++ places scopes q) inner
+        (elim (Contains-append_cases (places scopes p) (places scopes q) at further) [
+          | inl first ↦ Contains-append_left (places scopes p) (places scopes q) inner (in_places scopes p at inner first within)
+          | inr second ↦ Contains-append_right (places scopes p) (places scopes q) inner (in_places scopes q at inner second within)
+        ])
   ]
   in_places scopes (composed.interleave p q) at inner among within = elim (in_cases _ (places scopes p ++ places scopes q) at among) [
     | inl is ↦ directly scopes (composed.interleave p q) at inner (sym is) within
-    | inr further ↦ in_more _ (places scopes p ++ places scopes q) inner (elim (Contains-append_cases (places scopes p) (places scopes q) at further) [
-      | inl first ↦ Contains-append_left (places scopes p) (places scopes q) inner (in_places scopes p at inner first within)
-      | inr second ↦ Contains-append_right (places scopes p) (places scopes q) inner (in_places scopes q at inner second within)
-    ])
+    | inr further ↦ in_more _ (places scopes p ++ places scopes q) inner
+        (elim (Contains-append_cases (places scopes p) (places scopes q) at further) [
+          | inl first ↦ Contains-append_left (places scopes p) (places scopes q) inner (in_places scopes p at inner first within)
+          | inr second ↦ Contains-append_right (places scopes p) (places scopes q) inner (in_places scopes q at inner second within)
+        ])
   ]
   in_places scopes (composed.ref name) at inner among within = directly scopes (composed.ref name) at inner (in_one_of among) within
-  in_places scopes (composed.parent_ref name) at inner among within = directly scopes (composed.parent_ref name) at inner (in_one_of among) within
+  in_places scopes (composed.parent_ref name) at inner among within =
+      directly scopes (composed.parent_ref name) at inner (in_one_of among) within
   in_places scopes composed.empty at inner among within = directly scopes composed.empty at inner (in_one_of among) within
   in_places scopes composed.any_text at inner among within = directly scopes composed.any_text at inner (in_one_of among) within
   in_places scopes composed.not_allowed at inner among within = directly scopes composed.not_allowed at inner (in_one_of among) within
-  in_places scopes (composed.value type text) at inner among within = directly scopes (composed.value type text) at inner (in_one_of among) within
+  in_places scopes (composed.value type text) at inner among within =
+      directly scopes (composed.value type text) at inner (in_one_of among) within
   in_places scopes (composed.grammar clauses) at inner among within = elim (in_cases _ (places_in (clauses ∷ scopes) clauses) at among) [
     | inl is ↦ directly scopes (composed.grammar clauses) at inner (sym is) within
     | inr further ↦ in_more _ (places_in (clauses ∷ scopes) clauses) inner (in_places_in (clauses ∷ scopes) clauses at inner further within)
   ]
 
-  in_places_in : (scopes : List Clauses) (clauses : Clauses) (at inner : Place) → Contains (places_in scopes clauses) at → IsIn at inner → Contains (places_in scopes clauses) inner
+  in_places_in : (scopes : List Clauses) (clauses : Clauses) (at inner : Place) → Contains (places_in scopes clauses) at → IsIn at inner →
+      Contains (places_in scopes clauses) inner
   in_places_in scopes end_of_clauses at inner among within = absurd (in_none among)
-  in_places_in scopes (clause_then name combine p more) at inner among within = elim (Contains-append_cases (places scopes p) (places_in scopes more) at among) [
-    | inl first ↦ Contains-append_left (places scopes p) (places_in scopes more) inner (in_places scopes p at inner first within)
-    | inr second ↦ Contains-append_right (places scopes p) (places_in scopes more) inner (in_places_in scopes more at inner second within)
-  ]
+  in_places_in scopes (clause_then name combine p more) at inner among within =
+      elim (Contains-append_cases (places scopes p) (places_in scopes more) at among) [
+        | inl first ↦ Contains-append_left (places scopes p) (places_in scopes more) inner (in_places scopes p at inner first within)
+        | inr second ↦ Contains-append_right (places scopes p) (places_in scopes more) inner (in_places_in scopes more at inner second within)
+      ]
 
 occurs_among : {whole : Composed} {at : Place} → Occurs whole at → Contains (places [] whole) at
 occurs_among {whole = whole} the_whole = own_place [] whole
-occurs_among {whole = whole} (further_in {outer = outer} {inner = inner} occurs within) = in_places [] whole outer inner (occurs_among occurs) within
+occurs_among {whole = whole} (further_in {outer = outer} {inner = inner} occurs within) =
+    in_places [] whole outer inner (occurs_among occurs) within
 
 -- ---- what leads on, with other numbers
 
@@ -246,7 +267,8 @@ alike_among (p ∷ ps) (other ∷ others) q same among =
     let tail : map unnumbered ps ≡ map unnumbered others = cc in
     elim (in_cases p ps q among) [
       | inl is ↦ record { pattern = other; among = in_first other others; same = ap unnumbered (sym is) ∙ head }
-      | inr further ↦ let rest = alike_among ps others q tail further in record { pattern = rest.pattern; among = in_more other others rest.pattern rest.among; same = rest.same }
+      | inr further ↦ let rest = alike_among ps others q tail further in
+          record { pattern = rest.pattern; among = in_more other others rest.pattern rest.among; same = rest.same }
     ]
 
 -- a step, with other numbers
@@ -257,11 +279,15 @@ record HasStep (other to : Place) : Type 0 where
 
 alike_step : {from to : Place} → LeadsTo from to → (other : Place) → AreAlike from other → HasStep other to
 alike_step (to_part {scopes = scopes} {p = p} {q = q} within) other alike =
-    let r = alike_among (parts p) (parts other.pattern) q (sym (parts_unnumbered p) ∙ ap parts alike.1 ∙ parts_unnumbered other.pattern) within in
+    let r =
+    alike_among (parts p) (parts other.pattern) q (sym (parts_unnumbered p) ∙ ap parts alike.1 ∙ parts_unnumbered other.pattern) within
+    in
     record { next = place other.scopes r.pattern; step = to_part r.among; same = (alike.0, r.same) }
 alike_step (to_definition {scope = scope} {outer = outer} {name = name} {p = p} within) other alike =
     let h = alike_scope scope outer other.scopes alike.0 in
-    let r = alike_among (bodies (defining (defined.Name name) scope)) (bodies (defining (defined.Name name) h.other)) p (bodies_same (defined.Name name) scope h.other h.scope_same) within in
+    let r =
+    alike_among (bodies (defining (defined.Name name) scope)) (bodies (defining (defined.Name name) h.other)) p
+    (bodies_same (defined.Name name) scope h.other h.scope_same) within in
     let next : Place = place (h.other ∷ h.rest) r.pattern in
     let P : List Clauses → Type 0 = λ scopes. LeadsTo (place scopes other.pattern) next in
     let Q : Composed → Type 0 = λ q. LeadsTo (place (h.other ∷ h.rest) q) next in
@@ -274,7 +300,9 @@ alike_step (to_outer_definition {inner = inner} {scope = scope} {outer = outer} 
     let g = alike_scope inner (scope ∷ outer) other.scopes alike.0 in
     let h = alike_scope scope outer g.rest g.outer_same in
     let is : other.scopes ≡ g.other ∷ h.other ∷ h.rest = g.is ∙ ap (λ rest. g.other ∷ rest) h.is in
-    let r = alike_among (bodies (defining (defined.Name name) scope)) (bodies (defining (defined.Name name) h.other)) p (bodies_same (defined.Name name) scope h.other h.scope_same) within in
+    let r =
+    alike_among (bodies (defining (defined.Name name) scope)) (bodies (defining (defined.Name name) h.other)) p
+    (bodies_same (defined.Name name) scope h.other h.scope_same) within in
     let next : Place = place (h.other ∷ h.rest) r.pattern in
     let P : List Clauses → Type 0 = λ scopes. LeadsTo (place scopes other.pattern) next in
     let Q : Composed → Type 0 = λ q. LeadsTo (place (g.other ∷ h.other ∷ h.rest) q) next in
@@ -285,7 +313,9 @@ alike_step (to_outer_definition {inner = inner} {scope = scope} {outer = outer} 
     }
 alike_step (to_start {scopes = scopes} {clauses = clauses} {p = p} within) other alike =
     let h = alike_by (composed.grammar clauses) other.pattern alike.1 in
-    let r = alike_among (bodies (defining defined.Start clauses)) (bodies (defining defined.Start h.0)) p (bodies_same defined.Start clauses h.0 (sym h.2)) within in
+    let r =
+    alike_among (bodies (defining defined.Start clauses)) (bodies (defining defined.Start h.0)) p
+    (bodies_same defined.Start clauses h.0 (sym h.2)) within in
     let next : Place = place (h.0 ∷ other.scopes) r.pattern in
     let Q : Composed → Type 0 = λ q. LeadsTo (place other.scopes q) next in
     record {
@@ -320,22 +350,29 @@ outer_occurs (further_in occurs (a_part within)) = outer_occurs occurs
 outer_occurs (further_in occurs a_content) = outer_occurs occurs
 outer_occurs (further_in occurs (a_definition within)) = occurs
 
-defining_among_if : (b : Bool) (name : Defined) (c : Combine) (p : Composed) (rest more : Clauses) (q : Composed) → (Contains (bodies rest) q → Contains (bodies more) q) → Contains (bodies (if b then clause_then name c p rest else rest)) q → Contains (p ∷ bodies more) q
+defining_among_if : (b : Bool) (name : Defined) (c : Combine) (p : Composed) (rest more : Clauses) (q : Composed) →
+    (Contains (bodies rest) q → Contains (bodies more) q) → Contains (bodies (if b then clause_then name c p rest else rest)) q →
+    Contains (p ∷ bodies more) q
 defining_among_if true name c p rest more q further among = elim (in_cases p (bodies rest) q among) [
   | inl is ↦ let P : Composed → Type 0 = λ r. Contains (p ∷ bodies more) r in subst P is (in_first p (bodies more))
   | inr others ↦ in_more p (bodies more) q (further others)
 ]
 defining_among_if false name c p rest more q further among = in_more p (bodies more) q (further among)
 
-defining_among : (name : Defined) (clauses : Clauses) (q : Composed) → Contains (bodies (defining name clauses)) q → Contains (bodies clauses) q
+defining_among : (name : Defined) (clauses : Clauses) (q : Composed) → Contains (bodies (defining name clauses)) q →
+    Contains (bodies clauses) q
 defining_among name end_of_clauses q among = among
-defining_among name (clause_then other c p more) q among = defining_among_if (same_defined name other) other c p (defining name more) more q (defining_among name more q) among
+defining_among name (clause_then other c p more) q among =
+    defining_among_if (same_defined name other) other c p (defining name more) more q (defining_among name more q) among
 
 occurs_lead : {whole : Composed} {from to : Place} → LeadsTo from to → Occurs whole from → Occurs whole to
 occurs_lead (to_part within) occurs = further_in occurs (a_part within)
-occurs_lead (to_definition {scope = scope} {name = name} {p = p} within) occurs = further_in (outer_occurs occurs) (a_definition (defining_among (defined.Name name) scope p within))
-occurs_lead (to_outer_definition {scope = scope} {name = name} {p = p} within) occurs = further_in (outer_occurs (outer_occurs occurs)) (a_definition (defining_among (defined.Name name) scope p within))
-occurs_lead (to_start {clauses = clauses} {p = p} within) occurs = further_in occurs (a_definition (defining_among defined.Start clauses p within))
+occurs_lead (to_definition {scope = scope} {name = name} {p = p} within) occurs =
+    further_in (outer_occurs occurs) (a_definition (defining_among (defined.Name name) scope p within))
+occurs_lead (to_outer_definition {scope = scope} {name = name} {p = p} within) occurs =
+    further_in (outer_occurs (outer_occurs occurs)) (a_definition (defining_among (defined.Name name) scope p within))
+occurs_lead (to_start {clauses = clauses} {p = p} within) occurs =
+    further_in occurs (a_definition (defining_among defined.Start clauses p within))
 
 occurs_leads : {whole : Composed} {from to : Place} → LeadsOn from to → Occurs whole from → Occurs whole to
 occurs_leads (in_one_step step) occurs = occurs_lead step occurs
@@ -371,7 +408,8 @@ module _ (whole : Composed) (back : Place) (leads : LeadsOn back back) where
   chain_leads h i zero less = absurd (omega arith)
   chain_leads h i (suc j) less = elim (cases_lt i j) [
     | inl before ↦ leads_then (chain_leads h i j before) (next_leads (chain h j))
-    | inr least ↦ let same : j ≡ i = omega arith in let P : ℕ → Type 0 = λ k. LeadsOn (chain h k).at (next_found (chain h j)).at in subst P same (next_leads (chain h j))
+    | inr least ↦ let same : j ≡ i =
+        omega arith in let P : ℕ → Type 0 = λ k. LeadsOn (chain h k).at (next_found (chain h j)).at in subst P same (next_leads (chain h j))
   ]
 
   index : (h : IsFound) → (k : ℕ) × (k < length (places [] whole)) × (slice_get (places [] whole) k ≡ Some h.at)

@@ -1,16 +1,18 @@
 -- Laws of simple forms and of pieces: what the definitions say, they say of one thing.
-use Rattle.std.specs.Prelude.{◌≡◌, ℕ, List}
+use Rattle.std.specs.Prelude.{◌≡◌, ◌⊎◌, ℕ, List, Some, Ok, Err}
 use Rattle.nx_base.specs.declared.cause.Cause.{Cause}
-use Rattle.nx_base.specs.declared.cause.Cause.TheVariants as cause
 use Rattle.nx_host.specs.Files.{FileMap}
+use Rattle.rng_core.specs.declared.grammar.Grammar.{Grammar}
 use Rattle.rng_core.specs.Patterns.{Pattern, Definition}
+use Rattle.rng_simplify.specs.declared.fault.SchemaFault.{SchemaFault}
+use Rattle.rng_simplify.specs.declared.fault.SchemaFault.TheVariants.{NoMemory, Failed}
 use Rattle.rng_simplify.specs.Broken.{IsAbsent, IsNoText, HasBadUri, IsRefused, HasIncludeLoop, IncludesOther, ReplacesNothing, IsBroken}
 use Rattle.rng_simplify.specs.Composed.{Composed, Clauses}
 use Rattle.rng_simplify.specs.Composing.{ComposesSchema}
 use Rattle.rng_simplify.specs.Forms.{Form, FormDefinition}
 use Rattle.rng_simplify.specs.Grammars.{IsSimplified}
 use Rattle.rng_simplify.specs.Simple.{Simple}
-use Rattle.rng_simplify.specs.Simplified.{Simplifies}
+use Rattle.rng_simplify.specs.Simplified.{Simplifies, Answers}
 use Rattle.rng_simplify.specs.Unnumbered.{unnumbered}
 use Rattle.rng_simplify.specs.Whole.{IsForm}
 
@@ -50,24 +52,15 @@ pub record ArePassed (files : FileMap) (uri : List ℕ) : Type 0 where
 abbrev pub ComposedArePassed : Type 0
 ComposedArePassed = (files : FileMap) (uri : List ℕ) (whole : Composed) → ComposesSchema files uri whole → ArePassed files uri
 
--- causes of a schema in one piece that its size has no part in
-abbrev pub IsOfPlaces : Cause → Type 0
-IsOfPlaces cause.NoDefinition = Unit {0}
-IsOfPlaces cause.NoStart = Unit {0}
-IsOfPlaces cause.CombineClash = Unit {0}
-IsOfPlaces cause.RefLoop = Unit {0}
-IsOfPlaces cause.BadExcept = Unit {0}
-IsOfPlaces cause.XmlnsName = Unit {0}
-IsOfPlaces cause.UnknownType = Unit {0}
-IsOfPlaces cause.UnknownParam = Unit {0}
-IsOfPlaces cause.BadParam = Unit {0}
-IsOfPlaces cause.BadValue = Unit {0}
-IsOfPlaces cause.TooManyExcepts = Unit {0}
-IsOfPlaces cause.UnsupportedExcept = Unit {0}
-IsOfPlaces why = ⊥
-
--- files that have a grammar are broken for none of these, whatever numbers elements have
+-- files that have a grammar are not broken, whatever numbers elements have
 abbrev pub SimplifiedIsNotBroken : Type 0
 SimplifiedIsNotBroken =
     (files : FileMap) (uri : List ℕ) (start : Pattern) (definitions : List Definition) → Simplifies files uri start definitions →
-    (why : Cause) → IsOfPlaces why → IsBroken files uri why → ⊥
+    (why : Cause) → IsBroken files uri why → ⊥
+
+-- and they are refused for want of memory alone, or where the files could not be had
+abbrev pub GrammarIsNoRefusal : Type 0
+GrammarIsNoRefusal =
+    (files : FileMap) (uri : List ℕ) (before after : ℕ) (grammar : Grammar) (refusal : SchemaFault) →
+    Answers (Some files) uri before after (Ok grammar) → Answers (Some files) uri before after (Err refusal) →
+    (refusal ≡ NoMemory) ⊎ (refusal ≡ Failed)

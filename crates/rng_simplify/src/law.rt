@@ -1,6 +1,6 @@
 //! Laws of composing and of simple forms. Nothing here runs.
 
-ghost use Rattle.rng_simplify.specs.Agreeing.{SimpleFormIsOne, SchemaFormIsOne, GrammarIsOne, PieceIsOne, ComposedArePassed, SimplifiedIsNotBroken};
+ghost use Rattle.rng_simplify.specs.Agreeing.{SimpleFormIsOne, SchemaFormIsOne, GrammarIsOne, PieceIsOne, ComposedArePassed, SimplifiedIsNotBroken, GrammarIsNoRefusal};
 ghost use Rattle.rng_simplify.specs.Composition.{NoPieceIsMissing, MadeIsWellFormed, MadeIsText, WellFormedDenotes, MadeIsComposed, RefusedIsBroken};
 ghost use Rattle.rng_simplify.specs.Supplying.{PatternsAreComposed};
 
@@ -70,9 +70,16 @@ pub fn composed_are_passed()
     joins_is_decided();
 }
 
-/// Files that have a grammar are not broken for a cause that is seen at one place of a schema.
+/// Files that have a grammar are not broken.
 pub fn simplified_is_not_broken()
     ensures { SimplifiedIsNotBroken }
+{
+    joins_is_decided();
+}
+
+/// Files that have a grammar are refused for want of memory alone, or where they could not be had.
+pub fn grammar_is_no_refusal()
+    ensures { GrammarIsNoRefusal }
 {
     joins_is_decided();
 }
