@@ -360,10 +360,10 @@ pub no_refusal : JoinsIsDecided → (files : FileMap) (uri : List ℕ) (before a
 no_refusal decided files uri before after grammar fault.NoMemory h r = inl refl
 no_refusal decided files uri before after grammar fault.Failed h r = inr refl
 no_refusal decided files uri before after grammar (fault.Absent absent) h r =
-    absurd ((are_passed decided files uri h.0.whole h.0.composed).none_absent absent r.0)
+    absurd ((are_passed decided files uri h.0.whole h.0.composed).none_absent absent r.1)
 no_refusal decided files uri before after grammar (fault.NotUtf8 wrong at) h r =
-    absurd ((are_passed decided files uri h.0.whole h.0.composed).all_texts wrong at r.0)
+    absurd ((are_passed decided files uri h.0.whole h.0.composed).all_texts wrong at r.1)
 no_refusal decided files uri before after grammar (fault.BadUri text) h r =
-    absurd ((are_passed decided files uri h.0.whole h.0.composed).no_bad_uri text r.0)
+    absurd ((are_passed decided files uri h.0.whole h.0.composed).no_bad_uri text r.1)
 no_refusal decided files uri before after grammar (fault.Unreadable why) h r =
     absurd (never_broken decided files uri (pattern_of grammar.start) (definitions_of grammar) h.0 why r.0)
