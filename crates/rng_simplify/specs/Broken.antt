@@ -186,7 +186,8 @@ pub record IsForeign (type : TypeName) (values : List Value) : Type 0 where
 -- what is taken from a type is no choice of values, or has such a value
 abbrev pub IsUnsupported : List Clauses → Composed → Type 0
 IsUnsupported scopes (composed.typed type params except) =
-    (q : Form) × Simple scopes except q × ((values_of q ≡ None) ⊎ ((values : List Value) × (values_of q ≡ Some values) × IsForeign type values))
+    (q : Form) × Simple scopes except q × ((values_of q ≡ None) ⊎ ((values : List Value) × (values_of q ≡ Some values)
+    × IsForeign type values))
 IsUnsupported scopes p = ⊥
 
 -- the most values that may be taken from a type
@@ -212,7 +213,8 @@ nodes_of_all start definitions = nodes start + sum_by (λ (definition : FormDefi
 abbrev pub IsTooDeep : Form → List FormDefinition → Type 0
 IsTooDeep start definitions =
     (depth_limit < depth start)
-    ⊎ ((number : ℕ) × (definition : FormDefinition) × (slice_get definitions number ≡ Some definition) × (depth_limit < depth definition.content))
+    ⊎ ((number : ℕ) × (definition : FormDefinition) × (slice_get definitions number ≡ Some definition)
+    × (depth_limit < depth definition.content))
 
 -- the simple form is beyond a limit
 pub record IsTooLarge (whole : Composed) : Type 0 where

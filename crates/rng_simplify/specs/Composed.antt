@@ -54,12 +54,14 @@ defines name (clause_then other combine p more) = if same_defined name other the
 -- those that define the name
 abbrev pub defining : Defined → Clauses → Clauses
 defining name end_of_clauses = end_of_clauses
-defining name (clause_then other combine p more) = if same_defined name other then clause_then other combine p (defining name more) else defining name more
+defining name (clause_then other combine p more) = if same_defined name other then clause_then other combine p (defining name more)
+    else defining name more
 
 -- those that define nothing that these others define
 abbrev pub but_for : Clauses → Clauses → Clauses
 but_for others end_of_clauses = end_of_clauses
-but_for others (clause_then name combine p more) = if defines name others then but_for others more else clause_then name combine p (but_for others more)
+but_for others (clause_then name combine p more)
+    = if defines name others then but_for others more else clause_then name combine p (but_for others more)
 
 -- how they are joined
 abbrev pub combines : Clauses → List Combine

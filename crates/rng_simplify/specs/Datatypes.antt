@@ -42,18 +42,27 @@ builtin_token = record { library = []; name = codes "token" }
 -- takes nothing away
 pub data AreExcepts (type : TypeName) (datatype : Datatype) : List Value → List Except → Type 0 where
   no_except : AreExcepts type datatype [] []
-  own_value : {text : List ℕ} {values : List Value} {excepts : List Except} → Accepts datatype text → AreExcepts type datatype values excepts → AreExcepts type datatype (record { type = type; text = text } ∷ values) (Own text ∷ excepts)
-  own_value_beside : {text : List ℕ} {values : List Value} {excepts : List Except} → ¬ Accepts datatype text → AreExcepts type datatype values excepts → AreExcepts type datatype (record { type = type; text = text } ∷ values) excepts
-  string_value : {text : List ℕ} {values : List Value} {excepts : List Except} → type ≢ builtin_string → AreExcepts type datatype values excepts → AreExcepts type datatype (record { type = builtin_string; text = text } ∷ values) (BuiltinString text ∷ excepts)
-  token_value : {text : List ℕ} {values : List Value} {excepts : List Except} → type ≢ builtin_token → AreExcepts type datatype values excepts → AreExcepts type datatype (record { type = builtin_token; text = text } ∷ values) (BuiltinToken text ∷ excepts)
+  own_value : {text : List ℕ} {values : List Value} {excepts : List Except} → Accepts datatype text →
+      AreExcepts type datatype values excepts → AreExcepts type datatype (record { type = type; text = text } ∷ values) (Own text ∷ excepts)
+  own_value_beside : {text : List ℕ} {values : List Value} {excepts : List Except} → ¬ Accepts datatype text →
+      AreExcepts type datatype values excepts → AreExcepts type datatype (record { type = type; text = text } ∷ values) excepts
+  string_value : {text : List ℕ} {values : List Value} {excepts : List Except} → type ≢ builtin_string →
+      AreExcepts type datatype values excepts → AreExcepts type datatype (record { type = builtin_string; text = text } ∷ values)
+      (BuiltinString text ∷ excepts)
+  token_value : {text : List ℕ} {values : List Value} {excepts : List Except} → type ≢ builtin_token →
+      AreExcepts type datatype values excepts → AreExcepts type datatype (record { type = builtin_token; text = text } ∷ values)
+      (BuiltinToken text ∷ excepts)
 
 -- a form with its types
 pub data Typed : Form → Pattern → Type 0 where
   typed_not_allowed : Typed form.not_allowed pattern.not_allowed
   typed_empty : Typed form.empty pattern.empty
   typed_text : Typed form.any_text pattern.any_text
-  typed_value : {v : Value} {datatype : Datatype} → datatype_of v.type [] ≡ Ok datatype → Typed (form.value v) (pattern.literal datatype v.text)
-  typed_type : {type : TypeName} {params : List Param} {values : List Value} {datatype : Datatype} {excepts : List Except} → datatype_of type params ≡ Ok datatype → AreExcepts type datatype values excepts → Typed (form.typed type params values) (pattern.typed datatype excepts)
+  typed_value : {v : Value} {datatype : Datatype} → datatype_of v.type [] ≡ Ok datatype →
+      Typed (form.value v) (pattern.literal datatype v.text)
+  typed_type : {type : TypeName} {params : List Param} {values : List Value} {datatype : Datatype} {excepts : List Except} →
+      datatype_of type params ≡ Ok datatype → AreExcepts type datatype values excepts →
+      Typed (form.typed type params values) (pattern.typed datatype excepts)
   typed_list : {p : Form} {q : Pattern} → Typed p q → Typed (form.listed p) (pattern.listed q)
   typed_attribute : {class : Class} {p : Form} {q : Pattern} → Typed p q → Typed (form.attribute class p) (pattern.attribute class q)
   typed_ref : {number : ℕ} → Typed (form.ref number) (pattern.ref number)
@@ -64,4 +73,5 @@ pub data Typed : Form → Pattern → Type 0 where
 
 pub data AreTyped : List FormDefinition → List Definition → Type 0 where
   none_typed : AreTyped [] []
-  next_typed : {class : Class} {p : Form} {q : Pattern} {ps : List FormDefinition} {qs : List Definition} → Typed p q → AreTyped ps qs → AreTyped (record { class = class; content = p } ∷ ps) (record { class = class; content = q } ∷ qs)
+  next_typed : {class : Class} {p : Form} {q : Pattern} {ps : List FormDefinition} {qs : List Definition} → Typed p q → AreTyped ps qs →
+      AreTyped (record { class = class; content = p } ∷ ps) (record { class = class; content = q } ∷ qs)

@@ -22,20 +22,29 @@ composed_by sign.Interleave = composed.interleave
 
 mutual
   pub data Denotes (cells : List Cell) (number : ℕ → ℕ) : ℕ → Composed → Type 0 where
-    is_element : {i part : ℕ} {class : Class} {p : Composed} → IsCell cells i (cell.element class part) → Denotes cells number part p → Denotes cells number i (composed.element (number i) class p)
-    is_attribute : {i part : ℕ} {class : Class} {p : Composed} → IsCell cells i (cell.attribute class part) → Denotes cells number part p → Denotes cells number i (composed.attribute class p)
-    is_list : {i part : ℕ} {p : Composed} → IsCell cells i (cell.listed part) → Denotes cells number part p → Denotes cells number i (composed.listed p)
+    is_element : {i part : ℕ} {class : Class} {p : Composed} → IsCell cells i (cell.element class part) → Denotes cells number part p →
+        Denotes cells number i (composed.element (number i) class p)
+    is_attribute : {i part : ℕ} {class : Class} {p : Composed} → IsCell cells i (cell.attribute class part) →
+        Denotes cells number part p → Denotes cells number i (composed.attribute class p)
+    is_list : {i part : ℕ} {p : Composed} → IsCell cells i (cell.listed part) → Denotes cells number part p →
+        Denotes cells number i (composed.listed p)
     is_ref : {i : ℕ} {name : List ℕ} → IsCell cells i (cell.ref name) → Denotes cells number i (composed.ref name)
     is_parent_ref : {i : ℕ} {name : List ℕ} → IsCell cells i (cell.parent_ref name) → Denotes cells number i (composed.parent_ref name)
     is_empty : {i : ℕ} → IsCell cells i cell.empty → Denotes cells number i composed.empty
     is_text : {i : ℕ} → IsCell cells i cell.any_text → Denotes cells number i composed.any_text
     is_not_allowed : {i : ℕ} → IsCell cells i cell.not_allowed → Denotes cells number i composed.not_allowed
-    is_value : {i : ℕ} {type : TypeName} {text : List ℕ} → IsCell cells i (cell.value type text) → Denotes cells number i (composed.value type text)
-    is_type : {i part : ℕ} {type : TypeName} {params : List Param} {p : Composed} → IsCell cells i (cell.typed type params part) → Denotes cells number part p → Denotes cells number i (composed.typed type params p)
-    is_grammar : {i : ℕ} {clauses : List Clause} {all : Clauses} → IsCell cells i (cell.grammar clauses) → DenoteAll cells number clauses all → Denotes cells number i (composed.grammar all)
-    is_one_or_more : {i part : ℕ} {p : Composed} → IsCell cells i (cell.one_or_more part) → Denotes cells number part p → Denotes cells number i (composed.one_or_more p)
-    is_joined : {i first second : ℕ} {p q : Composed} (by : Sign) → IsCell cells i (cell.joined by first second) → Denotes cells number first p → Denotes cells number second q → Denotes cells number i (composed_by by p q)
+    is_value : {i : ℕ} {type : TypeName} {text : List ℕ} → IsCell cells i (cell.value type text) →
+        Denotes cells number i (composed.value type text)
+    is_type : {i part : ℕ} {type : TypeName} {params : List Param} {p : Composed} → IsCell cells i (cell.typed type params part) →
+        Denotes cells number part p → Denotes cells number i (composed.typed type params p)
+    is_grammar : {i : ℕ} {clauses : List Clause} {all : Clauses} → IsCell cells i (cell.grammar clauses) →
+        DenoteAll cells number clauses all → Denotes cells number i (composed.grammar all)
+    is_one_or_more : {i part : ℕ} {p : Composed} → IsCell cells i (cell.one_or_more part) → Denotes cells number part p →
+        Denotes cells number i (composed.one_or_more p)
+    is_joined : {i first second : ℕ} {p q : Composed} (by : Sign) → IsCell cells i (cell.joined by first second) →
+        Denotes cells number first p → Denotes cells number second q → Denotes cells number i (composed_by by p q)
 
   pub data DenoteAll (cells : List Cell) (number : ℕ → ℕ) : List Clause → Clauses → Type 0 where
     none_denoted : DenoteAll cells number [] end_of_clauses
-    next_denoted : {clause : Clause} {more : List Clause} {p : Composed} {rest : Clauses} → Denotes cells number clause.body p → DenoteAll cells number more rest → DenoteAll cells number (clause ∷ more) (clause_then clause.name clause.combine p rest)
+    next_denoted : {clause : Clause} {more : List Clause} {p : Composed} {rest : Clauses} → Denotes cells number clause.body p →
+        DenoteAll cells number more rest → DenoteAll cells number (clause ∷ more) (clause_then clause.name clause.combine p rest)

@@ -71,7 +71,8 @@ pub record IsBefore (order : List ℕ) (end i : ℕ) : Type 0 where
 pub record IsInOrder (cells : List Cell) (found : Resolved) (order : List ℕ) : Type 0 where
   pub within : (place i : ℕ) → slice_get order place ≡ Some i → i < length cells + length found.joins.items
   pub all_links : length found.links.items ≡ length cells
-  pub numbered : (place i : ℕ) (class : Class) (part : ℕ) → slice_get order place ≡ Some i → IsCell cells i (cell.element class part) → link_at found i < length found.elements.items
+  pub numbered : (place i : ℕ) (class : Class) (part : ℕ) → slice_get order place ≡ Some i → IsCell cells i (cell.element class part) →
+      link_at found i < length found.elements.items
   pub once : (place other i : ℕ) → slice_get order place ≡ Some i → slice_get order other ≡ Some i → place ≡ other
   pub behind : (place i j : ℕ) → slice_get order place ≡ Some i → Contains (leads cells found i) j → IsBefore order place j
 
@@ -83,8 +84,11 @@ pub record AreAlike (cells others : List Cell) (order : List ℕ) (end : ℕ) : 
 pub record AreFormed (cells : List Cell) (found : Resolved) (order : List ℕ) (end : ℕ) (forms : Forms) : Type 0 where
   pub all : length forms.of.items ≡ length cells + length found.joins.items
   pub known : (i : ℕ) → IsBefore order end i → IsKnown forms.shapes forms.of.items i
-  pub node_is : (i : ℕ) (c : Cell) (taken : ℕ → List Value) → IsBefore order end i → IsCell cells i c → form_of cells taken forms i ≡ cell_form (form_of cells taken forms) (length cells) (link_at found i) (taken i) c
-  pub join_is : (number : ℕ) (join : Join) (taken : ℕ → List Value) → IsBefore order end (length cells + number) → slice_get found.joins.items number ≡ Some join → form_of cells taken forms (length cells + number) ≡ join_form (form_of cells taken forms) join
+  pub node_is : (i : ℕ) (c : Cell) (taken : ℕ → List Value) → IsBefore order end i → IsCell cells i c →
+      form_of cells taken forms i ≡ cell_form (form_of cells taken forms) (length cells) (link_at found i) (taken i) c
+  pub join_is : (number : ℕ) (join : Join) (taken : ℕ → List Value) → IsBefore order end (length cells + number) →
+      slice_get found.joins.items number ≡ Some join →
+      form_of cells taken forms (length cells + number) ≡ join_form (form_of cells taken forms) join
   -- their shapes are of nodes in front of the place alone
   pub of_schema : (others : List Cell) → AreAlike cells others order end → AreOfSchema others (length found.elements.items) forms.shapes
 
@@ -94,7 +98,8 @@ pub record AreForms (cells : List Cell) (found : Resolved) (order : List ℕ) (f
 
 -- these values are what the types in front of this place say that is taken from them
 pub record AreTaken (cells : List Cell) (order : List ℕ) (end : ℕ) (taken : ℕ → List Value) (forms : Forms) : Type 0 where
-  pub each_is : (i : ℕ) (type : TypeName) (params : List Param) (part : ℕ) → IsBefore order end i → IsCell cells i (cell.typed type params part) → values_of (form_of cells taken forms part) ≡ Some (taken i)
+  pub each_is : (i : ℕ) (type : TypeName) (params : List Param) (part : ℕ) → IsBefore order end i →
+      IsCell cells i (cell.typed type params part) → values_of (form_of cells taken forms part) ≡ Some (taken i)
 
 -- ---- what calls do
 
@@ -114,8 +119,10 @@ pub record IsCellMade (old new : List Shape) (of : List ℕ) (count i link : ℕ
   pub more : List Shape
   pub grows : new ≡ old ++ more
   pub within : number < length new
-  pub shows : (cells : List Cell) (taken : ℕ → List Value) → IsCell cells i c → form_at cells taken new number ≡ cell_form (form_in cells taken old of) count link (taken i) c
-  pub kept : (cells : List Cell) (elements : ℕ) → IsCell cells i c → IsNumberedBelow elements link c → AreOfSchema cells elements old → AreOfSchema cells elements new
+  pub shows : (cells : List Cell) (taken : ℕ → List Value) → IsCell cells i c →
+      form_at cells taken new number ≡ cell_form (form_in cells taken old of) count link (taken i) c
+  pub kept : (cells : List Cell) (elements : ℕ) → IsCell cells i c → IsNumberedBelow elements link c → AreOfSchema cells elements old →
+      AreOfSchema cells elements new
 
 abbrev pub MakesCell : List Shape → List Shape → List ℕ → ℕ → ℕ → ℕ → Cell → Result ℕ SchemaFault → Type 0
 MakesCell old new of count i link c (Ok number) = IsCellMade old new of count i link c number
@@ -127,7 +134,8 @@ pub record IsJoinMade (old new : List Shape) (of : List ℕ) (combine : Combine)
   pub more : List Shape
   pub grows : new ≡ old ++ more
   pub within : number < length new
-  pub shows : (cells : List Cell) (taken : ℕ → List Value) → form_at cells taken new number ≡ bodies_form combine (map (form_in cells taken old of) bodies)
+  pub shows : (cells : List Cell) (taken : ℕ → List Value) →
+      form_at cells taken new number ≡ bodies_form combine (map (form_in cells taken old of) bodies)
   pub kept : (cells : List Cell) (elements : ℕ) → AreOfSchema cells elements old → AreOfSchema cells elements new
 
 abbrev pub MakesJoin : List Shape → List Shape → List ℕ → Combine → List ℕ → Result ℕ SchemaFault → Type 0
@@ -140,7 +148,8 @@ pub record AreAllJoined (old new : List Shape) (of : List ℕ) (by : Sign) (firs
   pub more : List Shape
   pub grows : new ≡ old ++ more
   pub within : number < length new
-  pub shows : (cells : List Cell) (taken : ℕ → List Value) → form_at cells taken new number ≡ joined (joined_of by) (form_at cells taken old first) (map (form_in cells taken old of) others)
+  pub shows : (cells : List Cell) (taken : ℕ → List Value) →
+      form_at cells taken new number ≡ joined (joined_of by) (form_at cells taken old first) (map (form_in cells taken old of) others)
   pub kept : (cells : List Cell) (elements : ℕ) → AreOfSchema cells elements old → AreOfSchema cells elements new
 
 abbrev pub JoinsAll : List Shape → List Shape → List ℕ → Sign → ℕ → List ℕ → Result ℕ SchemaFault → Type 0
@@ -153,9 +162,12 @@ pub record IsMade (cells : List Cell) (found : Resolved) (i : ℕ) (old new : Li
   pub more : List Shape
   pub grows : new ≡ old ++ more
   pub within : number < length new
-  pub node_is : (c : Cell) (taken : ℕ → List Value) → IsCell cells i c → form_at cells taken new number ≡ cell_form (form_in cells taken old of) (length cells) (link_at found i) (taken i) c
-  pub join_is : (n : ℕ) (join : Join) (taken : ℕ → List Value) → i ≡ length cells + n → slice_get found.joins.items n ≡ Some join → form_at cells taken new number ≡ join_form (form_in cells taken old of) join
-  pub kept : (others : List Cell) (elements : ℕ) → ((c : Cell) → IsCell cells i c → IsCell others i c) → ((c : Cell) → IsCell cells i c → IsNumberedBelow elements (link_at found i) c) → AreOfSchema others elements old → AreOfSchema others elements new
+  pub node_is : (c : Cell) (taken : ℕ → List Value) → IsCell cells i c →
+      form_at cells taken new number ≡ cell_form (form_in cells taken old of) (length cells) (link_at found i) (taken i) c
+  pub join_is : (n : ℕ) (join : Join) (taken : ℕ → List Value) → i ≡ length cells + n → slice_get found.joins.items n ≡ Some join →
+      form_at cells taken new number ≡ join_form (form_in cells taken old of) join
+  pub kept : (others : List Cell) (elements : ℕ) → ((c : Cell) → IsCell cells i c → IsCell others i c) → ((c : Cell) → IsCell cells i c →
+      IsNumberedBelow elements (link_at found i) c) → AreOfSchema others elements old → AreOfSchema others elements new
 
 abbrev pub Makes : List Cell → Resolved → ℕ → List Shape → List Shape → List ℕ → Result ℕ SchemaFault → Type 0
 Makes cells found i old new of (Ok number) = IsMade cells found i old new of number

@@ -38,13 +38,15 @@ pub record AreElements (cells : List Cell) (forms : Forms) (elements : List ℕ)
 
 -- all nodes of the form of one and of those of elements' contents
 abbrev pub nodes_of_all : List Cell → (ℕ → List Value) → Forms → ℕ → List ℕ → ℕ
-nodes_of_all cells taken forms root elements = nodes (form_of cells taken forms root) + sum_by (λ i. nodes (form_of cells taken forms (content_of cells i))) elements
+nodes_of_all cells taken forms root elements = nodes (form_of cells taken forms root)
+    + sum_by (λ i. nodes (form_of cells taken forms (content_of cells i))) elements
 
 -- they are within the limits
 pub record AreWithinLimits (cells : List Cell) (taken : ℕ → List Value) (forms : Forms) (root : ℕ) (elements : List ℕ) : Type 0 where
   pub few : nodes_of_all cells taken forms root elements ≤ node_limit
   pub shallow : depth (form_of cells taken forms root) ≤ depth_limit
-  pub each_shallow : (place i : ℕ) → slice_get elements place ≡ Some i → depth (form_of cells taken forms (content_of cells i)) ≤ depth_limit
+  pub each_shallow : (place i : ℕ) → slice_get elements place ≡ Some i →
+      depth (form_of cells taken forms (content_of cells i)) ≤ depth_limit
 
 -- or not
 abbrev pub AreBeyondLimits : List Cell → (ℕ → List Value) → Forms → ℕ → List ℕ → Type 0
@@ -55,7 +57,8 @@ AreBeyondLimits cells taken forms root elements =
 
 abbrev pub IsWithinLimits : List Cell → Forms → ℕ → List ℕ → Result (Unit {0}) SchemaFault → Type 0
 IsWithinLimits cells forms root elements (Ok done) = (taken : ℕ → List Value) → AreWithinLimits cells taken forms root elements
-IsWithinLimits cells forms root elements (Err (fault.Unreadable TooLarge)) = (taken : ℕ → List Value) → AreBeyondLimits cells taken forms root elements
+IsWithinLimits cells forms root elements (Err (fault.Unreadable TooLarge)) = (taken : ℕ → List Value) →
+    AreBeyondLimits cells taken forms root elements
 IsWithinLimits cells forms root elements (Err other) = ⊥
 
 -- a form is counted behind so many nodes
@@ -66,5 +69,6 @@ pub record IsCounted (cells : List Cell) (taken : ℕ → List Value) (forms : F
 
 abbrev pub Counts : Forms → ℕ → ℕ → Result ℕ SchemaFault → Type 0
 Counts forms node before (Ok count) = (cells : List Cell) (taken : ℕ → List Value) → IsCounted cells taken forms node before count
-Counts forms node before (Err (fault.Unreadable TooLarge)) = (cells : List Cell) (taken : ℕ → List Value) → (node_limit < before + nodes (form_of cells taken forms node)) ⊎ (depth_limit < depth (form_of cells taken forms node))
+Counts forms node before (Err (fault.Unreadable TooLarge)) = (cells : List Cell) (taken : ℕ → List Value) →
+    (node_limit < before + nodes (form_of cells taken forms node)) ⊎ (depth_limit < depth (form_of cells taken forms node))
 Counts forms node before (Err other) = ⊥

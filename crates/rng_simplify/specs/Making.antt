@@ -121,7 +121,8 @@ abbrev mutual
   make ns (written.element class p) now = make ns p now >>= λ i. cell_made (cell.element (class_in ns class) i)
   make ns (written.attribute class p) now = make ns p now >>= λ i. cell_made (cell.attribute (class_in ns class) i)
   make ns (written.list p) now = make ns p now >>= λ i. cell_made (cell.listed i)
-  make ns (written.mixed p) now = cell_made cell.any_text now >>= λ text then. make ns p then >>= λ i. cell_made (cell.joined sign.Interleave text i)
+  make ns (written.mixed p)
+      now = cell_made cell.any_text now >>= λ text then. make ns p then >>= λ i. cell_made (cell.joined sign.Interleave text i)
   make ns (written.ref name) now = cell_made (cell.ref name) now
   make ns (written.parent_ref name) now = cell_made (cell.parent_ref name) now
   make ns written.empty now = cell_made cell.empty now
@@ -142,19 +143,23 @@ abbrev mutual
   pub make_item : List ℕ → WrittenItem → Making → Outcome (List Clause)
   make_item ns (written.define name combine p) now = make ns p now >>= λ i. made (record { name = name; combine = combine; body = i } ∷ [])
   make_item ns (written.div items) now = make_items ns items now
-  make_item ns (written.include reference replacements) now = next_grammar now >>= λ old then. make_anew ns replacements then >>= λ new. replaced_if (defines_all old new) (with_new old new)
+  make_item ns (written.include reference replacements)
+      now = next_grammar now >>= λ old then. make_anew ns replacements then >>= λ new. replaced_if (defines_all old new) (with_new old new)
 
   pub make_items : List ℕ → WrittenItems → Making → Outcome (List Clause)
   make_items ns written.no_items now = made [] now
-  make_items ns (written.item_then item items) now = make_item ns item now >>= λ first then. make_items ns items then >>= λ more. made (first ++ more)
+  make_items ns (written.item_then item items)
+      now = make_item ns item now >>= λ first then. make_items ns items then >>= λ more. made (first ++ more)
 
   pub make_replacement : List ℕ → WrittenReplacement → Making → Outcome (List Clause)
-  make_replacement ns (written.define_anew name combine p) now = make ns p now >>= λ i. made (record { name = name; combine = combine; body = i } ∷ [])
+  make_replacement ns (written.define_anew name combine p)
+      now = make ns p now >>= λ i. made (record { name = name; combine = combine; body = i } ∷ [])
   make_replacement ns (written.div_anew replacements) now = make_anew ns replacements now
 
   pub make_anew : List ℕ → WrittenReplacements → Making → Outcome (List Clause)
   make_anew ns written.no_replacements now = made [] now
-  make_anew ns (written.replacement_then replacement replacements) now = make_replacement ns replacement now >>= λ first then. make_anew ns replacements then >>= λ more. made (first ++ more)
+  make_anew ns (written.replacement_then replacement replacements)
+      now = make_replacement ns replacement now >>= λ first then. make_anew ns replacements then >>= λ more. made (first ++ more)
 
 -- definitions behind others
 abbrev pub behind : List Clause → Outcome (List Clause) → Outcome (List Clause)
@@ -193,7 +198,8 @@ make_file ns (written.a_pattern p) now = lone_made ns p now
 
 -- it leaves its piece for what mentions it
 abbrev pub file_made : Loaded → Making → Outcome (Unit {0})
-file_made file now = make_file file.inherited (surface_of file.surface) now >>= λ piece then. made tt (record { cells = then.cells; pieces = piece ∷ then.pieces })
+file_made file now = make_file file.inherited (surface_of file.surface)
+    now >>= λ piece then. made tt (record { cells = then.cells; pieces = piece ∷ then.pieces })
 
 -- files in order, each behind those that it mentions
 abbrev pub files_made : List Loaded → Making → Outcome (Unit {0})
@@ -212,7 +218,8 @@ whole_made files = whole_made_from files nothing_made
 
 -- a call answers it, unless memory runs out
 abbrev pub MakesWhole : List Loaded → Result Whole SchemaFault → Type 0
-MakesWhole files (Ok whole) = (left : List FilePiece) × (whole_made files ≡ made whole.root (record { cells = map cell_of whole.nodes.items; pieces = left }))
+MakesWhole files (Ok whole) = (left : List FilePiece)
+    × (whole_made files ≡ made whole.root (record { cells = map cell_of whole.nodes.items; pieces = left }))
 MakesWhole files (Err (fault.Unreadable why)) = whole_made files ≡ refused why
 MakesWhole files (Err fault.NoMemory) = Unit {0}
 MakesWhole files (Err other) = ⊥

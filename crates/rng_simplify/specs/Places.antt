@@ -34,8 +34,10 @@ parts (composed.interleave p q) = p ∷ q ∷ []
 -- the second stands directly in the first: as a part, as an element's content, as a definition of a grammar
 pub data IsIn : Place → Place → Type 0 where
   a_part : {scopes : List Clauses} {p q : Composed} → Contains (parts p) q → IsIn (place scopes p) (place scopes q)
-  a_content : {scopes : List Clauses} {number : ℕ} {class : Class} {p : Composed} → IsIn (place scopes (composed.element number class p)) (place scopes p)
-  a_definition : {scopes : List Clauses} {clauses : Clauses} {p : Composed} → Contains (bodies clauses) p → IsIn (place scopes (composed.grammar clauses)) (place (clauses ∷ scopes) p)
+  a_content : {scopes : List Clauses} {number : ℕ} {class : Class} {p : Composed} →
+      IsIn (place scopes (composed.element number class p)) (place scopes p)
+  a_definition : {scopes : List Clauses} {clauses : Clauses} {p : Composed} → Contains (bodies clauses) p →
+      IsIn (place scopes (composed.grammar clauses)) (place (clauses ∷ scopes) p)
 
 -- it stands in the schema
 pub data Occurs (whole : Composed) : Place → Type 0 where
@@ -45,9 +47,14 @@ pub data Occurs (whole : Composed) : Place → Type 0 where
 -- the simple form of the second is a part of that of the first: a part, what a reference stands for, the start of a grammar
 pub data LeadsTo : Place → Place → Type 0 where
   to_part : {scopes : List Clauses} {p q : Composed} → Contains (parts p) q → LeadsTo (place scopes p) (place scopes q)
-  to_definition : {scope : Clauses} {outer : List Clauses} {name : List ℕ} {p : Composed} → Contains (bodies (defining (defined.Name name) scope)) p → LeadsTo (place (scope ∷ outer) (composed.ref name)) (place (scope ∷ outer) p)
-  to_outer_definition : {inner scope : Clauses} {outer : List Clauses} {name : List ℕ} {p : Composed} → Contains (bodies (defining (defined.Name name) scope)) p → LeadsTo (place (inner ∷ scope ∷ outer) (composed.parent_ref name)) (place (scope ∷ outer) p)
-  to_start : {scopes : List Clauses} {clauses : Clauses} {p : Composed} → Contains (bodies (defining defined.Start clauses)) p → LeadsTo (place scopes (composed.grammar clauses)) (place (clauses ∷ scopes) p)
+  to_definition : {scope : Clauses} {outer : List Clauses} {name : List ℕ} {p : Composed} →
+      Contains (bodies (defining (defined.Name name) scope)) p →
+      LeadsTo (place (scope ∷ outer) (composed.ref name)) (place (scope ∷ outer) p)
+  to_outer_definition : {inner scope : Clauses} {outer : List Clauses} {name : List ℕ} {p : Composed} →
+      Contains (bodies (defining (defined.Name name) scope)) p →
+      LeadsTo (place (inner ∷ scope ∷ outer) (composed.parent_ref name)) (place (scope ∷ outer) p)
+  to_start : {scopes : List Clauses} {clauses : Clauses} {p : Composed} → Contains (bodies (defining defined.Start clauses)) p →
+      LeadsTo (place scopes (composed.grammar clauses)) (place (clauses ∷ scopes) p)
 
 -- and so by one step or more
 pub data LeadsOn : Place → Place → Type 0 where

@@ -75,7 +75,9 @@ abbrev mutual
 -- a file is reached from the first one through what files mention, never twice on one chain
 pub data Reached (files : FileMap) (uri : List ℕ) : Context → Type 0 where
   the_first : Reached files uri (top uri)
-  a_further : {context : Context} {surface : WrittenSurface} {mention : Mention} {other : List ℕ} → Reached files uri context → Says files context.uri surface → Contains (mentions_of surface) mention → Joins context.uri (reference_of mention).uri other → ¬ Contains context.chain other → Reached files uri (referred context (reference_of mention) other)
+  a_further : {context : Context} {surface : WrittenSurface} {mention : Mention} {other : List ℕ} → Reached files uri context →
+      Says files context.uri surface → Contains (mentions_of surface) mention → Joins context.uri (reference_of mention).uri other →
+      ¬ Contains context.chain other → Reached files uri (referred context (reference_of mention) other)
 
 -- a file that is reached mentions a file so
 pub record Mentions (files : FileMap) (uri : List ℕ) (context : Context) (mention : Mention) : Type 0 where

@@ -76,13 +76,18 @@ pub record IsResolved (cells : List Cell) (root : ℕ) (found : Resolved) : Type
   -- which nodes stand in the schema
   pub standing : (i : ℕ) → (scope_at found i ≢ Nowhere) ↔ IsStanding cells root i
   -- joins
-  pub ref_joined : (outers : List ℕ) (i : ℕ) (name : List ℕ) → Stands cells root outers i → IsCell cells i (cell.ref name) → IsJoinedIn cells found.joins.items outers (defined.Name name) (link_at found i)
-  pub parent_ref_joined : (outers : List ℕ) (i : ℕ) (name : List ℕ) → Stands cells root outers i → IsCell cells i (cell.parent_ref name) → IsJoinedOutside cells found.joins.items outers (defined.Name name) (link_at found i)
-  pub start_joined : (i : ℕ) (clauses : List Clause) → IsStanding cells root i → IsCell cells i (cell.grammar clauses) → IsJoined cells found.joins.items i defined.Start (link_at found i)
+  pub ref_joined : (outers : List ℕ) (i : ℕ) (name : List ℕ) → Stands cells root outers i → IsCell cells i (cell.ref name) →
+      IsJoinedIn cells found.joins.items outers (defined.Name name) (link_at found i)
+  pub parent_ref_joined : (outers : List ℕ) (i : ℕ) (name : List ℕ) → Stands cells root outers i → IsCell cells i (cell.parent_ref name) →
+      IsJoinedOutside cells found.joins.items outers (defined.Name name) (link_at found i)
+  pub start_joined : (i : ℕ) (clauses : List Clause) → IsStanding cells root i → IsCell cells i (cell.grammar clauses) →
+      IsJoined cells found.joins.items i defined.Start (link_at found i)
   pub each_join : (number : ℕ) → number < length found.joins.items → IsOfGrammar cells root found.joins.items number
-  pub no_clash : (i : ℕ) (clauses : List Clause) (name : Defined) → IsStanding cells root i → IsCell cells i (cell.grammar clauses) → clash (combines_of (clauses_of name clauses)) ≡ false
+  pub no_clash : (i : ℕ) (clauses : List Clause) (name : Defined) → IsStanding cells root i → IsCell cells i (cell.grammar clauses) →
+      clash (combines_of (clauses_of name clauses)) ≡ false
   -- elements
-  pub numbered : (i : ℕ) (class : Class) (part : ℕ) → IsStanding cells root i → IsCell cells i (cell.element class part) → slice_get found.elements.items (link_at found i) ≡ Some i
+  pub numbered : (i : ℕ) (class : Class) (part : ℕ) → IsStanding cells root i → IsCell cells i (cell.element class part) →
+      slice_get found.elements.items (link_at found i) ≡ Some i
   pub each_number : (number i : ℕ) → slice_get found.elements.items number ≡ Some i → IsNumbered cells root found number i
 
 -- ---- an order, in which join j has the number j behind the nodes

@@ -47,9 +47,11 @@ both_say combine.Interleave combine.Interleave = Some combine.Interleave
 -- one more definition in a join
 abbrev pub AddsTo : {A : Type 0} → Combine → ℕ → Join → Join → Result A SchemaFault → Type 0
 AddsTo combine body old new (Ok done) =
-    (new.bodies.items ≡ old.bodies.items ++ body ∷ []) × ((combines : List Combine) → HasSigns combines old → HasSigns (combines ++ combine ∷ []) new)
+    (new.bodies.items ≡ old.bodies.items ++ body ∷ []) × ((combines : List Combine) → HasSigns combines old →
+    HasSigns (combines ++ combine ∷ []) new)
 AddsTo combine body old new (Err NoMemory) = Unit {0}
-AddsTo combine body old new (Err (Unreadable cause.CombineClash)) = (combines : List Combine) → HasSigns combines old → clash (combines ++ combine ∷ []) ≡ true
+AddsTo combine body old new (Err (Unreadable cause.CombineClash)) = (combines : List Combine) → HasSigns combines old →
+    clash (combines ++ combine ∷ []) ≡ true
 AddsTo combine body old new (Err other) = ⊥
 
 -- the join of these definitions of a name
@@ -79,7 +81,8 @@ KeepsFirst first old new = (number : ℕ) → number < first → slice_get new n
 abbrev pub GathersOne : {A : Type 0} → ℕ → List Clause → Clause → List Join → Names ℕ → List Join → Result A SchemaFault → Type 0
 GathersOne first clauses clause old names new (Ok done) = IsGathered first (clauses ++ clause ∷ []) names new × KeepsFirst first old new
 GathersOne first clauses clause old names new (Err NoMemory) = Unit {0}
-GathersOne first clauses clause old names new (Err (Unreadable cause.CombineClash)) = clash (combines_of (clauses_of clause.name (clauses ++ clause ∷ []))) ≡ true
+GathersOne first clauses clause old names new (Err (Unreadable cause.CombineClash))
+    = clash (combines_of (clauses_of clause.name (clauses ++ clause ∷ []))) ≡ true
 GathersOne first clauses clause old names new (Err other) = ⊥
 
 -- definitions are gathered behind the joins that there are
@@ -98,11 +101,23 @@ pub record Findings : Type 0 where
   pub joins : List Join
 
 abbrev pub findings_of : Resolver → Findings
-findings_of resolver = record { tables = resolver.tables.items; scopes = resolver.scopes.items; links = resolver.links.items; joins = resolver.joins.items }
+findings_of resolver = record {
+  tables = resolver.tables.items;
+  scopes = resolver.scopes.items;
+  links = resolver.links.items;
+  joins =
+      resolver.joins.items;
+}
 
 -- nothing is known but that the root stands outside of all grammars
 abbrev pub findings_at_first : ℕ → ℕ → Findings
-findings_at_first count root = record { tables = []; scopes = set (replicate count Nowhere) root Outside; links = replicate count 0; joins = [] }
+findings_at_first count root = record {
+  tables = [];
+  scopes = set (replicate count Nowhere)
+      root Outside;
+  links = replicate count 0;
+  joins = [];
+}
 
 -- these nodes have this scope
 abbrev pub given : List ℕ → Scope → List Scope → List Scope
@@ -156,7 +171,8 @@ abbrev pub TakesGrammar : {A : Type 0} → ℕ → Scope → List Clause → Fin
 TakesGrammar i outer clauses old new (Ok done) = HasTable i outer clauses old new
 TakesGrammar i outer clauses old new (Err NoMemory) = Unit {0}
 TakesGrammar i outer clauses old new (Err (Unreadable cause.NoStart)) = clauses_of defined.Start clauses ≡ []
-TakesGrammar i outer clauses old new (Err (Unreadable cause.CombineClash)) = (name : Defined) × (clash (combines_of (clauses_of name clauses)) ≡ true)
+TakesGrammar i outer clauses old new (Err (Unreadable cause.CombineClash)) = (name : Defined)
+    × (clash (combines_of (clauses_of name clauses)) ≡ true)
 TakesGrammar i outer clauses old new (Err other) = ⊥
 
 -- a node that stands in the schema is taken, where all that comes behind is
@@ -182,7 +198,8 @@ pub record IsTable (cells : List Cell) (joins : List Join) (grammar : ℕ) (name
 -- a scope is these grammars
 pub data IsScope (cells : List Cell) (joins : List Join) (tables : List Table) : Scope → List ℕ → Type 0 where
   outside : IsScope cells joins tables Outside []
-  inside : {k grammar : ℕ} {table : Table} {outers : List ℕ} → slice_get tables k ≡ Some table → IsTable cells joins grammar table.joins → IsScope cells joins tables table.outer outers → IsScope cells joins tables (In k) (grammar ∷ outers)
+  inside : {k grammar : ℕ} {table : Table} {outers : List ℕ} → slice_get tables k ≡ Some table → IsTable cells joins grammar table.joins →
+      IsScope cells joins tables table.outer outers → IsScope cells joins tables (In k) (grammar ∷ outers)
 
 -- the node stands in the schema, in the grammars of the scope
 pub record IsPosted (cells : List Cell) (root : ℕ) (now : Findings) (scope : Scope) (i : ℕ) : Type 0 where
@@ -206,8 +223,10 @@ pub record IsMidway (cells : List Cell) (root from : ℕ) (now : Findings) : Typ
   pub posted : (i : ℕ) → slice_index_or now.scopes i Nowhere ≢ Nowhere → IsPosted cells root now (slice_index_or now.scopes i Nowhere) i
   -- what stands directly in those that are taken has its scope, and so has the root
   pub root_known : slice_index_or now.scopes root Nowhere ≢ Nowhere
-  pub inner_known : (i j : ℕ) (c : Cell) → from ≤ i → IsStanding cells root i → IsCell cells i c → Contains (inner_nodes c) j → slice_index_or now.scopes j Nowhere ≢ Nowhere
-  pub taken : (outers : List ℕ) (i : ℕ) (c : Cell) → from ≤ i → Stands cells root outers i → IsCell cells i c → IsTaken cells now.joins outers i (slice_index now.links i) c
+  pub inner_known : (i j : ℕ) (c : Cell) → from ≤ i → IsStanding cells root i → IsCell cells i c → Contains (inner_nodes c) j →
+      slice_index_or now.scopes j Nowhere ≢ Nowhere
+  pub taken : (outers : List ℕ) (i : ℕ) (c : Cell) → from ≤ i → Stands cells root outers i → IsCell cells i c →
+      IsTaken cells now.joins outers i (slice_index now.links i) c
   pub each_join : (number : ℕ) → number < length now.joins → IsOfGrammar cells root now.joins number
 
 -- ---- the numbers of elements
@@ -247,5 +266,6 @@ pub record IsElementOf (cells : List Cell) (scopes : List Scope) (links : List �
 pub record AreNumbered (cells : List Cell) (scopes : List Scope) (upto : ℕ) (old : List ℕ) (new : Numbering) : Type 0 where
   pub all_links : length new.links ≡ length old
   pub other_links : (i : ℕ) (c : Cell) → IsCell cells i c → is_element c ≡ false → slice_index new.links i ≡ slice_index old i
-  pub numbered : (i : ℕ) (class : Class) (part : ℕ) → i < upto → slice_index_or scopes i Nowhere ≢ Nowhere → IsCell cells i (cell.element class part) → slice_get new.elements (slice_index new.links i) ≡ Some i
+  pub numbered : (i : ℕ) (class : Class) (part : ℕ) → i < upto → slice_index_or scopes i Nowhere ≢ Nowhere →
+      IsCell cells i (cell.element class part) → slice_get new.elements (slice_index new.links i) ≡ Some i
   pub each_number : (number i : ℕ) → slice_get new.elements number ≡ Some i → (i < upto) × IsElementOf cells scopes new.links number i

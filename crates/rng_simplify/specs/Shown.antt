@@ -166,7 +166,8 @@ size_beside by first second = record {
 -- its node is one of the schema, and its reference is to one of so many elements
 abbrev pub IsOfSchema : List Cell → ℕ → Shape → Type 0
 IsOfSchema cells count (shape.Value i) = (type : TypeName) × (text : List ℕ) × (slice_get cells i ≡ Some (cell.value type text))
-IsOfSchema cells count (shape.Typed i) = (type : TypeName) × (params : List Param) × (part : ℕ) × (slice_get cells i ≡ Some (cell.typed type params part))
+IsOfSchema cells count (shape.Typed i) = (type : TypeName) × (params : List Param) × (part : ℕ)
+    × (slice_get cells i ≡ Some (cell.typed type params part))
 IsOfSchema cells count (shape.Ref number) = number < count
 IsOfSchema cells count (shape.Attribute i part) = (class : Class) × (value : ℕ) × (slice_get cells i ≡ Some (cell.attribute class value))
 IsOfSchema cells count _ = Unit {0}

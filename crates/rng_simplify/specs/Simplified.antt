@@ -39,7 +39,8 @@ abbrev pub Answers : Option FileMap → List ℕ → ℕ → ℕ → Result Gram
 Answers told uri before after (Ok grammar) =
     IfTold told (λ files. Simplifies files uri (pattern_of grammar.start) (definitions_of grammar)) × IsSound grammar × (after ≡ before)
 Answers told uri before after (Err (Absent absent)) = IsUtf8 absent × IfTold told (λ files. IsAbsent files uri absent) × (after ≡ before)
-Answers told uri before after (Err (NotUtf8 wrong at)) = IsUtf8 wrong × IfTold told (λ files. IsNoText files uri wrong at) × (after ≡ before)
+Answers told uri before after (Err (NotUtf8 wrong at)) = IsUtf8 wrong × IfTold told (λ files. IsNoText files uri wrong at)
+    × (after ≡ before)
 Answers told uri before after (Err (BadUri text)) = IsUtf8 text × IfTold told (λ files. HasBadUri files uri text) × (after ≡ before)
 Answers told uri before after (Err Failed) = Rose before after
 Answers told uri before after (Err NoMemory) = after ≡ before

@@ -64,27 +64,37 @@ pub data Spells (cells : List Cell) (types : List (Option NodeType)) (shapes : L
   spells_value : {n i : ℕ} {q : Pattern} → IsShape shapes n (shape.Value i) → IsLiteral cells types i q → Spells cells types shapes n q
   spells_type : {n i : ℕ} {q : Pattern} → IsShape shapes n (shape.Typed i) → IsTyped types i q → Spells cells types shapes n q
   spells_ref : {n number : ℕ} → IsShape shapes n (shape.Ref number) → Spells cells types shapes n (pattern.ref number)
-  spells_list : {n part : ℕ} {q : Pattern} → IsShape shapes n (shape.List part) → Spells cells types shapes part q → Spells cells types shapes n (pattern.listed q)
-  spells_attribute : {n i part : ℕ} {value q : Pattern} → IsShape shapes n (shape.Attribute i part) → Spells cells types shapes part value → IsAttribute cells i value q → Spells cells types shapes n q
-  spells_one_or_more : {n part : ℕ} {q : Pattern} → IsShape shapes n (shape.OneOrMore part) → Spells cells types shapes part q → Spells cells types shapes n (pattern.one_or_more q)
-  spells_joined : {n first second : ℕ} {p q : Pattern} (by : Sign) → IsShape shapes n (shape.Joined by first second) → Spells cells types shapes first p → Spells cells types shapes second q → Spells cells types shapes n (joined_pattern by p q)
+  spells_list : {n part : ℕ} {q : Pattern} → IsShape shapes n (shape.List part) → Spells cells types shapes part q →
+      Spells cells types shapes n (pattern.listed q)
+  spells_attribute : {n i part : ℕ} {value q : Pattern} → IsShape shapes n (shape.Attribute i part) →
+      Spells cells types shapes part value → IsAttribute cells i value q → Spells cells types shapes n q
+  spells_one_or_more : {n part : ℕ} {q : Pattern} → IsShape shapes n (shape.OneOrMore part) → Spells cells types shapes part q →
+      Spells cells types shapes n (pattern.one_or_more q)
+  spells_joined : {n first second : ℕ} {p q : Pattern} (by : Sign) → IsShape shapes n (shape.Joined by first second) →
+      Spells cells types shapes first p → Spells cells types shapes second q → Spells cells types shapes n (joined_pattern by p q)
 
 -- ---- what is left to be done
 
 -- these tasks, the next one first, end in the root alone, where these shapes were built, the last one first
 pub data Runs (shapes : List Shape) (root : ℕ) : List Task → List ℕ → Type 0 where
   all_done : Runs shapes root [] (root ∷ [])
-  spell_then : {n : ℕ} {tasks : List Task} {built : List ℕ} → n < length shapes → Runs shapes root tasks (n ∷ built) → Runs shapes root (task.Spell n ∷ tasks) built
-  wrap_one : {n part : ℕ} {s : Shape} {tasks : List Task} {built : List ℕ} → IsShape shapes n s → n < length shapes → shape_parts s ≡ part ∷ [] → Runs shapes root tasks (n ∷ built) → Runs shapes root (task.Wrap n ∷ tasks) (part ∷ built)
-  wrap_two : {n first second : ℕ} {s : Shape} {tasks : List Task} {built : List ℕ} → IsShape shapes n s → n < length shapes → shape_parts s ≡ first ∷ second ∷ [] → Runs shapes root tasks (n ∷ built) → Runs shapes root (task.Wrap n ∷ tasks) (second ∷ first ∷ built)
+  spell_then : {n : ℕ} {tasks : List Task} {built : List ℕ} → n < length shapes → Runs shapes root tasks (n ∷ built) →
+      Runs shapes root (task.Spell n ∷ tasks) built
+  wrap_one : {n part : ℕ} {s : Shape} {tasks : List Task} {built : List ℕ} → IsShape shapes n s → n < length shapes →
+      shape_parts s ≡ part ∷ [] → Runs shapes root tasks (n ∷ built) → Runs shapes root (task.Wrap n ∷ tasks) (part ∷ built)
+  wrap_two : {n first second : ℕ} {s : Shape} {tasks : List Task} {built : List ℕ} → IsShape shapes n s → n < length shapes →
+      shape_parts s ≡ first ∷ second ∷ [] → Runs shapes root tasks (n ∷ built) →
+      Runs shapes root (task.Wrap n ∷ tasks) (second ∷ first ∷ built)
 
 -- patterns that spell out these shapes
 pub data AreSpelled (cells : List Cell) (types : List (Option NodeType)) (shapes : List Shape) : List Pattern → List ℕ → Type 0 where
   none_spelled : AreSpelled cells types shapes [] []
-  next_spelled : {q : Pattern} {qs : List Pattern} {n : ℕ} {ns : List ℕ} → Spells cells types shapes n q → AreSpelled cells types shapes qs ns → AreSpelled cells types shapes (q ∷ qs) (n ∷ ns)
+  next_spelled : {q : Pattern} {qs : List Pattern} {n : ℕ} {ns : List ℕ} → Spells cells types shapes n q →
+      AreSpelled cells types shapes qs ns → AreSpelled cells types shapes (q ∷ qs) (n ∷ ns)
 
 -- tasks and what is built, the last one being the next, are on the way to the root
-pub record IsUnderWay (cells : List Cell) (types : List (Option NodeType)) (shapes : List Shape) (root : ℕ) (tasks : List Task) (built : List Pat) : Type 0 where
+pub record IsUnderWay (cells : List Cell) (types : List (Option NodeType)) (shapes : List Shape) (root : ℕ) (tasks : List Task)
+    (built : List Pat) : Type 0 where
   pub numbers : List ℕ
   pub runs : Runs shapes root (reverse tasks) numbers
   pub spelled : AreSpelled cells types shapes (reverse (map pattern_of built)) numbers
@@ -98,9 +108,11 @@ unfoldable pub work : List Shape → List Task → ℕ
 work shapes tasks = sum_by (work_of shapes) tasks
 
 -- a step does this task, and leaves less to be done
-pub record DoesTask (cells : List Cell) (types : List (Option NodeType)) (shapes : List Shape) (t : Task) (tasks new_tasks : List Task) (built new_built : List Pat) : Type 0 where
+pub record DoesTask (cells : List Cell) (types : List (Option NodeType)) (shapes : List Shape) (t : Task) (tasks new_tasks : List Task)
+    (built new_built : List Pat) : Type 0 where
   pub fewer : work shapes new_tasks < work shapes (tasks ++ t ∷ [])
-  pub goes_on : (root : ℕ) → IsUnderWay cells types shapes root (tasks ++ t ∷ []) built → IsUnderWay cells types shapes root new_tasks new_built
+  pub goes_on : (root : ℕ) → IsUnderWay cells types shapes root (tasks ++ t ∷ []) built →
+      IsUnderWay cells types shapes root new_tasks new_built
 
 -- tasks are put behind others
 abbrev pub Leaves : List Task → List Task → List Task → Result (Unit {0}) SchemaFault → Type 0
@@ -142,13 +154,15 @@ BuildsPattern cells types shapes number (Ok built) = Spells cells types shapes n
 BuildsPattern cells types shapes number (Err fault.NoMemory) = Unit {0}
 BuildsPattern cells types shapes number (Err other) = ⊥
 
-abbrev pub Does : List Cell → List (Option NodeType) → List Shape → Task → List Task → List Task → List Pat → List Pat → Result (Unit {0}) SchemaFault → Type 0
+abbrev pub Does : List Cell → List (Option NodeType) → List Shape → Task → List Task → List Task → List Pat → List Pat →
+    Result (Unit {0}) SchemaFault → Type 0
 Does cells types shapes t tasks new_tasks built new_built (Ok done) = DoesTask cells types shapes t tasks new_tasks built new_built
 Does cells types shapes t tasks new_tasks built new_built (Err fault.NoMemory) = Unit {0}
 Does cells types shapes t tasks new_tasks built new_built (Err other) = ⊥
 
 -- definitions spell out these elements
-pub record IsDefinition (cells : List Cell) (types : List (Option NodeType)) (forms : Forms) (i : ℕ) (definition : Definition) : Type 0 where
+pub record IsDefinition (cells : List Cell) (types : List (Option NodeType)) (forms : Forms) (i : ℕ)
+    (definition : Definition) : Type 0 where
   pub class : Class
   pub part : ℕ
   pub is_cell : IsCell cells i (cell.element class part)
@@ -157,14 +171,17 @@ pub record IsDefinition (cells : List Cell) (types : List (Option NodeType)) (fo
 
 pub data AreDefinitions (cells : List Cell) (types : List (Option NodeType)) (forms : Forms) : List ℕ → List Definition → Type 0 where
   no_definitions : AreDefinitions cells types forms [] []
-  next_definition : {i : ℕ} {elements : List ℕ} {definition : Definition} {definitions : List Definition} → IsDefinition cells types forms i definition → AreDefinitions cells types forms elements definitions → AreDefinitions cells types forms (i ∷ elements) (definition ∷ definitions)
+  next_definition : {i : ℕ} {elements : List ℕ} {definition : Definition} {definitions : List Definition} →
+      IsDefinition cells types forms i definition → AreDefinitions cells types forms elements definitions →
+      AreDefinitions cells types forms (i ∷ elements) (definition ∷ definitions)
 
 abbrev pub BuildsDefinition : List Cell → List (Option NodeType) → Forms → ℕ → Result Def SchemaFault → Type 0
 BuildsDefinition cells types forms i (Ok def) = IsDefinition cells types forms i (definition_of def)
 BuildsDefinition cells types forms i (Err fault.NoMemory) = Unit {0}
 BuildsDefinition cells types forms i (Err other) = ⊥
 
-pub record IsBuilt (cells : List Cell) (types : List (Option NodeType)) (forms : Forms) (root : ℕ) (elements : List ℕ) (grammar : Grammar) : Type 0 where
+pub record IsBuilt (cells : List Cell) (types : List (Option NodeType)) (forms : Forms) (root : ℕ) (elements : List ℕ)
+    (grammar : Grammar) : Type 0 where
   pub start_is : Spells cells types forms.shapes (slice_index forms.of.items root) (pattern_of grammar.start)
   pub definitions_are : AreDefinitions cells types forms elements (definitions_of grammar)
 

@@ -49,15 +49,19 @@ inner_nodes (cell.joined sign first second) = first ∷ second ∷ []
 pub record AreWellFormed (cells : List Cell) (root : ℕ) : Type 0 where
   pub root_within : root < length cells
   pub inner_below : (i j : ℕ) (c : Cell) → IsCell cells i c → Contains (inner_nodes c) j → j < i
-  pub one_outer : (i k j : ℕ) (c d : Cell) → IsCell cells i c → IsCell cells k d → Contains (inner_nodes c) j → Contains (inner_nodes d) j → i ≡ k
+  pub one_outer : (i k j : ℕ) (c d : Cell) → IsCell cells i c → IsCell cells k d → Contains (inner_nodes c) j →
+      Contains (inner_nodes d) j → i ≡ k
   pub once : (i : ℕ) (c : Cell) → IsCell cells i c → IsDistinct (λ a b. a == b) (inner_nodes c)
 
 -- a node stands in the schema, in the grammars of these nodes, the innermost first
 pub data Stands (cells : List Cell) (root : ℕ) : List ℕ → ℕ → Type 0 where
   the_root : Stands cells root [] root
-  a_part : {outers : List ℕ} {i j : ℕ} {c : Cell} → Stands cells root outers i → IsCell cells i c → Contains (cell_parts c) j → Stands cells root outers j
-  a_content : {outers : List ℕ} {i j : ℕ} {class : Class} → Stands cells root outers i → IsCell cells i (cell.element class j) → Stands cells root outers j
-  a_definition : {outers : List ℕ} {i j : ℕ} {clauses : List Clause} → Stands cells root outers i → IsCell cells i (cell.grammar clauses) → Contains (bodies_of clauses) j → Stands cells root (i ∷ outers) j
+  a_part : {outers : List ℕ} {i j : ℕ} {c : Cell} → Stands cells root outers i → IsCell cells i c → Contains (cell_parts c) j →
+      Stands cells root outers j
+  a_content : {outers : List ℕ} {i j : ℕ} {class : Class} → Stands cells root outers i → IsCell cells i (cell.element class j) →
+      Stands cells root outers j
+  a_definition : {outers : List ℕ} {i j : ℕ} {clauses : List Clause} → Stands cells root outers i →
+      IsCell cells i (cell.grammar clauses) → Contains (bodies_of clauses) j → Stands cells root (i ∷ outers) j
 
 -- it stands somewhere
 abbrev pub IsStanding : List Cell → ℕ → ℕ → Type 0
@@ -66,10 +70,13 @@ IsStanding cells root i = (outers : List ℕ) × Stands cells root outers i
 -- the grammars of these nodes are these definitions
 pub data AreScopes (cells : List Cell) (number : ℕ → ℕ) : List ℕ → List Clauses → Type 0 where
   no_scopes : AreScopes cells number [] []
-  further_scope : {i : ℕ} {clauses : List Clause} {all : Clauses} {outers : List ℕ} {scopes : List Clauses} → IsCell cells i (cell.grammar clauses) → DenoteAll cells number clauses all → AreScopes cells number outers scopes → AreScopes cells number (i ∷ outers) (all ∷ scopes)
+  further_scope : {i : ℕ} {clauses : List Clause} {all : Clauses} {outers : List ℕ} {scopes : List Clauses} →
+      IsCell cells i (cell.grammar clauses) → DenoteAll cells number clauses all → AreScopes cells number outers scopes →
+      AreScopes cells number (i ∷ outers) (all ∷ scopes)
 
 -- the node of a pattern where it stands in the schema: they stand in the same grammars
-pub record IsNodeOf (cells : List Cell) (root : ℕ) (number : ℕ → ℕ) (whole : Composed) (outers : List ℕ) (i : ℕ) (scopes : List Clauses) (p : Composed) : Type 0 where
+pub record IsNodeOf (cells : List Cell) (root : ℕ) (number : ℕ →
+    ℕ) (whole : Composed) (outers : List ℕ) (i : ℕ) (scopes : List Clauses) (p : Composed) : Type 0 where
   pub stands : Stands cells root outers i
   pub denotes : Denotes cells number i p
   pub are_scopes : AreScopes cells number outers scopes

@@ -47,7 +47,8 @@ Names type params (Err other) = ⊥
 
 -- parts of the nodes in an order have shapes
 pub record AreKnown (cells : List Cell) (order : List ℕ) (forms : Forms) : Type 0 where
-  pub each_part : (place i : ℕ) (c : Cell) → slice_get order place ≡ Some i → IsCell cells i c → (j : ℕ) → Contains (cell_parts c) j → IsKnown forms.shapes forms.of.items j
+  pub each_part : (place i : ℕ) (c : Cell) → slice_get order place ≡ Some i → IsCell cells i c → (j : ℕ) → Contains (cell_parts c) j →
+      IsKnown forms.shapes forms.of.items j
 
 -- or that the text is none that a schema may write as a value of it
 abbrev pub NamesValue : TypeName → List ℕ → Result Datatype SchemaFault → Type 0
@@ -55,7 +56,8 @@ NamesValue type text (Ok datatype) = (datatype_of type [] ≡ Ok datatype) × Ma
 NamesValue type text (Err (fault.Unreadable cause.UnknownType)) = datatype_of type [] ≡ Err type_fault.UnknownType
 NamesValue type text (Err (fault.Unreadable cause.UnknownParam)) = datatype_of type [] ≡ Err type_fault.UnknownParam
 NamesValue type text (Err (fault.Unreadable cause.BadParam)) = datatype_of type [] ≡ Err type_fault.BadParam
-NamesValue type text (Err (fault.Unreadable cause.BadValue)) = (datatype : Datatype) × (datatype_of type [] ≡ Ok datatype) × ¬ MayWrite datatype text
+NamesValue type text (Err (fault.Unreadable cause.BadValue)) = (datatype : Datatype) × (datatype_of type [] ≡ Ok datatype)
+    × ¬ MayWrite datatype text
 NamesValue type text (Err fault.NoMemory) = Unit {0}
 NamesValue type text (Err other) = ⊥
 
@@ -76,7 +78,8 @@ pub record AreValues (cells : List Cell) (values : List ℕ) : Type 0 where
 
 -- the nodes of the values of a shape's form are put behind others
 pub record IsListed (shapes : List Shape) (number : ℕ) (old new : List ℕ) : Type 0 where
-  pub values_are : (cells : List Cell) (taken : ℕ → List Value) (values : List Value) → values_of (form_at cells taken shapes number) ≡ Some values → map (value_of cells) new ≡ map (value_of cells) old ++ values
+  pub values_are : (cells : List Cell) (taken : ℕ → List Value) (values : List Value) →
+      values_of (form_at cells taken shapes number) ≡ Some values → map (value_of cells) new ≡ map (value_of cells) old ++ values
   pub each_value : (cells : List Cell) (count : ℕ) → AreOfSchema cells count shapes → AreValues cells old → AreValues cells new
 
 abbrev pub Lists : List Shape → ℕ → List ℕ → List ℕ → Result (Unit {0}) SchemaFault → Type 0
@@ -100,7 +103,8 @@ pub record IsTakenBehind (type : TypeName) (datatype : Datatype) (v : Value) (ol
 
 abbrev pub TakesBehind : TypeName → Datatype → Value → List Except → List Except → Result (Unit {0}) SchemaFault → Type 0
 TakesBehind type datatype v old new (Ok done) = IsTakenBehind type datatype v old new
-TakesBehind type datatype v old new (Err (fault.Unreadable cause.UnsupportedExcept)) = (v.type ≢ type) × (v.type ≢ builtin_string) × (v.type ≢ builtin_token)
+TakesBehind type datatype v old new (Err (fault.Unreadable cause.UnsupportedExcept)) = (v.type ≢ type) × (v.type ≢ builtin_string)
+    × (v.type ≢ builtin_token)
 TakesBehind type datatype v old new (Err fault.NoMemory) = Unit {0}
 TakesBehind type datatype v old new (Err other) = ⊥
 
@@ -117,7 +121,8 @@ TakesFrom cells type datatype values (Err fault.NoMemory) = Unit {0}
 TakesFrom cells type datatype values (Err other) = ⊥
 
 -- these are taken from the type by the values of a form, few, and each sound
-pub record AreTakenBy (cells : List Cell) (shapes : List Shape) (type : TypeName) (datatype : Datatype) (number : ℕ) (excepts : List Except) : Type 0 where
+pub record AreTakenBy (cells : List Cell) (shapes : List Shape) (type : TypeName) (datatype : Datatype) (number : ℕ)
+    (excepts : List Except) : Type 0 where
   pub values : List Value
   pub has_values : HasValues cells shapes number values
   pub takes : AreExcepts type datatype values excepts
@@ -157,7 +162,8 @@ pub record IsTypeOfValue (type : TypeName) (text : List ℕ) (known : Option Nod
   pub may_write : MayWrite node_type.datatype text
 
 -- the type of a type's node, and what is taken from it
-pub record IsTypeTaken (cells : List Cell) (shapes : List Shape) (type : TypeName) (params : List Param) (number : ℕ) (known : Option NodeType) : Type 0 where
+pub record IsTypeTaken (cells : List Cell) (shapes : List Shape) (type : TypeName) (params : List Param) (number : ℕ)
+    (known : Option NodeType) : Type 0 where
   pub node_type : NodeType
   pub there : known ≡ Some node_type
   pub named : datatype_of type params ≡ Ok node_type.datatype
@@ -165,7 +171,8 @@ pub record IsTypeTaken (cells : List Cell) (shapes : List Shape) (type : TypeNam
 
 abbrev pub IsTypeOf : List Cell → Forms → Cell → Option NodeType → Type 0
 IsTypeOf cells forms (cell.value type text) known = IsTypeOfValue type text known
-IsTypeOf cells forms (cell.typed type params part) known = IsTypeTaken cells forms.shapes type params (slice_index forms.of.items part) known
+IsTypeOf cells forms (cell.typed type params part) known = IsTypeTaken cells forms.shapes type params (slice_index forms.of.items part)
+    known
 IsTypeOf cells forms c known = Unit {0}
 
 -- why a value, or a type, has no type
@@ -186,7 +193,8 @@ HasNoTypeTaken cells shapes type params number why = ⊥
 
 abbrev pub HasNoType : List Cell → Forms → Cell → Cause → Type 0
 HasNoType cells forms (cell.value type text) why = HasNoValueType type text why
-HasNoType cells forms (cell.typed type params part) why = HasNoTypeTaken cells forms.shapes type params (slice_index forms.of.items part) why
+HasNoType cells forms (cell.typed type params part) why = HasNoTypeTaken cells forms.shapes type params (slice_index forms.of.items part)
+    why
 HasNoType cells forms c why = ⊥
 
 -- calls answer the type, or why there is none
@@ -204,7 +212,8 @@ MakesTypeTaken cells shapes type params number (Err other) = ⊥
 
 abbrev pub MakesType : List Cell → Forms → Cell → Result (Option NodeType) SchemaFault → Type 0
 MakesType cells forms (cell.value type text) result = MakesValueType type text result
-MakesType cells forms (cell.typed type params part) result = MakesTypeTaken cells forms.shapes type params (slice_index forms.of.items part) result
+MakesType cells forms (cell.typed type params part)
+    result = MakesTypeTaken cells forms.shapes type params (slice_index forms.of.items part) result
 MakesType cells forms c result = result ≡ Ok None
 
 -- the type that is known of a node

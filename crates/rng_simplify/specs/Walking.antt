@@ -65,7 +65,8 @@ Meets node mark old new (Err other) = ⊥
 -- ---- what holds of it
 
 -- a step of the path, with the node that comes next and the steps before: all that it met is done or comes next
-pub record IsStep (cells : List Cell) (root : ℕ) (found : Resolved) (now : Walking) (next : Option ℕ) (step : Step) (before : List Step) : Type 0 where
+pub record IsStep (cells : List Cell) (root : ℕ) (found : Resolved) (now : Walking) (next : Option ℕ) (step : Step)
+    (before : List Step) : Type 0 where
   pub is_met : IsMet cells root found step.node
   pub is_open : mark_at now step.node ≡ Open
   pub within : step.met ≤ length (leads cells found step.node)
@@ -76,7 +77,8 @@ pub record IsStep (cells : List Cell) (root : ℕ) (found : Resolved) (now : Wal
 -- all steps, the last one first
 abbrev pub AreSteps : List Cell → ℕ → Resolved → Walking → Option ℕ → List Step → Type 0
 AreSteps cells root found now next [] = Unit {0}
-AreSteps cells root found now next (step ∷ before) = IsStep cells root found now next step before × AreSteps cells root found now (Some step.node) before
+AreSteps cells root found now next (step ∷ before)
+    = IsStep cells root found now next step before × AreSteps cells root found now (Some step.node) before
 
 -- the path by its steps, the last one first
 abbrev pub path_of : List Step → List Step

@@ -9,7 +9,8 @@ use Rattle.rng_simplify.specs.Places.{place, Occurs}
 use Rattle.rng_simplify.specs.Simple.{Simple}
 
 -- the definition of an element's number has its class, and its content's simple form
-pub record IsDefinedAt (definitions : List FormDefinition) (scopes : List Clauses) (number : ℕ) (class : Class) (p : Composed) : Type 0 where
+pub record IsDefinedAt (definitions : List FormDefinition) (scopes : List Clauses) (number : ℕ) (class : Class)
+    (p : Composed) : Type 0 where
   pub content : Form
   pub there : slice_get definitions number ≡ Some (record { class = class; content = content })
   pub simple : Simple scopes p content
@@ -20,4 +21,5 @@ pub record IsForm (whole : Composed) (start : Form) (definitions : List FormDefi
   pub start_is : Simple [] whole start
   pub distinct : IsDistinct (λ a b. a == b) (numbers whole)
   pub each_number : (number : ℕ) → Contains (numbers whole) number ↔ number < length definitions
-  pub each_element : (scopes : List Clauses) (number : ℕ) (class : Class) (p : Composed) → Occurs whole (place scopes (composed.element number class p)) → IsDefinedAt definitions scopes number class p
+  pub each_element : (scopes : List Clauses) (number : ℕ) (class : Class) (p : Composed) →
+      Occurs whole (place scopes (composed.element number class p)) → IsDefinedAt definitions scopes number class p
