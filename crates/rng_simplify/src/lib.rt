@@ -4,6 +4,10 @@
 //! to what grammars define (`resolve`). Then each node gets its simple form, behind those of which it is made (`order`,
 //! `form`, `shape`), names of types become types (`types`), and the grammar is spelled out, unless it is too large (`limit`,
 //! `build`). Nothing goes from file to file or from reference to reference by recursion.
+//!
+//! What `simplify` answers stands in specs/Simplified.antt, over the definitions of specs/Composing.antt, Simple.antt, Whole.antt
+//! and Broken.antt and those below them; specs/Agreeing.antt has their laws. The other files of specs/ are between the code and
+//! these. docs/ARCHITECTURE.md has a worked example.
 #![tactic(auto)]
 
 mod build;
