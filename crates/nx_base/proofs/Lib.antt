@@ -1,3 +1,5 @@
+pub mod Alike
 mod Examples
+pub mod CodePoints
 pub mod Forms
 pub mod Fronts

@@ -1,7 +1,9 @@
 //! Classes of characters of XML 1.0 (fifth edition).
 
 ghost use Rattle.std.specs.Prelude.{◌≡◌};
-ghost use Rattle.nx_base.specs.Characters.{is_char, is_space, is_name_start, is_name_char};
+ghost use Rattle.std.specs.List.{list_all};
+ghost use Rattle.std.specs.Str.{chars};
+ghost use Rattle.nx_base.specs.Characters.{is_char, is_space, is_name_start, is_name_char, is_name, is_nc_name};
 
 /// Whether XML allows the character: Char, section 2.2.
 #[tactic(auto, unfolding(crate::specs::Characters::is_char))]
@@ -41,4 +43,27 @@ pub fn is_name_char(c: char) -> bool
 {
     is_name_start(c)
         || matches!(c, '-' | '.' | '0'..='9' | '\u{B7}' | '\u{300}'..='\u{36F}' | '\u{203F}'..='\u{2040}')
+}
+
+fn are_name_chars(text: &str) -> bool
+    ensures { result ≡ list_all is_name_char (chars text.now) }
+{
+    text.chars().all(is_name_char)
+}
+
+/// Whether a text is a Name (XML 1.0, section 2.3).
+pub fn is_name(text: &str) -> bool
+    ensures { result ≡ is_name (chars text.now) }
+{
+    match text.chars().next() {
+        Some(first) => is_name_start(first) && are_name_chars(text),
+        None => false,
+    }
+}
+
+/// Whether a text is a Name without a colon (Namespaces in XML 1.0, section 3).
+pub fn is_nc_name(text: &str) -> bool
+    ensures { result ≡ is_nc_name (chars text.now) }
+{
+    is_name(text) && text.chars().all(|c| c != ':')
 }

@@ -13,6 +13,10 @@ pub struct Name {
     pub local: Bytes,
 }
 
+/// The namespace in which the prefix `xmlns` is (Namespaces in XML 1.0, section 3). No name of a document
+/// is in it.
+pub const XMLNS_NAMESPACE: &str = "http://www.w3.org/2000/xmlns/";
+
 /// A list of names.
 pub type Names = Sequence<Name>;
 

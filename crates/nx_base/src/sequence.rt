@@ -1,6 +1,6 @@
 //! The list that holds bytes, names, faults and every other list of the workspace.
 
-ghost use Rattle.std.specs.Prelude.{◌≡◌, ◌+◌, ◌<◌, ◌≤◌, [], ◌∷◌, ◌++◌, length, take, drop, insert, ◌==◌, slice_get, option_copied, IfOk, OnOk, OnErr};
+ghost use Rattle.std.specs.Prelude.{◌≡◌, ◌+◌, ◌<◌, ◌≤◌, [], ◌∷◌, ◌++◌, length, take, drop, insert, ◌==◌, slice_get, option_copied, IfOk, OnOk, OnErr, MatchOption};
 
 use crate::memory::NoMemory;
 use std::alloc::Global;
@@ -34,7 +34,7 @@ impl TryCopyAll for u8 {
 }
 
 /// Copies of the items, one by one.
-pub(crate) fn copy_each<T: TryCopy + Drop>(alloc: Global, items: &[T]) -> Result<Vec<T>, NoMemory>
+pub fn copy_each<T: TryCopy + Drop>(alloc: Global, items: &[T]) -> Result<Vec<T>, NoMemory>
     ensures { IfOk result (λ copied. copied.items ≡ items.now) }
 {
     let mut copied = Vec::with_capacity(alloc, items.len())?;
@@ -112,6 +112,32 @@ impl<T: Drop> Sequence<T> {
         ensures err { OnErr result (self.new ≡ self.old) }
     {
         self.items.push(item)?;
+        Ok(())
+    }
+
+    /// Moves all items of another list to the end, or none of them.
+    pub fn append(&mut self, more: Self) -> Result<(), NoMemory>
+        ensures ok { OnOk result (self.new ≡ self.old ++ more) }
+        ensures err { OnErr result (self.new ≡ self.old) }
+    {
+        let mut more = more;
+        self.items.append(&mut more.items)?;
+        Ok(())
+    }
+
+    /// Takes the last item off; none exactly where there is none.
+    pub fn pop(&mut self) -> Option<T>
+        ensures { MatchOption result ((self.old ≡ []) × (self.new ≡ [])) (λ item. self.old ≡ self.new ++ item ∷ []) }
+    {
+        self.items.pop()
+    }
+
+    /// Takes room for so many more items at once. How much room a list has is no part of its value, so
+    /// that the next pushes need no memory is promised by no clause.
+    pub fn reserve(&mut self, additional: usize) -> Result<(), NoMemory>
+        ensures { self.new ≡ self.old }
+    {
+        self.items.reserve(additional)?;
         Ok(())
     }
 

@@ -1,6 +1,9 @@
 //! The lists, and where edits move things: each call once, with memory to be had.
 
+use crate::character::{is_name, is_nc_name};
+use crate::character_code::{char_of_code, code_of_digits};
 use crate::edit::{Edit, moved};
+use crate::equal::Equal;
 use crate::fault::{Fault, Faults, Kind, Span};
 use crate::memory::NoMemory;
 use crate::name::{Name, Names};
@@ -23,6 +26,9 @@ fn lists_are_edited(rt: HostRuntime) -> Result<(), Fail> {
     bytes.cut(1, 3);
     assert!(rt; bytes.len() > 1);
     bytes.insert(1, 9)?;
+    bytes.reserve(2)?;
+    bytes.append(Sequence::from_vec(vec![in rt.alloc(); 6, 7]?))?;
+    assert_eq!(rt; (bytes.pop(), bytes.pop()), (Some(7), Some(6)));
     let copied = bytes.copy()?;
     assert_eq!(rt; copied.as_slice(), [0, 9, 3, 4].as_slice());
     assert_eq!(rt; (copied.get(1).copied(), copied.get(4)), (Some(9), None));
@@ -39,7 +45,9 @@ fn lists_of_lists_are_copied(rt: HostRuntime) -> Result<(), Fail> {
         })?;
     }
     let copied = names.copy()?;
+    assert!(rt; copied.equals(&names));
     let last = copied.get(1).ok_or("two names")?;
+    assert!(rt; !Some(last.copy()?).equals(&None));
     assert_eq!(rt; last.ns.as_slice(), "urn:x".as_bytes());
     assert_eq!(rt; last.local.as_slice(), "b".as_bytes());
     Ok(())
@@ -67,5 +75,25 @@ fn edits_move_places_and_faults(rt: HostRuntime) -> Result<(), Fail> {
     assert_eq!(rt; fault.span, Span { from: 2, to: 10 });
     assert_eq!(rt; fault.kind, Kind::Unknown);
     assert_eq!(rt; fault.detail.as_slice(), "x".as_bytes());
+    Ok(())
+}
+
+#[test]
+fn names_and_codes_are_read(rt: HostRuntime) -> Result<(), Fail> {
+    for (text, name, without_colon) in [
+        ("a:b", true, false),
+        ("é-1", true, true),
+        ("1a", false, false),
+        ("", false, false),
+    ] {
+        assert_eq!(rt;
+            (is_name(text), is_nc_name(text)),
+            (name, without_colon),
+            "{text}"
+        );
+    }
+    assert_eq!(rt; char_of_code(code_of_digits(b"e9", 16)), Some('é'));
+    assert_eq!(rt; char_of_code(code_of_digits(b"11", 10)), None);
+    assert_eq!(rt; code_of_digits(b"99999999999", 10), 0x11_0000);
     Ok(())
 }
