@@ -16,10 +16,10 @@ use Rattle.nx_base.specs.declared.fault.Kind.TheVariants as kinds
 use Rattle.nx_script.specs.Escapes.{is_escaped, escape, printed, printed_text, printed_character}
 use Rattle.nx_script.specs.FaultLines.{place_text, detail_text, fault_line, errors_text}
 use Rattle.nx_script.specs.Kinds.{kind_name}
-use Rattle.nx_script.specs.Printing.{refusal_text, refused_text, reply_text}
+use Rattle.nx_script.specs.Printing.{frontier_text, taken_text, refusal_text, refused_text, reply_text}
 use Rattle.nx_script.specs.Replies.{RefusalIsText, ReplyIsText}
 use Rattle.nx_script.specs.declared.reply.Reply.{Reply}
-use Rattle.nx_script.specs.declared.reply.Reply.TheVariants.{Silent, Printed, Errors, Refused}
+use Rattle.nx_script.specs.declared.reply.Reply.TheVariants.{Silent, Printed, Errors, Frontier, Taken, Refused}
 use Rattle.nx_script.specs.declared.reply.Refusal.{Refusal}
 use Rattle.nx_script.specs.declared.reply.Refusal.TheVariants.{BadCommand, BadPosition, BadUri, Absent, NotUtf8, Failed, NoMemory}
 
@@ -204,10 +204,26 @@ refused_is_text line refusal h =
     (refusal_is_text refusal h))
     (word_text (codes "\n") refl)
 
+frontier_is_text : (at len : ℕ) → IsUtf8 (frontier_text at len)
+frontier_is_text at len =
+    let front = codes "frontier " ++ decimal at ++ codes " of " in
+    IsUtf8-append (front ++ decimal len) (codes "\n")
+    (IsUtf8-append front (decimal len)
+    (IsUtf8-append (codes "frontier " ++ decimal at) (codes " of ") (IsUtf8-append (codes "frontier ") (decimal at) (word_text (codes "frontier ") refl) (decimal_text at)) (word_text (codes " of ") refl))
+    (decimal_text len))
+    (word_text (codes "\n") refl)
+
+taken_is_text : (taken : ℕ) → IsUtf8 (taken_text taken)
+taken_is_text taken =
+    IsUtf8-append (codes "taken " ++ decimal taken) (codes "\n")
+    (IsUtf8-append (codes "taken ") (decimal taken) (word_text (codes "taken ") refl) (decimal_text taken)) (word_text (codes "\n") refl)
+
 pub reply_is_text : (line : ℕ) (answer : Reply) → ReplyIsText answer → IsUtf8 (reply_text line answer)
 reply_is_text line Silent h = IsUtf8-nil
 reply_is_text line (Printed text) h = IsUtf8-append text (codes "\n") h (word_text (codes "\n") refl)
 reply_is_text line (Errors faults) h = errors_are_text faults h
+reply_is_text line (Frontier at len) h = frontier_is_text at len
+reply_is_text line (Taken taken) h = taken_is_text taken
 reply_is_text line (Refused refusal) h = refused_is_text line refusal h
 
 -- ---- loops that print

@@ -7,12 +7,12 @@ use Rattle.std.proofs.lemmas.Option.{same_Some, cond_some}
 use Rattle.std.proofs.lemmas.Bool.{eqb-true, eq-eqb, and_parts, not-true}
 use Rattle.std.proofs.lemmas.Slice.Eq.{bytes_eq-Decides}
 use Rattle.nx_script.specs.declared.command.Command.{Command}
-use Rattle.nx_script.specs.declared.command.Command.TheVariants.{Nothing, OpenFile, Save, Insert, Delete, Print, Errors}
+use Rattle.nx_script.specs.declared.command.Command.TheVariants.{Nothing, OpenFile, Save, Insert, Delete, Print, Errors, Slice, Stats}
 use Rattle.nx_script.specs.declared.read.ScriptFault.{ScriptFault}
 use Rattle.nx_script.specs.declared.read.ScriptFault.TheVariants.{BadCommand, NoMemory}
-use Rattle.nx_script.specs.Grammar.{IsBlanks, IsNothingLine, IsOpenLine, IsSaveLine, IsInsertLine, IsDeleteLine, IsPrintLine, IsErrorsLine, IsLine, ReadsLine}
+use Rattle.nx_script.specs.Grammar.{IsBlanks, IsNothingLine, IsOpenLine, IsSaveLine, IsInsertLine, IsDeleteLine, IsPrintLine, IsErrorsLine, IsSliceLine, IsStatsLine, IsLine, ReadsLine}
 use Rattle.nx_script.specs.Commands.{HasUtf8Texts}
-use Rattle.nx_script.specs.Reading.{Finds, ◌>>=◌, is_blank, after_blanks, number_at, text_at, ended, open_of, save_of, insert_of, delete_of, print_of, errors_of, command_of, command_at, line_command}
+use Rattle.nx_script.specs.Reading.{Finds, ◌>>=◌, is_blank, after_blanks, number_at, text_at, ended, open_of, save_of, insert_of, delete_of, print_of, errors_of, slice_of, stats_of, command_of, command_at, line_command}
 use Rattle.nx_script.proofs.Blanks.{chosen, found_step, Pass-from_test, FirstFails, prefix_len_is, front_passes, IsBlanks-pass, pass-IsBlanks, test-IsBlank, after_blanks_is, after_blanks_leaves, Ends, tail_ends}
 use Rattle.nx_script.proofs.Numbers.{number_at_is, number_at_takes}
 use Rattle.nx_script.proofs.Texts.{text_at_is, text_at_takes, word_utf8}
@@ -104,6 +104,16 @@ errors_is : (line : List ℕ) → IsErrorsLine line → line_command line ≡ So
 unfolding command_of errors_of
 errors_is line (blanks, rest, e, b, last) = verb_read line (codes "errors") rest blanks refl e b (tail_ends [] rest last) ∙ ended_is Errors rest last
 
+slice_is : (line : List ℕ) (count : ℕ) → IsSliceLine count line → line_command line ≡ Some (Slice count)
+unfolding command_of slice_of
+slice_is line count (number, n, (blanks, rest, e, b, (gap, end, e1, g, last))) =
+    verb_read line (codes "slice") rest blanks refl e b (tail_ends (number ∷ []) rest (gap, end, e1, g, last))
+    ∙ rw (e1, number_at_is gap number end count g n (tail_ends [] end last)) (ended_is (Slice count) end last)
+
+stats_is : (line : List ℕ) → IsStatsLine line → line_command line ≡ Some Stats
+unfolding command_of stats_of
+stats_is line (blanks, rest, e, b, last) = verb_read line (codes "stats") rest blanks refl e b (tail_ends [] rest last) ∙ ended_is Stats rest last
+
 pub line_is : (line : List ℕ) (command : Command) → IsLine line command → line_command line ≡ Some command
 line_is line Nothing h = nothing_is line h
 line_is line (OpenFile uri) h = open_is line uri h
@@ -112,6 +122,8 @@ line_is line (Insert at added) h = insert_is line at added h
 line_is line (Delete from to) h = delete_is line from to h
 line_is line Print h = print_is line h
 line_is line Errors h = errors_is line h
+line_is line (Slice count) h = slice_is line count h
+line_is line Stats h = stats_is line h
 
 -- ---- what is read is the line's command
 
@@ -163,6 +175,20 @@ errors_takes line blanks rest c e b h =
     let end = ended_takes Errors rest c h in
     subst (IsLine line) end.0 (blanks, rest, e, b, end.1)
 
+slice_takes : (line blanks rest : List ℕ) (c : Command) → line ≡ blanks ++ codes "slice" ++ rest → IsBlanks blanks → slice_of rest ≡ Some c → IsLine line c
+unfolding slice_of
+slice_takes line blanks rest c e b h =
+    let count = found_step (number_at rest) (λ x. ended (Slice x.0) x.1) c h in
+    let number = number_at_takes rest count.0.1 count.0.0 count.1 in
+    let end = ended_takes (Slice count.0.0) count.0.1 c count.2 in
+    subst (IsLine line) end.0 (number.1, number.4, (blanks, rest, e, b, (number.0, count.0.1, number.2, number.3, end.1)))
+
+stats_takes : (line blanks rest : List ℕ) (c : Command) → line ≡ blanks ++ codes "stats" ++ rest → IsBlanks blanks → stats_of rest ≡ Some c → IsLine line c
+unfolding stats_of
+stats_takes line blanks rest c e b h =
+    let end = ended_takes Stats rest c h in
+    subst (IsLine line) end.0 (blanks, rest, e, b, end.1)
+
 -- what is found is the line's command
 abbrev Takes : List ℕ → Option Command → Type 0
 Takes line found = (c : Command) → found ≡ Some c → IsLine line c
@@ -188,7 +214,9 @@ verb_takes line blanks word rest e b =
     (by_name line blanks word rest (codes "delete") (delete_of rest) _ e (λ k c h. delete_takes line blanks rest c k b h)
     (by_name line blanks word rest (codes "print") (print_of rest) _ e (λ k c h. print_takes line blanks rest c k b h)
     (by_name line blanks word rest (codes "errors") (errors_of rest) _ e (λ k c h. errors_takes line blanks rest c k b h)
-    (by_no_name line))))))
+    (by_name line blanks word rest (codes "slice") (slice_of rest) _ e (λ k c h. slice_takes line blanks rest c k b h)
+    (by_name line blanks word rest (codes "stats") (stats_of rest) _ e (λ k c h. stats_takes line blanks rest c k b h)
+    (by_no_name line))))))))
 
 command_takes : (line blanks bytes : List ℕ) (c : Command) → line ≡ blanks ++ bytes → IsBlanks blanks → command_at bytes ≡ Some c → IsLine line c
 unfolding command_at
@@ -238,6 +266,8 @@ texts_utf8 line (Insert at added) utf8 (number, text, n, t, (blanks, rest, e, b,
 texts_utf8 line (Delete from to) utf8 h = tt
 texts_utf8 line Print utf8 h = tt
 texts_utf8 line Errors utf8 h = tt
+texts_utf8 line (Slice count) utf8 h = tt
+texts_utf8 line Stats utf8 h = tt
 
 pub answer_utf8 : (line : List ℕ) (answer : Result Command ScriptFault) → IsUtf8 line → ReadsLine line answer → IfOk answer HasUtf8Texts
 answer_utf8 line (Ok command) utf8 h = texts_utf8 line command utf8 h

@@ -4,7 +4,7 @@ use Rattle.std.specs.Char.{IsScalar}
 use Rattle.std.specs.List.{AllByRecursion, flat_map}
 use Rattle.std.specs.Str.Parse.{IsNumeral, digits_value}
 use Rattle.nx_script.specs.declared.command.Command.{Command}
-use Rattle.nx_script.specs.declared.command.Command.TheVariants.{Nothing, OpenFile, Save, Insert, Delete, Print, Errors}
+use Rattle.nx_script.specs.declared.command.Command.TheVariants.{Nothing, OpenFile, Save, Insert, Delete, Print, Errors, Slice, Stats}
 use Rattle.nx_script.specs.declared.read.ScriptFault.{ScriptFault}
 use Rattle.nx_script.specs.declared.read.ScriptFault.TheVariants.{BadCommand, NoMemory}
 
@@ -112,6 +112,14 @@ IsPrintLine line = IsOfWords (codes "print") [] line
 abbrev pub IsErrorsLine : List ℕ → Type 0
 IsErrorsLine line = IsOfWords (codes "errors") [] line
 
+-- `slice N`
+abbrev pub IsSliceLine : ℕ → List ℕ → Type 0
+IsSliceLine count line = (number : List ℕ) × IsNumber number count × IsOfWords (codes "slice") (number ∷ []) line
+
+-- `stats`
+abbrev pub IsStatsLine : List ℕ → Type 0
+IsStatsLine line = IsOfWords (codes "stats") [] line
+
 -- the line is this command
 abbrev pub IsLine : List ℕ → Command → Type 0
 IsLine line Nothing = IsNothingLine line
@@ -121,6 +129,8 @@ IsLine line (Insert at added) = IsInsertLine at added line
 IsLine line (Delete from to) = IsDeleteLine from to line
 IsLine line Print = IsPrintLine line
 IsLine line Errors = IsErrorsLine line
+IsLine line (Slice count) = IsSliceLine count line
+IsLine line Stats = IsStatsLine line
 
 -- no line is two commands
 abbrev pub LinesAreOneCommand : Type 0

@@ -3,7 +3,7 @@ use Rattle.std.specs.Prelude.{ℕ, List, [], ◌++◌, codes}
 use Rattle.std.specs.Fmt.{decimal}
 use Rattle.nx_script.specs.FaultLines.{errors_text}
 use Rattle.nx_script.specs.declared.reply.Reply.{Reply}
-use Rattle.nx_script.specs.declared.reply.Reply.TheVariants.{Silent, Printed, Errors, Refused}
+use Rattle.nx_script.specs.declared.reply.Reply.TheVariants.{Silent, Printed, Errors, Frontier, Taken, Refused}
 use Rattle.nx_script.specs.declared.reply.Refusal.{Refusal}
 use Rattle.nx_script.specs.declared.reply.Refusal.TheVariants.{BadCommand, BadPosition, BadUri, Absent, NotUtf8, Failed, NoMemory}
 
@@ -29,9 +29,19 @@ refusal_text NoMemory = codes "NoMemory"
 abbrev pub refused_text : ℕ → Refusal → List ℕ
 refused_text line refusal = codes "line " ++ decimal line ++ codes " refused: " ++ refusal_text refusal ++ codes "\n"
 
+-- how far the text is read, of how many bytes
+abbrev pub frontier_text : ℕ → ℕ → List ℕ
+frontier_text at len = codes "frontier " ++ decimal at ++ codes " of " ++ decimal len ++ codes "\n"
+
+-- how many tokens were taken
+abbrev pub taken_text : ℕ → List ℕ
+taken_text taken = codes "taken " ++ decimal taken ++ codes "\n"
+
 -- what the reply to this line of the script prints
 abbrev pub reply_text : ℕ → Reply → List ℕ
 reply_text line Silent = []
 reply_text line (Printed text) = text ++ codes "\n"
 reply_text line (Errors faults) = errors_text faults
+reply_text line (Frontier at len) = frontier_text at len
+reply_text line (Taken taken) = taken_text taken
 reply_text line (Refused refusal) = refused_text line refusal

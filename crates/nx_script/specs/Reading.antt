@@ -7,7 +7,7 @@ use Rattle.std.specs.Char.{is_ascii_digit, is_digit}
 use Rattle.std.specs.Str.{bytes_eq}
 use Rattle.std.specs.Str.Parse.{digits_value}
 use Rattle.nx_script.specs.declared.command.Command.{Command}
-use Rattle.nx_script.specs.declared.command.Command.TheVariants.{Nothing, OpenFile, Save, Insert, Delete, Print, Errors}
+use Rattle.nx_script.specs.declared.command.Command.TheVariants.{Nothing, OpenFile, Save, Insert, Delete, Print, Errors, Slice, Stats}
 use Rattle.nx_script.specs.declared.read.ScriptFault.{ScriptFault}
 use Rattle.nx_script.specs.declared.read.ScriptFault.TheVariants.{BadCommand, NoMemory}
 
@@ -154,6 +154,14 @@ print_of bytes = ended Print bytes
 unfoldable pub errors_of : List ℕ → Option Command
 errors_of bytes = ended Errors bytes
 
+unfoldable pub slice_of : List ℕ → Option Command
+slice_of bytes = do
+  count ← number_at bytes
+  ended (Slice count.0) count.1
+
+unfoldable pub stats_of : List ℕ → Option Command
+stats_of bytes = ended Stats bytes
+
 -- the command of this word
 unfoldable pub command_of : List ℕ → List ℕ → Option Command
 command_of word bytes =
@@ -163,7 +171,9 @@ command_of word bytes =
     else (if bytes_eq word (codes "delete") then delete_of bytes
     else (if bytes_eq word (codes "print") then print_of bytes
     else (if bytes_eq word (codes "errors") then errors_of bytes
-    else None)))))
+    else (if bytes_eq word (codes "slice") then slice_of bytes
+    else (if bytes_eq word (codes "stats") then stats_of bytes
+    else None)))))))
 
 -- the command of the line whose blanks at the front are left out
 unfoldable pub command_at : List ℕ → Option Command

@@ -3,7 +3,7 @@ use Rattle.std.specs.Prelude.{ℕ, Result, Ok, Err}
 use Rattle.std.specs.List.{AllByRecursion}
 use Rattle.std.specs.Str.{IsUtf8}
 use Rattle.nx_script.specs.declared.reply.Reply.{Reply}
-use Rattle.nx_script.specs.declared.reply.Reply.TheVariants.{Silent, Printed, Errors, Refused}
+use Rattle.nx_script.specs.declared.reply.Reply.TheVariants.{Silent, Printed, Errors, Frontier, Taken, Refused}
 use Rattle.nx_script.specs.declared.reply.Refusal.{Refusal}
 use Rattle.nx_script.specs.declared.reply.Refusal.TheVariants.{BadCommand, BadPosition, BadUri, Absent, NotUtf8, Failed, NoMemory}
 use Rattle.nx_base.specs.declared.fault.Fault.{Fault}
@@ -42,6 +42,8 @@ abbrev pub ReplyIsText : Reply → Type 0
 ReplyIsText Silent = Unit {0}
 ReplyIsText (Printed text) = IsUtf8 text
 ReplyIsText (Errors faults) = AllByRecursion (λ (fault : Fault). IsUtf8 fault.detail) faults
+ReplyIsText (Frontier at len) = Unit {0}
+ReplyIsText (Taken taken) = Unit {0}
 ReplyIsText (Refused refusal) = RefusalIsText refusal
 
 -- what such a reply prints is UTF-8

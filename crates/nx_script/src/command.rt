@@ -19,4 +19,8 @@ pub enum Command {
     Print,
     /// `errors`: lists the faults of the text.
     Errors,
+    /// `slice N`: reads N tokens of the text on.
+    Slice(u64),
+    /// `stats`: tells how many tokens the last `slice` or `errors` took.
+    Stats,
 }

@@ -4,7 +4,7 @@ ghost use Rattle.std.specs.Prelude.{◌≡◌, ◌≤◌, length, IfOk};
 ghost use Rattle.std.specs.List.{position_or_len};
 ghost use Rattle.nx_script.specs.Grammar.{LinesAreOneCommand, ReadsLine};
 ghost use Rattle.nx_script.specs.Commands.{HasUtf8Texts};
-ghost use Rattle.nx_script.specs.Reading.{Finds, is_blank, open_of, save_of, insert_of, delete_of, command_of, line_command, after_blanks};
+ghost use Rattle.nx_script.specs.Reading.{Finds, is_blank, open_of, save_of, insert_of, delete_of, slice_of, command_of, line_command, after_blanks};
 ghost use Rattle.nx_script.specs.declared.read.ScriptFault.TheVariants.{NoMemory};
 
 use crate::arguments::{Arguments, is_blank, leading_blanks};
@@ -80,7 +80,7 @@ fn word_len(bytes: &[u8]) -> usize
 }
 
 /// The command of this word.
-#[tactic(auto, unfolding(crate::specs::Reading::command_of, crate::specs::Reading::print_of, crate::specs::Reading::errors_of))]
+#[tactic(auto, unfolding(crate::specs::Reading::command_of, crate::specs::Reading::print_of, crate::specs::Reading::errors_of, crate::specs::Reading::stats_of))]
 fn command(alloc: Global, word: &str, arguments: Arguments<'_>) -> Result<Command, ScriptFault>
     ensures { Finds (λ command. command) result (command_of word.now arguments.entry) }
 {
@@ -91,6 +91,8 @@ fn command(alloc: Global, word: &str, arguments: Arguments<'_>) -> Result<Comman
         "delete" => delete(arguments),
         "print" => arguments.end(Command::Print),
         "errors" => arguments.end(Command::Errors),
+        "slice" => slice(arguments),
+        "stats" => arguments.end(Command::Stats),
         _ => Err(ScriptFault::BadCommand),
     }
 }
@@ -131,4 +133,13 @@ fn delete(mut arguments: Arguments<'_>) -> Result<Command, ScriptFault>
     let from = arguments.number()?;
     let to = arguments.number()?;
     arguments.end(Command::Delete(from, to))
+}
+
+/// `slice N`, from what follows the word.
+#[tactic(auto, unfolding(crate::specs::Reading::slice_of))]
+fn slice(mut arguments: Arguments<'_>) -> Result<Command, ScriptFault>
+    ensures { Finds (λ command. command) result (slice_of arguments.entry) }
+{
+    let count = arguments.number()?;
+    arguments.end(Command::Slice(count))
 }

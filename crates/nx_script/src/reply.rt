@@ -15,6 +15,10 @@ pub enum Reply {
     Printed(Bytes),
     /// The faults of the text.
     Errors(Faults),
+    /// The byte offset up to which the text is read, and how many bytes it has.
+    Frontier { at: usize, len: usize },
+    /// How many tokens were taken.
+    Taken(u64),
     /// Not done, and why.
     Refused(Refusal),
 }

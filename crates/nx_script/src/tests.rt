@@ -31,6 +31,8 @@ fn told(alloc: Global, line: &str) -> Result<String, Fail> {
         Ok(Command::Delete(from, to)) => format!(in alloc; "delete {from} {to}")?,
         Ok(Command::Print) => format!(in alloc; "print")?,
         Ok(Command::Errors) => format!(in alloc; "errors")?,
+        Ok(Command::Slice(count)) => format!(in alloc; "slice {count}")?,
+        Ok(Command::Stats) => format!(in alloc; "stats")?,
         Err(ScriptFault::BadCommand) => format!(in alloc; "bad")?,
         Err(ScriptFault::NoMemory) => format!(in alloc; "no memory")?,
     };
@@ -38,7 +40,7 @@ fn told(alloc: Global, line: &str) -> Result<String, Fail> {
 }
 
 /// Lines, and what `told` makes of them.
-const LINES: [(&str, &str); 52] = [
+const LINES: [(&str, &str); 57] = [
     ("", "nothing"),
     (" \t ", "nothing"),
     ("#", "nothing"),
@@ -52,6 +54,11 @@ const LINES: [(&str, &str); 52] = [
     ("erase", "bad"),
     ("errors", "errors"),
     ("errors 1", "bad"),
+    ("slice 0", "slice 0"),
+    ("slice", "bad"),
+    ("slice 1 2", "bad"),
+    ("stats", "stats"),
+    ("stats 1", "bad"),
     ("open \"b.xml\"", "open b.xml"),
     ("open b.xml", "bad"),
     ("insert 0 \"ab\"", "insert 0 ab"),

@@ -3,7 +3,7 @@
 ghost use Rattle.std.specs.Prelude.{◌≡◌, ◌++◌, IfOk, OnOk, codes, string_bytes};
 ghost use Rattle.nx_host.specs.Out.{WritesInParts, CountsOutFault};
 ghost use Rattle.nx_script.specs.FaultLines.{errors_text};
-ghost use Rattle.nx_script.specs.Printing.{reply_text, refused_text, refusal_text, bad_position_text, not_utf8_text};
+ghost use Rattle.nx_script.specs.Printing.{reply_text, frontier_text, taken_text, refused_text, refusal_text, bad_position_text, not_utf8_text};
 
 use crate::fault_line::errors_text;
 use crate::reply::{Refusal, Reply};
@@ -27,6 +27,8 @@ pub fn write_reply<O: Out>(
         Reply::Silent => Ok(()),
         Reply::Printed(text) => write_text(alloc, out, text.as_slice()),
         Reply::Errors(faults) => write_faults(alloc, out, faults.as_slice()),
+        Reply::Frontier { at, len } => write_frontier(alloc, out, *at, *len),
+        Reply::Taken(taken) => write_taken(alloc, out, *taken),
         Reply::Refused(refusal) => write_refusal(alloc, out, line, refusal),
     }
 }
@@ -49,6 +51,40 @@ fn write_faults<O: Out>(alloc: Global, out: &mut O, faults: &[Fault]) -> Result<
     let text = errors_text(alloc, faults).map_err(|_| OutFault::NoMemory)?;
     out.write(alloc, text.as_slice())?;
     Ok(())
+}
+
+/// Writes the line that tells how far the text is read, all of it at once.
+fn write_frontier<O: Out>(alloc: Global, out: &mut O, at: usize, len: usize) -> Result<(), OutFault>
+    ensures written { WritesInParts result (O.told out.old) (frontier_text at len) (O.told out.new) }
+    ensures faults { CountsOutFault result (O.faults out.old) (O.faults out.new) }
+{
+    let line = frontier_line(alloc, at, len).map_err(|_| OutFault::NoMemory)?;
+    out.write(alloc, line.as_bytes())?;
+    Ok(())
+}
+
+/// Writes the line that tells how many tokens were taken, all of it at once.
+fn write_taken<O: Out>(alloc: Global, out: &mut O, taken: u64) -> Result<(), OutFault>
+    ensures written { WritesInParts result (O.told out.old) (taken_text taken) (O.told out.new) }
+    ensures faults { CountsOutFault result (O.faults out.old) (O.faults out.new) }
+{
+    let line = taken_line(alloc, taken).map_err(|_| OutFault::NoMemory)?;
+    out.write(alloc, line.as_bytes())?;
+    Ok(())
+}
+
+/// The line that tells how far the text is read.
+fn frontier_line(alloc: Global, at: usize, len: usize) -> Result<String, AllocError>
+    ensures { IfOk result (λ line. string_bytes line ≡ frontier_text at len) }
+{
+    format!(in alloc; "frontier {at} of {len}\n")
+}
+
+/// The line that tells how many tokens were taken.
+fn taken_line(alloc: Global, taken: u64) -> Result<String, AllocError>
+    ensures { IfOk result (λ line. string_bytes line ≡ taken_text taken) }
+{
+    format!(in alloc; "taken {taken}\n")
 }
 
 /// Writes the line that tells of a refused command, all of it at once.
