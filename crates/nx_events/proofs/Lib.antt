@@ -12,6 +12,8 @@ pub mod OpenElements
 pub mod Folding
 pub mod Spans
 pub mod Moves
+pub mod Balance
+pub mod TextRuns
 pub mod Spelling
 pub mod Texts
 pub mod TextTags

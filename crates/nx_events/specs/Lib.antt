@@ -22,6 +22,8 @@ pub mod OpenTags
 pub mod Texts
 pub mod Spans
 pub mod Moves
+pub mod Balance
+pub mod TextRuns
 pub mod Spelling
 pub mod SpelledTags
 pub mod MarkupForm
