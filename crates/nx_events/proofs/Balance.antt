@@ -289,6 +289,6 @@ depth_is_difference state token = counts (items_of_token state token) (length st
 
 pub enters_and_leaves_balance : EntersAndLeavesBalance
 enters_and_leaves_balance all len = (
-    (let k = counts (items_of all len) 0 0 (all_walk first_state all len) in omega arith),
-    (λ front behind e. let k = front_counts front behind 0 0 (ap (λ xs. walk xs 0) (sym e) ∙ all_walk first_state all len) in omega arith),
-  )
+  (let k = counts (items_of all len) 0 0 (all_walk first_state all len) in omega arith),
+  (λ front behind e. let k = front_counts front behind 0 0 (ap (λ xs. walk xs 0) (sym e) ∙ all_walk first_state all len) in omega arith),
+)

@@ -220,7 +220,7 @@ inside_of tags inner closed =
     let size : length (elements_of 0 tags ++ element ∷ []) ≡ suc (length tags) = (let a = length-append (elements_of 0 tags) (element ∷ []) in let b = elements_len 0 tags in omega arith) in (
       0 + m + length (own_bindings closed),
       ap (drop (suc (length tags))) (elements_append 0 tags (closed ∷ inner) ∙ sym (append_assoc (elements_of 0 tags) (element ∷ []) rest))
-      ∙ drop_at (elements_of 0 tags ++ element ∷ []) rest (suc (length tags)) size,
+          ∙ drop_at (elements_of 0 tags ++ element ∷ []) rest (suc (length tags)) size,
     )
 
 pub end_tags_end_innermost_first : EndTagsEndInnermostFirst

@@ -20,37 +20,37 @@ pub fn tags_are_read()
 {}
 
 /// The items of a token lie between the begin of the run that was pending and the token's end.
-#[tactic(auto, using(crate::proofs::Spans::items_lie_in_tokens))]
+#[tactic(auto, using(crate::specs::ItemsLie::items_lie_in_tokens))]
 pub fn items_lie_in_tokens()
     ensures { ItemsLieInTokens }
 {}
 
 /// Those of the end of a text lie between the begin of that run and the end.
-#[tactic(auto, using(crate::proofs::Spans::items_lie_in_text))]
+#[tactic(auto, using(crate::specs::ItemsLie::items_lie_in_text))]
 pub fn items_lie_in_text()
     ensures { ItemsLieInText }
 {}
 
 /// A token farther on gives the same items, as much farther on.
-#[tactic(auto, using(crate::proofs::Moves::items_move_with_tokens))]
+#[tactic(auto, using(crate::specs::ItemsMove::items_move_with_tokens))]
 pub fn items_move_with_tokens()
     ensures { ItemsMoveWithTokens }
 {}
 
 /// And it leads to the same state.
-#[tactic(auto, using(crate::proofs::Moves::states_hold_no_place))]
+#[tactic(auto, using(crate::specs::ItemsMove::states_hold_no_place))]
 pub fn states_hold_no_place()
     ensures { StatesHoldNoPlace }
 {}
 
 /// A longer text gives the same items at its end, as much farther on.
-#[tactic(auto, using(crate::proofs::Moves::items_move_with_end))]
+#[tactic(auto, using(crate::specs::ItemsMove::items_move_with_end))]
 pub fn items_move_with_end()
     ensures { ItemsMoveWithEnd }
 {}
 
 /// A pending run reaches back farther by a token's length at most.
-#[tactic(auto, using(crate::proofs::Folding::back_grows))]
+#[tactic(auto, using(crate::specs::RunsGrow::back_grows))]
 pub fn runs_grow_by_tokens()
     ensures { RunsGrowByTokens }
 {}

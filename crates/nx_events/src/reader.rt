@@ -3,6 +3,7 @@
 ghost use Rattle.std.specs.Prelude.{◌≡◌, ◌+◌, ◌<◌, ◌≤◌, ◌^◌, ◌++◌, [], length, is_some, IfOk, OnOk, OnErr};
 ghost use Rattle.nx_events.specs.Runs.{run_back};
 ghost use Rattle.nx_events.specs.Items.{first_state, items_of_token, start_items, own_bindings, declared_in, state_behind, items_at_end};
+ghost use Rattle.nx_events.specs.Texts.{TokenIsText, StateIsText, ItemsAreText};
 
 use crate::character_fault::push_bare;
 use crate::end_tag::{end, push_end};
@@ -65,16 +66,14 @@ fn read_start(
     Ok(Declared { own })
 }
 
-/// Adds the items of one more token to a list, and answers what the token declares. Where it is refused, the list
-/// may have some of them.
+// Adds the items of one more token to a list.
 #[tactic(auto, unfolding(crate::specs::Items::items_of_token))]
-pub fn read(
+fn read_by_kind(
     alloc: Global,
     items: &mut Items,
     state: &EventState,
     token: &Token,
 ) -> Result<Declared, NoMemory>
-    // The pending run begins at a place of the text, and the token ends at one.
     requires place { run_back state.now.run ≤ token.now.from }
     requires room { token.now.from + length token.now.bytes < 2 ^ 64 }
     ensures items { OnOk result (items.new ≡ items.old ++ items_of_token state.now token.now) }
@@ -97,9 +96,29 @@ pub fn read(
     Ok(nothing_declared(alloc))
 }
 
-/// The state behind a token that declares this. Where it is refused, the state is as before.
+/// Adds the items of one more token to a list, and answers what the token declares. The state stays. Where it is
+/// refused, the list may have some of the items.
+pub fn read(
+    alloc: Global,
+    items: &mut Items,
+    state: &EventState,
+    token: &Token,
+) -> Result<Declared, NoMemory>
+    // The pending run begins at a place of the text, and the token ends at one.
+    requires place { run_back state.now.run ≤ token.now.from }
+    requires room { token.now.from + length token.now.bytes < 2 ^ 64 }
+    ensures items { OnOk result (items.new ≡ items.old ++ items_of_token state.now token.now) }
+    ensures declared { IfOk result (λ declared. declared.own.items ≡ declared_in token.now) }
+    // Names, strings and details are UTF-8 where the token and the state are.
+    ensures text { TokenIsText token.now → StateIsText state.now → ItemsAreText items.old → OnOk result (ItemsAreText items.new) }
+{
+    let declared = read_by_kind(alloc, items, state, token)?;
+    Ok(declared)
+}
+
+// The state behind a token that declares this, by its kind.
 #[tactic(auto, unfolding(crate::specs::Items::state_behind))]
-pub fn pass_token(
+fn pass_by_kind(
     alloc: Global,
     state: &mut EventState,
     token: &Token,
@@ -129,6 +148,25 @@ pub fn pass_token(
     Ok(())
 }
 
+/// Brings the state behind a token that declares this, as `read` answered it. Where it is refused, the state is as
+/// before.
+pub fn pass_token(
+    alloc: Global,
+    state: &mut EventState,
+    token: &Token,
+    declared: &Declared,
+) -> Result<(), NoMemory>
+    requires place { run_back state.old.run ≤ token.now.from }
+    requires room { token.now.from + length token.now.bytes < 2 ^ 64 }
+    requires declared { declared.now.own.items ≡ declared_in token.now }
+    ensures state { OnOk result (state.new ≡ state_behind state.old token.now) }
+    ensures unchanged { OnErr result (state.new ≡ state.old) }
+    ensures text { TokenIsText token.now → StateIsText state.old → StateIsText state.new }
+{
+    pass_by_kind(alloc, state, token, declared)?;
+    Ok(())
+}
+
 // Adds the items of one more token to a list, and passes it.
 fn take_into(
     alloc: Global,
@@ -153,6 +191,8 @@ pub fn take(alloc: Global, state: &mut EventState, token: &Token) -> Result<Item
     ensures items { IfOk result (λ items. items ≡ items_of_token state.old token.now) }
     ensures state { OnOk result (state.new ≡ state_behind state.old token.now) }
     ensures unchanged { OnErr result (state.new ≡ state.old) }
+    ensures text { TokenIsText token.now → StateIsText state.old → IfOk result ItemsAreText }
+    ensures state_text { TokenIsText token.now → StateIsText state.old → StateIsText state.new }
 {
     let mut items = Items::new(alloc);
     take_into(alloc, &mut items, state, token)?;
@@ -171,6 +211,8 @@ pub fn take_again(
     ensures items { IfOk result (λ items. items ≡ items_of_token state.old token.now) }
     ensures state { OnOk result (state.new ≡ state_behind state.old token.now) }
     ensures unchanged { OnErr result (state.new ≡ state.old) }
+    ensures text { TokenIsText token.now → StateIsText state.old → IfOk result ItemsAreText }
+    ensures state_text { TokenIsText token.now → StateIsText state.old → StateIsText state.new }
 {
     let mut items = used;
     items.cut(0, items.len());
@@ -179,8 +221,17 @@ pub fn take_again(
 }
 
 /// The items of the end of a text of `len` bytes.
-#[tactic(auto, unfolding(crate::specs::Items::items_at_end))]
 pub fn finish(alloc: Global, state: &EventState, len: usize) -> Result<Items, NoMemory>
+    requires { run_back state.now.run ≤ len }
+    ensures items { IfOk result (λ items. items ≡ items_at_end state.now len) }
+    ensures text { StateIsText state.now → IfOk result ItemsAreText }
+{
+    let items = items_at_end(alloc, state, len)?;
+    Ok(items)
+}
+
+#[tactic(auto, unfolding(crate::specs::Items::items_at_end))]
+fn items_at_end(alloc: Global, state: &EventState, len: usize) -> Result<Items, NoMemory>
     requires { run_back state.now.run ≤ len }
     ensures { IfOk result (λ items. items ≡ items_at_end state.now len) }
 {
