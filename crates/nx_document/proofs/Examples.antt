@@ -19,7 +19,8 @@ use Rattle.nx_events.specs.Elements.{element_resolved, new_or_flaw, attribute_re
 use Rattle.nx_events.specs.Items.{declaration_items, doctype_items, comment_items, pi_items, cdata_items, text_items, start_items, empty_items, around_innermost, end_items, items_of_token, state_behind, items_at_end, items_from}
 use Rattle.nx_events.specs.Markup.{has_loose_hyphen, is_bad_comment, is_bad_pi}
 use Rattle.nx_events.specs.Names.{begins_unprefixed, goes_on_unprefixed, is_ncname, prefix_of, local_of, is_qname}
-use Rattle.nx_events.specs.References.{name_chars_len, name_len, reference_body_len, reference_len, number_of, char_or_none, numbered, character_named, referenced, spelled}
+use Rattle.nx_events.specs.References.{name_chars_len, name_len, reference_body_len, reference_len, numbered, character_named, referenced, spelled}
+use Rattle.nx_base.specs.CharacterCodes.{char_of_code}
 use Rattle.nx_events.specs.Runs.{run_items}
 use Rattle.nx_events.specs.Scopes.{last_uri, bound_uri, element_uri, attribute_uri}
 use Rattle.nx_events.specs.Strings.{cut_by, line_piece_len, text_piece_len, line_string_of, text_string_of, value_string_of, string_of}
@@ -34,7 +35,7 @@ use Rattle.nx_document.proofs.Characters.{is_legal}
 
 -- what must compute
 unfoldable pub opened : Unit {0}
-unfolding first_token markup begins_declaration instruction doctype begins_with closed bytes_before bytes_up_to doctype_bytes piece bad bad_rest tag_or tag cut tokens_within spells begins shortest_front passing_front is_char is_space is_name_start is_name_char chars encode character_flaw tag_flaw text_flaw once character_faults is_declaration declared_prefix is_bad_binding flaw_kind faults_at bindings_at declaration_faults bindings element_resolved new_or_flaw attribute_resolved resolved_if_attribute attribute_items declaration_items doctype_items comment_items pi_items cdata_items text_items start_items empty_items around_innermost end_items items_of_token state_behind items_at_end items_from has_loose_hyphen is_bad_comment is_bad_pi begins_unprefixed goes_on_unprefixed is_ncname prefix_of local_of is_qname name_chars_len name_len reference_body_len reference_len number_of char_or_none numbered character_named referenced spelled run_items last_uri bound_uri element_uri attribute_uri cut_by line_piece_len text_piece_len line_string_of text_string_of value_string_of string_of written_name value_len written_value attribute_len begins_attribute attribute_at front_attribute front_len attributes_from tag_attributes front_char after_some_spaces after_word after_equals is_version is_encoding is_yes_or_no after_value after_spaced_word after_setting after_optional_setting after_settings is_xml_declaration
+unfolding first_token markup begins_declaration instruction doctype begins_with closed bytes_before bytes_up_to doctype_bytes piece bad bad_rest tag_or tag cut tokens_within spells begins shortest_front passing_front is_char is_space is_name_start is_name_char chars encode character_flaw tag_flaw text_flaw once character_faults is_declaration declared_prefix is_bad_binding flaw_kind faults_at bindings_at declaration_faults bindings element_resolved new_or_flaw attribute_resolved resolved_if_attribute attribute_items declaration_items doctype_items comment_items pi_items cdata_items text_items start_items empty_items around_innermost end_items items_of_token state_behind items_at_end items_from has_loose_hyphen is_bad_comment is_bad_pi begins_unprefixed goes_on_unprefixed is_ncname prefix_of local_of is_qname name_chars_len name_len reference_body_len reference_len char_of_code numbered character_named referenced spelled run_items last_uri bound_uri element_uri attribute_uri cut_by line_piece_len text_piece_len line_string_of text_string_of value_string_of string_of written_name value_len written_value attribute_len begins_attribute attribute_at front_attribute front_len attributes_from tag_attributes front_char after_some_spaces after_word after_equals is_version is_encoding is_yes_or_no after_value after_spaced_word after_setting after_optional_setting after_settings is_xml_declaration
 opened = tt
 
 abbrev token : TokenKind → ℕ → String → Token

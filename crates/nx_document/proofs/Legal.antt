@@ -14,7 +14,9 @@ use Rattle.nx_base.specs.Characters.{is_char}
 use Rattle.nx_base.specs.declared.fault.Kind.{Kind}
 use Rattle.nx_base.specs.declared.fault.Kind.TheVariants.{BadChar, BadReference, BadText}
 use Rattle.nx_events.specs.CharacterFaults.{character_flaw, tag_flaw, text_flaw, piece_flaw}
-use Rattle.nx_events.specs.References.{behind_mark, name_len, reference_body_len, reference_len, char_or_none, number_of, numbered, character_named, referenced}
+use Rattle.nx_events.specs.References.{behind_mark, name_len, reference_body_len, reference_len, numbered, character_named, referenced}
+use Rattle.nx_base.specs.CharacterCodes.{char_of_code}
+use Rattle.std.specs.Str.Parse.{digits_value}
 use Rattle.nx_events.specs.Strings.{Piece, cut_by, line_piece_len, text_piece_len, piece_len}
 use Rattle.nx_events.specs.Utf8.{front_char}
 use Rattle.nx_events.specs.declared.reading.Reading.{Reading}
@@ -139,9 +141,9 @@ named_plain n bs unmarked h =
     (λ _. test_is P (bytes_eq body (codes "amp")) (Some 38) _ (λ e _. plain_word body _ amp_plain ((bytes_eq-Decides body _).0 e))
     (λ _. test_is P (bytes_eq body (codes "apos")) (Some 39) _ (λ e _. plain_word body _ apos_plain ((bytes_eq-Decides body _).0 e))
     (λ _. test_is P (bytes_eq body (codes "quot")) (Some 34) _ (λ e _. plain_word body _ quot_plain ((bytes_eq-Decides body _).0 e))
-    (λ _. test_is P (starts_with nat_eq body (codes "#x")) (char_or_none (number_of 16 (drop 2 body))) _
+    (λ _. test_is P (starts_with nat_eq body (codes "#x")) (char_of_code (digits_value 16 (drop 2 body))) _
     (λ e _. absurd (both_ways (starts_with nat_eq bs (codes "#")) unmarked (front_two n 35 120 bs e)))
-    (λ _. test_is P (starts_with nat_eq body (codes "#")) (char_or_none (number_of 10 (drop 1 body))) None
+    (λ _. test_is P (starts_with nat_eq body (codes "#")) (char_of_code (digits_value 10 (drop 1 body))) None
     (λ e _. absurd (both_ways (starts_with nat_eq bs (codes "#")) unmarked (front_one n 35 bs e)))
     (λ _ k. let bad : false ≡ true = k in absurd (cc)))))))) h
 

@@ -9,11 +9,11 @@ use Rattle.std.proofs.lemmas.Bool.{and_parts, and_from, and_left, and_right, or_
 use Rattle.std.proofs.lemmas.Slice.Eq.{bytes_eq-Decides}
 use Rattle.std.proofs.lemmas.Str.{is_utf8-from_IsUtf8}
 use Rattle.nx_base.specs.Characters.{is_char, is_name_start, is_name_char, is_nc_name}
-use Rattle.nx_base.specs.Names.{is_namespace, is_local, is_xml_name, is_attribute_name}
+use Rattle.nx_base.specs.Names.{xmlns_namespace, is_namespace, is_local, is_xml_name, is_attribute_name}
 use Rattle.nx_base.specs.declared.name.Name.{Name}
 use Rattle.nx_events.specs.Declarations.{is_declaration, declared_prefix, is_bad_binding}
 use Rattle.nx_events.specs.Names.{is_colon, begins_unprefixed, goes_on_unprefixed, is_unprefixed, is_ncname, has_colon, prefix_of, local_of, is_qname}
-use Rattle.nx_events.specs.Scopes.{xml_uri, xmlns_uri, or_else, last_uri, bound_uri, element_uri, attribute_uri, named_by, expand_element, expand_attribute}
+use Rattle.nx_events.specs.Scopes.{xml_uri, or_else, last_uri, bound_uri, element_uri, attribute_uri, named_by, expand_element, expand_attribute}
 use Rattle.nx_events.specs.declared.scope.Binding.{Binding}
 use Rattle.nx_events.specs.declared.tag.Attribute.{Attribute}
 use Rattle.nx_events.proofs.Texts.{either_is, after_text}
@@ -120,7 +120,7 @@ last_bound (x ∷ scope) prefix uri p e = by_last (last_uri scope prefix) (λ u 
 -- a namespace: of characters, and not that of `xmlns`; with a prefix it isn't empty
 record IsSpace (prefix uri : List ℕ) : Type 0 where
   uri_chars : OfChars uri
-  apart : bytes_eq uri xmlns_uri ≡ false
+  apart : bytes_eq uri xmlns_namespace ≡ false
   named : (length prefix == 0) ≡ false → bytes_eq uri [] ≡ false
 
 not_empty : (uri : List ℕ) → (length uri == 0) ≡ false → bytes_eq uri [] ≡ false
@@ -130,10 +130,10 @@ not_empty (u ∷ uri) e = refl
 space_of : (prefix uri : List ℕ) → IsBound prefix uri → IsSpace prefix uri
 unfolding is_bad_binding
 space_of prefix uri b =
-    let last = or_parts (bytes_eq prefix (codes "xmlns") || (bytes_eq prefix (codes "xml") && not (bytes_eq uri xml_uri)) || (not (bytes_eq prefix (codes "xml")) && bytes_eq uri xml_uri) || bytes_eq uri xmlns_uri)
+    let last = or_parts (bytes_eq prefix (codes "xmlns") || (bytes_eq prefix (codes "xml") && not (bytes_eq uri xml_uri)) || (not (bytes_eq prefix (codes "xml")) && bytes_eq uri xml_uri) || bytes_eq uri xmlns_namespace)
     (not (length prefix == 0) && length uri == 0) b.legal in
     let fourth = or_parts (bytes_eq prefix (codes "xmlns") || (bytes_eq prefix (codes "xml") && not (bytes_eq uri xml_uri)) || (not (bytes_eq prefix (codes "xml")) && bytes_eq uri xml_uri))
-    (bytes_eq uri xmlns_uri) last.0 in
+    (bytes_eq uri xmlns_namespace) last.0 in
     record {
       uri_chars = b.uri_chars;
       apart = fourth.1;
@@ -183,7 +183,7 @@ named_parts (Some uri) local name e = let both : Some (record { ns = uri; local 
 
 xml_name : (prefix uri local : List ℕ) → IsSpace prefix uri → is_local local ≡ true → is_xml_name (record { ns = uri; local = local }) ≡ true
 xml_name prefix uri local s l =
-    and_from (is_namespace uri) (is_local local) (and_from _ (not (bytes_eq uri xmlns_uri)) (is_of uri s.uri_chars) (not_from_false (bytes_eq uri xmlns_uri) s.apart)) l
+    and_from (is_namespace uri) (is_local local) (and_from _ (not (bytes_eq uri xmlns_namespace)) (is_of uri s.uri_chars) (not_from_false (bytes_eq uri xmlns_namespace) s.apart)) l
 
 pub element_name : (scope : List Binding) (written : List ℕ) (name : Name) → AreProper scope → IsUtf8 written → is_qname written ≡ true → expand_element scope written ≡ Some name → is_xml_name name ≡ true
 element_name scope written name p u q e =

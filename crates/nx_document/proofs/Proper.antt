@@ -2,6 +2,7 @@
 use Rattle.std.proofs.Common.{◌≡◌, ℕ, true, List, [], ◌∷◌, length, drop, ◌-◌, sym, subst}
 use Rattle.std.specs.List.{AllByRecursion}
 use Rattle.std.specs.Str.{IsUtf8}
+use Rattle.std.specs.Prelude.{◌==◌}
 use Rattle.nx_base.specs.Names.{is_xml_name}
 use Rattle.nx_base.specs.Tokens.{tokens_of}
 use Rattle.nx_base.specs.Trees.{Tree, Children, nil, string, element, HasAttribute, here, further, AreAttributes, no_attributes, one_more, AreChildren, no_children, string_first, element_first, attributes_flat, children_flat, alone, flat, AreWritable}
@@ -94,7 +95,7 @@ tag_proper scope tag name attributes p u v is =
     }
 
 content_of : (token : Token) (kind : TokenKind) → IsText token → token.kind ≡ kind → HasContent token.bytes kind (length token.bytes)
-content_of token kind text e = subst (λ k. HasContent token.bytes k (length token.bytes)) e (content_text token text.0 text.1)
+content_of token kind text e = subst (λ k. HasContent token.bytes k (length token.bytes)) e (content_text token text.0 ((token.from == 0), text.1))
 
 -- elements and content, with what follows them
 mutual

@@ -4,7 +4,9 @@ use Rattle.std.specs.Prelude.{◌==◌, slice_index, nat_eq, codes}
 use Rattle.std.specs.List.{flat_map, starts_with}
 use Rattle.std.specs.Str.{bytes_eq}
 use Rattle.nx_base.specs.Characters.{is_char, is_space}
-use Rattle.nx_events.specs.References.{char_or_none, number_of, numbered, character_named, referenced, spelled}
+use Rattle.nx_events.specs.References.{numbered, character_named, referenced, spelled}
+use Rattle.nx_base.specs.CharacterCodes.{char_of_code}
+use Rattle.std.specs.Str.Parse.{digits_value}
 use Rattle.nx_events.specs.Strings.{Piece, cut_by, piece_len, line_string_of, text_string_of, value_string_of, piece_string, string_of}
 use Rattle.nx_events.specs.declared.reading.Reading.{Reading}
 use Rattle.nx_events.specs.declared.reading.Reading.TheVariants.{Plain, Text, Value}
@@ -18,15 +20,15 @@ abbrev IsNoneOrChar : Option ℕ → Type 0
 IsNoneOrChar None = Unit {0}
 IsNoneOrChar (Some c) = is_char c ≡ true
 
-one_or_none : (c : ℕ) → IsNoneOrChar (char_or_none c)
-unfolding char_or_none
+one_or_none : (c : ℕ) → IsNoneOrChar (char_of_code c)
+unfolding char_of_code
 one_or_none c = test_is IsNoneOrChar (is_char c) (Some c) None (λ h. h) (λ _. tt)
 
 numbered_char : (body : List ℕ) → IsNoneOrChar (numbered body)
 unfolding numbered
 numbered_char body =
-    either_is IsNoneOrChar (starts_with nat_eq body (codes "#x")) _ _ (one_or_none (number_of 16 (drop 2 body)))
-    (either_is IsNoneOrChar (starts_with nat_eq body (codes "#")) _ _ (one_or_none (number_of 10 (drop 1 body))) tt)
+    either_is IsNoneOrChar (starts_with nat_eq body (codes "#x")) _ _ (one_or_none (digits_value 16 (drop 2 body)))
+    (either_is IsNoneOrChar (starts_with nat_eq body (codes "#")) _ _ (one_or_none (digits_value 10 (drop 1 body))) tt)
 
 named_char : (body : List ℕ) → IsNoneOrChar (character_named body)
 unfolding character_named is_char

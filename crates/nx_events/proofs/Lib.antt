@@ -10,8 +10,8 @@ pub mod Declarations
 pub mod Elements
 pub mod OpenElements
 pub mod Folding
-pub mod Spans
-pub mod Moves
+pub mod Balance
+pub mod TextRuns
 pub mod Spelling
 pub mod Texts
 pub mod TextTags

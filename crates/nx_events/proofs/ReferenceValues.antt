@@ -12,14 +12,16 @@ use Rattle.std.proofs.lemmas.Str.{chars-IsAscii, IsUtf8-from_ascii}
 use Rattle.nx_base.specs.Characters.{is_char, is_name_start, is_name_char}
 use Rattle.nx_base.specs.Form.{Spells}
 use Rattle.nx_base.specs.Tags.{name_form}
-use Rattle.nx_events.specs.References.{number_of, char_or_none, numbered, character_named}
+use Rattle.nx_events.specs.References.{numbered, character_named}
+use Rattle.nx_base.specs.CharacterCodes.{char_of_code}
+use Rattle.std.specs.Str.Parse.{digits_value, digits_value_after}
 use Rattle.nx_events.specs.Words.{word, digit, hexdigit}
 use Rattle.nx_events.specs.ReferenceForm.{reference_form, entity, decimal, hexadecimal, HasShape, IsEntity, entities, value_of, Denotes}
 use Rattle.nx_events.proofs.FormWords.{AllPass, digit-of_one, hexdigit-of_one, is_small, small_ascii}
 use Rattle.nx_events.proofs.ReferenceForms.{Shaped, ByShape, by_name, by_digits, by_hexdigits, no_hash_mark, digit_no_x, digits_shape, hexdigits_shape, some_spells, some_all, name_spells}
 
 -- the number that digits write
-fold_value : (base n : ℕ) (digits : List ℕ) → fold (λ n digit. n * base + digit_value digit) n digits ≡ n * base ^ length digits + value_of base digits
+fold_value : (base n : ℕ) (digits : List ℕ) → digits_value_after base n digits ≡ n * base ^ length digits + value_of base digits
 unfolding value_of
 fold_value base n [] =
     let one : base ^ 0 ≡ 1 = simp unary_clauses in
@@ -36,8 +38,7 @@ fold_value base n (d ∷ digits) =
     let whole : n * base ^ suc (length digits) ≡ n * (base * p) = ap (λ k. n * k) power in
     rest ∙ omega arith
 
-pub number_is : (base : ℕ) (digits : List ℕ) → number_of base digits ≡ value_of base digits
-unfolding number_of
+pub number_is : (base : ℕ) (digits : List ℕ) → digits_value base digits ≡ value_of base digits
 number_is base digits = fold_value base 0 digits ∙ (let e : 0 * base ^ length digits + value_of base digits ≡ value_of base digits = ap (λ k. k + value_of base digits) (zero-mul (base ^ length digits)) ∙ omega arith in e)
 
 -- what a body of such a shape denotes
@@ -50,20 +51,20 @@ by_entity body c (inr (inr (inr (inl e)))) = ap character_named e.0 ∙ ap (λ x
 by_entity body c (inr (inr (inr (inr (inl e))))) = ap character_named e.0 ∙ ap (λ x. Some x) (sym e.1)
 by_entity body c (inr (inr (inr (inr (inr e))))) = absurd e
 
-named_by_digits : (d : ℕ) (digits : List ℕ) → nat_eq 120 d ≡ false → character_named (35 ∷ d ∷ digits) ≡ char_or_none (number_of 10 (d ∷ digits))
+named_by_digits : (d : ℕ) (digits : List ℕ) → nat_eq 120 d ≡ false → character_named (35 ∷ d ∷ digits) ≡ char_of_code (digits_value 10 (d ∷ digits))
 unfolding character_named numbered
-named_by_digits d digits h = ap (λ (t : Bool). cond (t && true) (char_or_none (number_of 16 digits)) (char_or_none (number_of 10 (d ∷ digits)))) h
+named_by_digits d digits h = ap (λ (t : Bool). cond (t && true) (char_of_code (digits_value 16 digits)) (char_of_code (digits_value 10 (d ∷ digits)))) h
 
-named_by_hexdigits : (digits : List ℕ) → character_named (35 ∷ 120 ∷ digits) ≡ char_or_none (number_of 16 digits)
+named_by_hexdigits : (digits : List ℕ) → character_named (35 ∷ 120 ∷ digits) ≡ char_of_code (digits_value 16 digits)
 unfolding character_named numbered
 named_by_hexdigits digits = refl
 
-a_char : (n c : ℕ) → c ≡ n → is_char c ≡ true → char_or_none n ≡ Some c
-unfolding char_or_none
+a_char : (n c : ℕ) → c ≡ n → is_char c ≡ true → char_of_code n ≡ Some c
+unfolding char_of_code
 a_char n c e h = ap (λ (t : Bool). cond t (Some n) None) (ap is_char (sym e) ∙ h) ∙ ap (λ x. Some x) (sym e)
 
-a_char_only : (n c : ℕ) → char_or_none n ≡ Some c → (c ≡ n) × (is_char c ≡ true)
-unfolding char_or_none
+a_char_only : (n c : ℕ) → char_of_code n ≡ Some c → (c ≡ n) × (is_char c ≡ true)
+unfolding char_of_code
 a_char_only n c e =
     elim (cases_Bool (is_char n)) [
       | inl h ↦ (let both : Some n ≡ Some c = sym (ap (λ (t : Bool). cond t (Some n) None) h) ∙ e in let same : n ≡ c = cc in (sym same, ap is_char (sym same) ∙ h))
@@ -74,13 +75,13 @@ pub denotes_named : (body : List ℕ) (c : ℕ) → Denotes body c → character
 denotes_named body c (entity e) = by_entity body c e
 denotes_named body c (decimal digits e s v h) =
     let all = some_all digit is_ascii_digit digit-of_one digits s in
-    ap character_named e ∙ by_digits digits all.0 all.1 ∙ a_char (number_of 10 digits) c (v ∙ sym (number_is 10 digits)) h
+    ap character_named e ∙ by_digits digits all.0 all.1 ∙ a_char (digits_value 10 digits) c (v ∙ sym (number_is 10 digits)) h
   where
-    by_digits : (digits : List ℕ) → 0 < length digits → AllPass is_ascii_digit digits → character_named (35 ∷ digits) ≡ char_or_none (number_of 10 digits)
+    by_digits : (digits : List ℕ) → 0 < length digits → AllPass is_ascii_digit digits → character_named (35 ∷ digits) ≡ char_of_code (digits_value 10 digits)
     by_digits [] lt all = absurd (omega arith)
     by_digits (d ∷ digits) lt all = named_by_digits d digits (digit_no_x d all.0)
 denotes_named body c (hexadecimal digits e s v h) =
-    ap character_named e ∙ named_by_hexdigits digits ∙ a_char (number_of 16 digits) c (v ∙ sym (number_is 16 digits)) h
+    ap character_named e ∙ named_by_hexdigits digits ∙ a_char (digits_value 16 digits) c (v ∙ sym (number_is 16 digits)) h
 
 -- one of a chain of tests
 entity_or : (body word : List ℕ) (d c : ℕ) (other : Option ℕ) (P : Type 0) → cond (bytes_eq body word) (Some d) other ≡ Some c →
@@ -94,8 +95,8 @@ entity_or body word d c other P e f g =
 no_number : (body : List ℕ) → (slice_index body 0 == 35) ≡ false → numbered body ≡ None
 unfolding numbered
 no_number body h =
-    ap (λ (t : Bool). cond t (char_or_none (number_of 16 (drop 2 body))) (cond (starts_with nat_eq body (codes "#")) (char_or_none (number_of 10 (drop 1 body))) None)) (no_hash_mark (120 ∷ []) body h)
-    ∙ ap (λ (t : Bool). cond t (char_or_none (number_of 10 (drop 1 body))) None) (no_hash_mark [] body h)
+    ap (λ (t : Bool). cond t (char_of_code (digits_value 16 (drop 2 body))) (cond (starts_with nat_eq body (codes "#")) (char_of_code (digits_value 10 (drop 1 body))) None)) (no_hash_mark (120 ∷ []) body h)
+    ∙ ap (λ (t : Bool). cond t (char_of_code (digits_value 10 (drop 1 body))) None) (no_hash_mark [] body h)
 
 entity_named : (body : List ℕ) (c : ℕ) → (slice_index body 0 == 35) ≡ false → character_named body ≡ Some c → IsEntity entities body c
 unfolding character_named
@@ -111,10 +112,10 @@ pub named_denotes : (body : List ℕ) (c : ℕ) → ByShape body → character_n
 named_denotes body c (by_name u s h) e = entity (entity_named body c h e)
 named_denotes body c (by_digits [] f lt all) e = absurd (omega arith)
 named_denotes body c (by_digits (d ∷ digits) f lt all) e =
-    let t = a_char_only (number_of 10 (d ∷ digits)) c (sym (ap character_named f ∙ named_by_digits d digits (digit_no_x d all.0)) ∙ e) in
+    let t = a_char_only (digits_value 10 (d ∷ digits)) c (sym (ap character_named f ∙ named_by_digits d digits (digit_no_x d all.0)) ∙ e) in
     decimal (d ∷ digits) f (some_spells digit is_ascii_digit digit-of_one (d ∷ digits) lt all) (t.0 ∙ number_is 10 (d ∷ digits)) t.1
 named_denotes body c (by_hexdigits digits f lt all) e =
-    let t = a_char_only (number_of 16 digits) c (sym (ap character_named f ∙ named_by_hexdigits digits) ∙ e) in
+    let t = a_char_only (digits_value 16 digits) c (sym (ap character_named f ∙ named_by_hexdigits digits) ∙ e) in
     hexadecimal digits f (some_spells hexdigit is_ascii_hexdigit hexdigit-of_one digits lt all) (t.0 ∙ number_is 16 digits) t.1
 
 -- whatever denotes a character has such a shape

@@ -7,7 +7,8 @@ use Rattle.std.proofs.lemmas.List.{drop-drop}
 use Rattle.std.specs.Str.{continuation_len}
 use Rattle.nx_base.specs.Characters.{is_char, is_name_char}
 use Rattle.nx_events.specs.Utf8.{front_char}
-use Rattle.nx_events.specs.References.{name_chars_len, char_or_none}
+use Rattle.nx_events.specs.References.{name_chars_len}
+use Rattle.nx_base.specs.CharacterCodes.{char_of_code}
 
 -- the first n bytes are counted, as far as there are any
 skip : (n m : ℕ) (bs : List ℕ) → m ≡ min n (length bs) → name_chars_len n bs ≡ m + name_chars_len 0 (drop m bs)
@@ -56,13 +57,13 @@ unfolding name_chars_len
 name_stops [] e = refl
 name_stops (b ∷ bs) e = not_at_front b bs e
 
-above : (n : ℕ) → 0x11_0000 ≤ n → char_or_none n ≡ None
-unfolding is_char char_or_none
+above : (n : ℕ) → 0x11_0000 ≤ n → char_of_code n ≡ None
+unfolding is_char char_of_code
 above n h = grind (arith, nat_tests)
 
-pub capped : (n : ℕ) → char_or_none (min n 0x11_0000) ≡ char_or_none n
-unfolding is_char char_or_none
-capped n = ⊎_elim (λ (h : n < 0x11_0000). let e : min n 0x11_0000 ≡ n = omega arith in ap char_or_none e) (λ (h : 0x11_0000 ≤ n). let e : min n 0x11_0000 ≡ 0x11_0000 = omega arith in ap char_or_none e ∙ above 0x11_0000 (omega arith) ∙ sym (above n h)) (cases_lt n 0x11_0000)
+pub capped : (n : ℕ) → char_of_code (min n 0x11_0000) ≡ char_of_code n
+unfolding is_char char_of_code
+capped n = ⊎_elim (λ (h : n < 0x11_0000). let e : min n 0x11_0000 ≡ n = omega arith in ap char_of_code e) (λ (h : 0x11_0000 ≤ n). let e : min n 0x11_0000 ≡ 0x11_0000 = omega arith in ap char_of_code e ∙ above 0x11_0000 (omega arith) ∙ sym (above n h)) (cases_lt n 0x11_0000)
 
 pub name_ends : (bs : List ℕ) (i : ℕ) → length bs ≤ i → name_chars_len 0 (drop i bs) ≡ 0
 unfolding name_chars_len

@@ -22,7 +22,7 @@ use Rattle.nx_events.specs.declared.state.Run.{Run}
 use Rattle.nx_events.proofs.OpenTags.{leaves_one, some_left}
 
 -- one token more
-after_one : (state : EventState) (before : List Token) (token : Token) → state_after state (before ++ token ∷ []) ≡ state_behind (state_after state before) token
+pub after_one : (state : EventState) (before : List Token) (token : Token) → state_after state (before ++ token ∷ []) ≡ state_behind (state_after state before) token
 unfolding state_after
 after_one state [] token = refl
 after_one state (other ∷ before) token = after_one (state_behind state other) before token
@@ -39,7 +39,7 @@ any_one p (other ∷ before) token = ap (λ (t : Bool). p other || t) (any_one p
     regroup true b c = refl
     regroup false b c = refl
 
-flat_append : {A : Type 0} (f : Token → List A) (xs ys : List Token) → flat_map f (xs ++ ys) ≡ flat_map f xs ++ flat_map f ys
+pub flat_append : {A : Type 0} (f : Token → List A) (xs ys : List Token) → flat_map f (xs ++ ys) ≡ flat_map f xs ++ flat_map f ys
 flat_append f [] ys = refl
 flat_append f (x ∷ xs) ys = ap (λ zs. f x ++ zs) (flat_append f xs ys) ∙ sym (append_assoc (f x) (flat_map f xs) (flat_map f ys))
 
@@ -54,7 +54,7 @@ front_lies len at (other ∷ before) token h =
 abbrev pairs_of : List Token → ℕ
 pairs_of tags = length (flat_map own_bindings tags)
 
-elements_append : (outer : ℕ) (xs ys : List Token) → elements_of outer (xs ++ ys) ≡ elements_of outer xs ++ elements_of (outer + pairs_of xs) ys
+pub elements_append : (outer : ℕ) (xs ys : List Token) → elements_of outer (xs ++ ys) ≡ elements_of outer xs ++ elements_of (outer + pairs_of xs) ys
 unfolding elements_of
 elements_append outer [] ys = let e : outer ≡ outer + 0 = omega arith in ap (λ n. elements_of n ys) e
 elements_append outer (x ∷ xs) ys =
@@ -62,7 +62,7 @@ elements_append outer (x ∷ xs) ys =
     let n : outer + length own + pairs_of xs ≡ outer + pairs_of (x ∷ xs) = (let k = length-append own (flat_map own_bindings xs) in omega arith) in
     ap (λ zs. (record { written = start_name x.bytes; outer = outer }) ∷ zs) (elements_append (outer + length own) xs ys ∙ ap (λ m. elements_of (outer + length own) xs ++ elements_of m ys) n)
 
-elements_len : (outer : ℕ) (tags : List Token) → length (elements_of outer tags) ≡ length tags
+pub elements_len : (outer : ℕ) (tags : List Token) → length (elements_of outer tags) ≡ length tags
 unfolding elements_of
 elements_len outer [] = refl
 elements_len outer (x ∷ xs) = ap suc (elements_len (outer + length (own_bindings x)) xs)
@@ -77,7 +77,7 @@ around_none name outer (x ∷ xs) h =
       | inr e ↦ ap (λ (t : Bool). cond t (Some 0) None) e
     ]
 
-around_some : (name : List ℕ) (n : ℕ) (outer : List Token) (tag : Token) (inner : List Token) → start_name tag.bytes ≡ name →
+pub around_some : (name : List ℕ) (n : ℕ) (outer : List Token) (tag : Token) (inner : List Token) → start_name tag.bytes ≡ name →
     AllByRecursion (λ (other : Token). start_name other.bytes ≢ name) inner → around_innermost name (elements_of n (outer ++ tag ∷ inner)) ≡ Some (length outer)
 unfolding around_innermost elements_of
 around_some name n [] tag inner e h =
@@ -308,7 +308,7 @@ first_is at = record { elements = refl; scope = refl; pending = refl; came = ref
 lies : (at : ℕ) (all before : List Token) (token : Token) → all ≡ before ++ token ∷ [] → AreTokensFrom at 0 all → AreTokensFrom token.from 0 before × (token.from + length token.bytes ≡ at)
 lies at all before token e h = front_lies at 0 before token (subst (λ xs. AreTokensFrom at 0 xs) e h)
 
-state_is : (all tags run : List Token) (at : ℕ) → Leaves all tags run → AreTokensFrom at 0 all → IsStateOf at all tags run (state_after first_state all)
+pub state_is : (all tags run : List Token) (at : ℕ) → Leaves all tags run → AreTokensFrom at 0 all → IsStateOf at all tags run (state_after first_state all)
 state_is all tags run at (nothing_read _ _ _ e f g) p =
     subst (λ xs. IsStateOf at xs tags run (state_after first_state xs)) (sym e) (subst (λ xs. IsStateOf at [] xs run (state_after first_state [])) (sym f) (subst (λ xs. IsStateOf at [] [] xs (state_after first_state [])) (sym g) (first_is at)))
 state_is all tags run at (start_tag _ _ _ before outer ended token h e k f g) p =

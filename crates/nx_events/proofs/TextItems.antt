@@ -42,7 +42,7 @@ use Rattle.nx_events.specs.Declarations.{is_declaration, declared_prefix, flaw_k
 use Rattle.nx_events.specs.Elements.{flawed_as, has_name, declared_or_flaw, element_resolved, element_items, new_or_flaw, attribute_resolved, resolved_if_attribute, attribute_item, kept_name, attribute_items}
 use Rattle.nx_events.specs.Runs.{run_passed, run_joined, run_items}
 use Rattle.nx_events.specs.Items.{token_span, token_fault_if, is_inside, is_before, is_behind, first_state, declaration_items, doctype_items, character_items, comment_items, pi_items, cdata_items, text_items, own_bindings, start_items, empty_items, around_innermost, left_out, closing_items, end_items, items_by_kind, items_of_token, passed, joined, opened, outer_of_first, closed, state_by_kind, state_behind, items_at_end, items_from, items_of}
-use Rattle.nx_events.specs.Texts.{NameIsText, BindingIsText, RunIsText, StateIsText, ItemIsText, ItemsAreText}
+use Rattle.nx_events.specs.Texts.{NameIsText, BindingIsText, RunIsText, StateIsText, ItemIsText, ItemsAreText, TokenIsText}
 use Rattle.nx_events.proofs.Texts.{either_is, test_is, behind, before_text, after_text, string_text}
 use Rattle.nx_events.proofs.TextTags.{AttributesAreText, name_text, tag_text}
 use Rattle.nx_events.proofs.TextKinds.{HasContent, content_text}
@@ -363,12 +363,26 @@ module _ (state : EventState) (token : Token) (u : IsUtf8 token.bytes) (h : Stat
   other_text tokens.End c = closed_text (around_innermost (end_name token.bytes) state.elements)
   other_text _ c = record { elements = h.elements; scope = h.scope; run = passed_run (length token.bytes) state.run h.run }
 
-pub token_text : (state : EventState) (token : Token) → IsUtf8 token.bytes → IsOfKind token → StateIsText state →
+pub token_text : (state : EventState) (token : Token) → TokenIsText token → StateIsText state →
     ItemsAreText (items_of_token state token) × StateIsText (state_behind state token)
 unfolding items_of_token state_behind
-token_text state token u kind h =
-    let content = content_text token u kind in
-    (items_text state token u h token.kind content, other_text state token u h token.kind content)
+token_text state token t h =
+    let content = content_text token t.0 t.1 in
+    (items_text state token t.0 h token.kind content, other_text state token t.0 h token.kind content)
+
+-- the same of what a call answers, behind a list that is text
+pub more_text : (state : EventState) (token : Token) (old new : List Item) → new ≡ old ++ items_of_token state token →
+    TokenIsText token → StateIsText state → ItemsAreText old → ItemsAreText new
+more_text state token old new e t h before = subst ItemsAreText (sym e) (both old (items_of_token state token) before (token_text state token t h).0)
+
+pub given_text : (state : EventState) (token : Token) (all : List Item) → all ≡ items_of_token state token → TokenIsText token → StateIsText state → ItemsAreText all
+given_text state token all e t h = subst ItemsAreText (sym e) (token_text state token t h).0
+
+pub next_text : (state next : EventState) (token : Token) → next ≡ state_behind state token → TokenIsText token → StateIsText state → StateIsText next
+next_text state next token e t h = subst (λ (s : EventState). StateIsText s) (sym e) (token_text state token t h).1
+
+pub same_text : (state next : EventState) → next ≡ state → StateIsText state → StateIsText next
+same_text state next e h = subst (λ (s : EventState). StateIsText s) (sym e) h
 
 pub end_text : (state : EventState) (len : ℕ) → StateIsText state → ItemsAreText (items_at_end state len)
 unfolding items_at_end
@@ -380,6 +394,9 @@ end_text state len h =
     (left_text faults.UnclosedElement span (reverse state.elements) (all_reverse ElementIsText state.elements h.elements)))
     (either_is ItemsAreText (is_before state) (items.Fault (bare_fault faults.NoRoot span) ∷ []) [] (IsUtf8-nil, tt) tt)
 
+pub finished_text : (state : EventState) (len : ℕ) (all : List Item) → all ≡ items_at_end state len → StateIsText state → ItemsAreText all
+finished_text state len all e h = subst ItemsAreText (sym e) (end_text state len h)
+
 pub first_text : StateIsText first_state
 first_text = record { elements = tt; scope = tt; run = tt }
 
@@ -388,7 +405,7 @@ tokens_text : (state : EventState) (all : List Token) (len : ℕ) → StateIsTex
 unfolding items_from
 tokens_text state [] len h each = end_text state len h
 tokens_text state (t ∷ ts) len h each =
-    let here = token_text state t each.0.0 each.0.1 h in
+    let here = token_text state t (each.0.0, ((t.from == 0), each.0.1)) h in
     both (items_of_token state t) (items_from (state_behind state t) ts len) here.0 (tokens_text (state_behind state t) ts len here.1 each.1)
 
 pub all_text : (all : List Token) (len : ℕ) → AllByRecursion (λ (token : Token). IsUtf8 token.bytes × IsOfKind token) all → ItemsAreText (items_of all len)

@@ -8,7 +8,8 @@ use Rattle.std.proofs.lemmas.Bool.{cases_Bool, and_parts, eqb-true}
 use Rattle.std.proofs.lemmas.Str.{chars_past_char, chars_from_encodes, encode_ascii}
 use Rattle.nx_base.specs.Form.{never, spells, shortest_front}
 use Rattle.nx_base.specs.Tags.{start_form, empty_form, end_form}
-use Rattle.nx_base.specs.Tokens.{Cut, cut_as, begins_with, bytes_before, bytes_up_to, unclosed, closed, doctype, doctype_bytes, begins_declaration, instruction, tags, bad, tag_or, tag, markup, order_mark, first_token, IsOfKind}
+use Rattle.nx_base.specs.Rules.{lexeme_of, IsLexeme}
+use Rattle.nx_base.specs.Tokens.{Cut, cut_as, begins_with, bytes_before, bytes_up_to, unclosed, closed, doctype, doctype_bytes, begins_declaration, instruction, tags, bad, tag_or, tag, markup, order_mark, first_token}
 use Rattle.nx_base.specs.declared.token.Token.{Token}
 use Rattle.nx_base.specs.declared.token.TokenKind.{TokenKind}
 use Rattle.nx_base.specs.declared.token.TokenKind.TheVariants as kinds
@@ -150,5 +151,5 @@ first_has at_start bs u =
     test_is (Has bs) (at_start && begins_with order_mark bs) (cut_as kinds.Bom 3) _ (λ _. tt)
     (λ _. test_is (Has bs) (begins_with (codes "<") bs) (markup bs) (cut_as kinds.Text (bytes_up_to 60 bs)) (λ b. markup_has bs u b) (λ _. tt))
 
-pub content_text : (token : Token) → IsUtf8 token.bytes → IsOfKind token → HasContent token.bytes token.kind (length token.bytes)
-content_text token u kind = subst (λ (c : Cut). Has token.bytes c) kind (first_has (token.from == 0) token.bytes u)
+pub content_text : (token : Token) → IsUtf8 token.bytes → IsLexeme (lexeme_of token) → HasContent token.bytes token.kind (length token.bytes)
+content_text token u kind = subst (λ (c : Cut). Has token.bytes c) kind.1 (first_has kind.0 token.bytes u)

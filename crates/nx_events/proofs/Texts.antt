@@ -10,7 +10,9 @@ use Rattle.std.proofs.lemmas.List.{drop_all}
 use Rattle.std.proofs.lemmas.List.Sums.{passes_at_first}
 use Rattle.std.proofs.lemmas.Str.{IsUtf8-nil, IsUtf8-append, IsUtf8-encode, IsUtf8-take, IsUtf8-drop, IsCharBoundary-after_ascii, IsCharBoundary-at_seam, encode_ascii}
 use Rattle.nx_base.specs.Characters.{is_char, is_space}
-use Rattle.nx_events.specs.References.{reference_body_len, reference_len, char_or_none, numbered, number_of, character_named, referenced, spelled}
+use Rattle.nx_events.specs.References.{reference_body_len, reference_len, numbered, character_named, referenced, spelled}
+use Rattle.nx_base.specs.CharacterCodes.{char_of_code}
+use Rattle.std.specs.Str.Parse.{digits_value}
 use Rattle.nx_events.specs.Strings.{Piece, cut_by, line_piece_len, text_piece_len, piece_len, line_string_of, text_string_of, value_string_of, piece_string, string_of}
 use Rattle.nx_events.specs.declared.reading.Reading.{Reading}
 use Rattle.nx_events.specs.declared.reading.Reading.TheVariants.{Plain, Text, Value}
@@ -165,15 +167,15 @@ char_scalar : (c : ℕ) → is_char c ≡ true → scalar c ≡ true
 unfolding is_char
 char_scalar c h = grind (arith, nat_tests)
 
-char_or_none_scalar : (c : ℕ) → IsNoneOrScalar (char_or_none c)
-unfolding char_or_none
-char_or_none_scalar c = test_is IsNoneOrScalar (is_char c) (Some c) None (char_scalar c) (λ _. tt)
+char_of_code_scalar : (c : ℕ) → IsNoneOrScalar (char_of_code c)
+unfolding char_of_code
+char_of_code_scalar c = test_is IsNoneOrScalar (is_char c) (Some c) None (char_scalar c) (λ _. tt)
 
 numbered_scalar : (body : List ℕ) → IsNoneOrScalar (numbered body)
 unfolding numbered
 numbered_scalar body =
-    either_is IsNoneOrScalar (starts_with nat_eq body (codes "#x")) _ _ (char_or_none_scalar (number_of 16 (drop 2 body)))
-    (either_is IsNoneOrScalar (starts_with nat_eq body (codes "#")) _ _ (char_or_none_scalar (number_of 10 (drop 1 body))) tt)
+    either_is IsNoneOrScalar (starts_with nat_eq body (codes "#x")) _ _ (char_of_code_scalar (digits_value 16 (drop 2 body)))
+    (either_is IsNoneOrScalar (starts_with nat_eq body (codes "#")) _ _ (char_of_code_scalar (digits_value 10 (drop 1 body))) tt)
 
 named_scalar : (body : List ℕ) → IsNoneOrScalar (character_named body)
 unfolding character_named

@@ -8,7 +8,8 @@ use Rattle.nx_base.specs.declared.fault.Kind.{Kind}
 use Rattle.nx_base.specs.declared.fault.Kind.TheVariants.{DuplicateAttribute, BadName, BadBinding}
 use Rattle.nx_events.specs.Faults.{fault_of}
 use Rattle.nx_events.specs.Names.{is_qname}
-use Rattle.nx_events.specs.Scopes.{xml_uri, xmlns_uri}
+use Rattle.nx_base.specs.Names.{xmlns_namespace}
+use Rattle.nx_events.specs.Scopes.{xml_uri}
 use Rattle.nx_events.specs.declared.tag.Attribute.{Attribute}
 use Rattle.nx_events.specs.declared.scope.Binding.{Binding}
 use Rattle.nx_events.specs.declared.flaw.Flaw.{Flaw}
@@ -27,7 +28,7 @@ is_bad_binding prefix uri =
     bytes_eq prefix (codes "xmlns")
     || (bytes_eq prefix (codes "xml") && not (bytes_eq uri xml_uri))
     || (not (bytes_eq prefix (codes "xml")) && bytes_eq uri xml_uri)
-    || bytes_eq uri xmlns_uri
+    || bytes_eq uri xmlns_namespace
     || (not (length prefix == 0) && length uri == 0)
 
 -- an attribute of this name is among these

@@ -82,6 +82,14 @@ text_items state token =
 abbrev pub own_bindings : Token → List Binding
 own_bindings token = bindings [] (tag_attributes token.from token.bytes)
 
+-- what a token declares for those behind it: a start tag its own declarations, any other nothing
+abbrev pub declared_by_kind : TokenKind → Token → List Binding
+declared_by_kind tokens.Start token = own_bindings token
+declared_by_kind _ token = []
+
+abbrev pub declared_in : Token → List Binding
+declared_in token = declared_by_kind token.kind token
+
 -- a start tag: the run before it, its characters and references, its declarations, its element, its other attributes, its end
 unfoldable pub start_items : EventState → Token → List Item
 start_items state token =

@@ -1,29 +1,43 @@
+-- ---- what a reader must believe
+-- one token: characters, strings, references, markup, names, tags, declarations
 pub mod Utf8
 pub mod References
-pub mod Plain
 pub mod Strings
 pub mod Faults
 pub mod CharacterFaults
 pub mod Markup
 pub mod XmlDeclaration
-pub mod Words
-pub mod DeclarationForm
-pub mod ReferenceForm
-pub mod StringsRead
 pub mod Names
 pub mod Tags
 pub mod Scopes
 pub mod Declarations
 pub mod Elements
-pub mod SeenNames
+-- tokens one after another: runs, items and the state between them, and the machine that they make
 pub mod Runs
 pub mod Items
-pub mod OpenTags
-pub mod Texts
-pub mod Spans
-pub mod Moves
+pub mod Among
+pub mod BareRules
+-- the same in the standards' grammars
+pub mod Words
+pub mod DeclarationForm
+pub mod ReferenceForm
+pub mod StringsRead
 pub mod Spelling
 pub mod SpelledTags
 pub mod MarkupForm
-pub mod Among
 pub mod QualifiedNames
+-- laws
+pub mod OpenTags
+pub mod TextRuns
+pub mod Balance
+pub mod Texts
+pub mod Spans
+pub mod Moves
+-- ---- what private contracts cite
+pub mod Plain
+pub mod SeenNames
+-- ---- proofs of the laws that the machine hands on, which have to stand here
+pub mod ItemsLie
+pub mod ItemsMove
+pub mod RunsGrow
+pub mod BareLaws

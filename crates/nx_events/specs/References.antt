@@ -1,9 +1,11 @@
 -- References (XML 1.0, 4.1 and 4.6).
-use Rattle.std.specs.Prelude.{ℕ, zero, suc, ◌+◌, ◌-◌, ◌*◌, ◌&&◌, ◌==◌, nat_lt, nat_eq, if◌then◌else◌, List, [], ◌∷◌, length, take, drop, slice_index, Option, Some, None, codes, fold}
+use Rattle.std.specs.Prelude.{ℕ, zero, suc, ◌+◌, ◌-◌, ◌*◌, ◌&&◌, ◌==◌, nat_lt, nat_eq, if◌then◌else◌, List, [], ◌∷◌, length, take, drop, slice_index, Option, Some, None, codes}
 use Rattle.std.specs.List.{starts_with, prefix_len}
 use Rattle.std.specs.Str.{bytes_eq, byte, continuation_len}
-use Rattle.std.specs.Char.{is_ascii_digit, is_ascii_hexdigit, digit_value, encode_utf8}
-use Rattle.nx_base.specs.Characters.{is_char, is_name_start, is_name_char}
+use Rattle.std.specs.Char.{is_ascii_digit, is_ascii_hexdigit, encode_utf8}
+use Rattle.std.specs.Str.Parse.{digits_value}
+use Rattle.nx_base.specs.CharacterCodes.{char_of_code}
+use Rattle.nx_base.specs.Characters.{is_name_start, is_name_char}
 use Rattle.nx_events.specs.Utf8.{front_char}
 
 -- how many bytes the NameChars at the front have; the first n belong to a character already counted
@@ -34,19 +36,11 @@ reference_len bytes =
     let n = reference_body_len bytes in
     if nat_lt 0 n && slice_index bytes n == byte ";" then n + 1 else 0
 
--- the number that digits write
-unfoldable pub number_of : ℕ → List ℕ → ℕ
-number_of base digits = fold (λ n digit. n * base + digit_value digit) 0 digits
-
--- a code that denotes a Char
-unfoldable pub char_or_none : ℕ → Option ℕ
-char_or_none code = if is_char code then Some code else None
-
 -- the Char that `#x` and hexadecimal digits, or `#` and digits, denote (4.1 [66])
 unfoldable pub numbered : List ℕ → Option ℕ
 numbered body =
-    if starts_with nat_eq body (codes "#x") then char_or_none (number_of 16 (drop 2 body))
-    else (if starts_with nat_eq body (codes "#") then char_or_none (number_of 10 (drop 1 body))
+    if starts_with nat_eq body (codes "#x") then char_of_code (digits_value 16 (drop 2 body))
+    else (if starts_with nat_eq body (codes "#") then char_of_code (digits_value 10 (drop 1 body))
     else None)
 
 -- the character of what stands between `&` and `;`, if it is one of the five entities or denotes a Char (4.6)

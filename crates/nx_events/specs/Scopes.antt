@@ -5,12 +5,9 @@ use Rattle.nx_base.specs.declared.name.Name.{Name}
 use Rattle.nx_events.specs.Names.{prefix_of, local_of}
 use Rattle.nx_events.specs.declared.scope.Binding.{Binding}
 
--- the prefixes `xml` and `xmlns` have these URIs always (section 3)
+-- the prefix `xml` has this URI always (section 3)
 abbrev pub xml_uri : List ℕ
 xml_uri = codes "http://www.w3.org/XML/1998/namespace"
-
-abbrev pub xmlns_uri : List ℕ
-xmlns_uri = codes "http://www.w3.org/2000/xmlns/"
 
 -- the first, or else the second
 abbrev pub or_else : {A : Type 0} → Option A → Option A → Option A

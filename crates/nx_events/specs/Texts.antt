@@ -2,6 +2,7 @@
 use Rattle.std.specs.Prelude.{ℕ, List, Option, Some, None}
 use Rattle.std.specs.List.{AllByRecursion}
 use Rattle.std.specs.Str.{IsUtf8}
+use Rattle.nx_base.specs.Rules.{lexeme_of, IsLexeme}
 use Rattle.nx_base.specs.Tokens.{IsOfKind}
 use Rattle.nx_base.specs.declared.name.Name.{Name}
 use Rattle.nx_base.specs.declared.token.Token.{Token}
@@ -48,9 +49,13 @@ ItemIsText (items.Fault fault) = IsUtf8 fault.detail
 abbrev pub ItemsAreText : List Item → Type 0
 ItemsAreText all = AllByRecursion ItemIsText all
 
--- a token that is UTF-8 and of its kind gives such items, and leads from such a state to such a state
+-- a token that is UTF-8 and of its kind, at the start of a text or elsewhere
+abbrev pub TokenIsText : Token → Type 0
+TokenIsText token = IsUtf8 token.bytes × IsLexeme (lexeme_of token)
+
+-- it gives such items, and leads from such a state to such a state
 abbrev pub TokensGiveText : Type 0
-TokensGiveText = (state : EventState) (token : Token) → IsUtf8 token.bytes → IsOfKind token → StateIsText state →
+TokensGiveText = (state : EventState) (token : Token) → TokenIsText token → StateIsText state →
     ItemsAreText (items_of_token state token) × StateIsText (state_behind state token)
 
 -- the first state is such a state

@@ -1,21 +1,9 @@
-//! Lists of copies, and lists that grow by many items at once, or stay.
+//! Lists that grow by copies of many items at once, or stay.
 
-ghost use Rattle.std.specs.Prelude.{◌≡◌, ◌++◌, ◌∷◌, [], IfOk, OnOk, OnErr};
+ghost use Rattle.std.specs.Prelude.{◌≡◌, ◌++◌, ◌∷◌, [], OnOk, OnErr};
 
 use nx_base::memory::NoMemory;
 use nx_base::sequence::{Sequence, TryCopy};
-use std::alloc::Global;
-
-/// Copies of the items, one by one.
-pub(crate) fn copy_each<T: TryCopy + Drop>(alloc: Global, items: &[T]) -> Result<Vec<T>, NoMemory>
-    ensures { IfOk result (λ copied. copied.items ≡ items.now) }
-{
-    let mut copied = Vec::with_capacity(alloc, items.len())?;
-    for item in items {
-        copied.push(item.copy()?)?;
-    }
-    Ok(copied)
-}
 
 // Adds a copy of an item.
 fn push_copy<T: TryCopy + Drop>(to: &mut Sequence<T>, item: &T) -> Result<(), NoMemory>

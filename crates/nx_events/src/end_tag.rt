@@ -85,29 +85,34 @@ fn close(state: &mut EventState, token: &Token, n: usize)
     state.run = None;
 }
 
+/// Adds the items of an end tag.
 #[tactic(auto, unfolding(crate::specs::Items::end_items))]
-pub(crate) fn take_end(
+pub(crate) fn push_end(
     alloc: Global,
     items: &mut Items,
-    state: &mut EventState,
+    state: &EventState,
     token: &Token,
 ) -> Result<(), NoMemory>
-    requires place { run_back state.old.run ≤ token.now.from }
+    requires place { run_back state.now.run ≤ token.now.from }
     requires room { token.now.from + length token.now.bytes < 2 ^ 64 }
-    ensures items { OnOk result (items.new ≡ items.old ++ end_items state.old token.now) }
-    ensures state { OnOk result (state.new ≡ closed state.old token.now (around_innermost (end_name token.now.bytes) state.old.elements)) }
-    ensures unchanged { OnErr result (state.new ≡ state.old) }
+    ensures { OnOk result (items.new ≡ items.old ++ end_items state.now token.now) }
 {
     let name = end_name(token.bytes.as_slice());
     match around_innermost(name, state.elements.as_slice()) {
-        None => {
-            push_extra(alloc, items, token)?;
-            pass(state, token);
-        }
-        Some(n) => {
-            push_closing(items, state, token, n)?;
-            close(state, token, n);
-        }
+        None => push_extra(alloc, items, token)?,
+        Some(n) => push_closing(items, state, token, n)?,
     }
     Ok(())
+}
+
+/// The state behind an end tag.
+pub(crate) fn end(state: &mut EventState, token: &Token)
+    requires { run_back state.old.run + length token.now.bytes < 2 ^ 64 }
+    ensures { state.new ≡ closed state.old token.now (around_innermost (end_name token.now.bytes) state.old.elements) }
+{
+    let name = end_name(token.bytes.as_slice());
+    match around_innermost(name, state.elements.as_slice()) {
+        None => pass(state, token),
+        Some(n) => close(state, token, n),
+    }
 }

@@ -4,35 +4,7 @@ ghost use Rattle.std.specs.Prelude.{◌≡◌, ◌↔◌, IsTrue};
 
 use crate::scope::Binding;
 use crate::state::{EventState, OpenElement, Run};
-use nx_base::sequence::Bytes;
-
-/// A value that can be compared with another.
-pub(crate) trait Equal {
-    /// Whether the two are equal.
-    fn equals(&self, other: &Self) -> bool
-        ensures { IsTrue result ↔ (self.now ≡ other.now) };
-}
-
-/// Whether two lists have equal items in the same order.
-pub(crate) fn same_each<T: Equal>(a: &[T], b: &[T]) -> bool
-    ensures { IsTrue result ↔ (a.now ≡ b.now) }
-{
-    if a.len() != b.len() {
-        return false;
-    }
-    for (i, item) in a.iter().enumerate() {
-        if !item.equals(&b[i]) {
-            return false;
-        }
-    }
-    true
-}
-
-impl Equal for Bytes {
-    fn equals(&self, other: &Bytes) -> bool {
-        self.as_slice() == other.as_slice()
-    }
-}
+use nx_base::equal::{Equal, same_each};
 
 impl Equal for Binding {
     fn equals(&self, other: &Binding) -> bool {
@@ -49,16 +21,6 @@ impl Equal for OpenElement {
 impl Equal for Run {
     fn equals(&self, other: &Run) -> bool {
         self.len == other.len && self.gap == other.gap && self.string.equals(&other.string)
-    }
-}
-
-impl Equal for Option<Run> {
-    fn equals(&self, other: &Option<Run>) -> bool {
-        match (self, other) {
-            (Some(run), Some(other)) => run.equals(other),
-            (None, None) => true,
-            _ => false,
-        }
     }
 }
 

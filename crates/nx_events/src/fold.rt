@@ -4,7 +4,6 @@ ghost use Rattle.std.specs.Prelude.{◌≡◌, ◌<◌, ◌^◌, ◌++◌, ℕ, 
 ghost use Rattle.nx_base.specs.Tokens.{AreTokensOf, tokens_of};
 ghost use Rattle.nx_events.specs.Items.{items_of, items_of_text};
 
-use crate::append::append;
 use crate::item::Items;
 use crate::reader::{begin, finish, take};
 use nx_base::memory::NoMemory;
@@ -21,9 +20,9 @@ pub fn items_of_tokens(alloc: Global, tokens: &[Token], len: usize) -> Result<It
     let mut items = Items::new(alloc);
     for token in tokens {
         let more = take(alloc, &mut state, token)?;
-        append(&mut items, more.as_slice())?;
+        items.append(more)?;
     }
     let more = finish(alloc, &state, len)?;
-    append(&mut items, more.as_slice())?;
+    items.append(more)?;
     Ok(items)
 }

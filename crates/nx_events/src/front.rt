@@ -66,12 +66,7 @@ pub(crate) fn digits_len(bytes: &[u8]) -> usize
     ensures value { result ≡ prefix_len is_ascii_digit bytes.now }
     ensures bound { result ≤ length bytes.now }
 {
-    for (i, b) in bytes.iter().enumerate() {
-        if !b.is_ascii_digit() {
-            return i;
-        }
-    }
-    bytes.len()
+    bytes.iter().take_while(|b| b.is_ascii_digit()).count()
 }
 
 /// How many hexadecimal digits stand at the front.
@@ -79,12 +74,7 @@ pub(crate) fn hexdigits_len(bytes: &[u8]) -> usize
     ensures value { result ≡ prefix_len is_ascii_hexdigit bytes.now }
     ensures bound { result ≤ length bytes.now }
 {
-    for (i, b) in bytes.iter().enumerate() {
-        if !b.is_ascii_hexdigit() {
-            return i;
-        }
-    }
-    bytes.len()
+    bytes.iter().take_while(|b| b.is_ascii_hexdigit()).count()
 }
 
 /// How many white space characters stand at the front.
@@ -92,12 +82,7 @@ pub(crate) fn spaces_len(bytes: &[u8]) -> usize
     ensures value { result ≡ prefix_len is_space bytes.now }
     ensures bound { result ≤ length bytes.now }
 {
-    for (i, b) in bytes.iter().enumerate() {
-        if !is_space(*b) {
-            return i;
-        }
-    }
-    bytes.len()
+    bytes.iter().take_while(|b| is_space(**b)).count()
 }
 
 /// Where the name at the front of a part of a tag ends.

@@ -2,11 +2,10 @@
 
 ghost use Rattle.std.specs.Prelude.{◌≡◌, IfOk, take};
 
-use crate::append::copy_each;
 use nx_base::fault::{Fault, Span};
 use nx_base::memory::NoMemory;
 use nx_base::name::Name;
-use nx_base::sequence::{Bytes, Sequence, TryCopy, TryCopyAll};
+use nx_base::sequence::{Bytes, Sequence, TryCopy, TryCopyAll, copy_each};
 use std::alloc::Global;
 
 /// What a tag, a text run or the end of a text does to the elements.

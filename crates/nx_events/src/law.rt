@@ -1,5 +1,6 @@
 //! Laws of events and faults, by which the layers above know where they lie and that they move with the text. Nothing here runs.
 
+ghost use Rattle.nx_events.specs.Balance.{DepthIsDifference, EntersAndLeavesBalance};
 ghost use Rattle.nx_events.specs.DeclarationForm.{DeclarationsAreSpelled};
 ghost use Rattle.nx_events.specs.MarkupForm.{CommentsAreJudged, InstructionsAreJudged};
 ghost use Rattle.nx_events.specs.Moves.{ItemsMoveWithTokens, StatesHoldNoPlace, ItemsMoveWithEnd};
@@ -8,6 +9,7 @@ ghost use Rattle.nx_events.specs.OpenTags.{StatesAreKnown};
 ghost use Rattle.nx_events.specs.QualifiedNames.{QNamesAreSpelled};
 ghost use Rattle.nx_events.specs.SpelledTags.{TagsAreSpelled};
 ghost use Rattle.nx_events.specs.StringsRead.{StringsAreRead};
+ghost use Rattle.nx_events.specs.TextRuns.{RunsGiveTheirChars, CharsComeFromRuns, EndTagsEndInnermostFirst};
 ghost use Rattle.nx_events.specs.Texts.{TokensGiveText, FirstStateIsText, EndsGiveText, AllTokensGiveText};
 ghost use Rattle.nx_events.specs.Spans.{ItemsLieInTokens, ItemsLieInText, RunsGrowByTokens};
 
@@ -18,39 +20,50 @@ pub fn tags_are_read()
 {}
 
 /// The items of a token lie between the begin of the run that was pending and the token's end.
-#[tactic(auto, using(crate::proofs::Spans::items_lie_in_tokens))]
+#[tactic(auto, using(crate::specs::ItemsLie::items_lie_in_tokens))]
 pub fn items_lie_in_tokens()
     ensures { ItemsLieInTokens }
 {}
 
 /// Those of the end of a text lie between the begin of that run and the end.
-#[tactic(auto, using(crate::proofs::Spans::items_lie_in_text))]
+#[tactic(auto, using(crate::specs::ItemsLie::items_lie_in_text))]
 pub fn items_lie_in_text()
     ensures { ItemsLieInText }
 {}
 
 /// A token farther on gives the same items, as much farther on.
-#[tactic(auto, using(crate::proofs::Moves::items_move_with_tokens))]
+#[tactic(auto, using(crate::specs::ItemsMove::items_move_with_tokens))]
 pub fn items_move_with_tokens()
     ensures { ItemsMoveWithTokens }
 {}
 
 /// And it leads to the same state.
-#[tactic(auto, using(crate::proofs::Moves::states_hold_no_place))]
+#[tactic(auto, using(crate::specs::ItemsMove::states_hold_no_place))]
 pub fn states_hold_no_place()
     ensures { StatesHoldNoPlace }
 {}
 
 /// A longer text gives the same items at its end, as much farther on.
-#[tactic(auto, using(crate::proofs::Moves::items_move_with_end))]
+#[tactic(auto, using(crate::specs::ItemsMove::items_move_with_end))]
 pub fn items_move_with_end()
     ensures { ItemsMoveWithEnd }
 {}
 
 /// A pending run reaches back farther by a token's length at most.
-#[tactic(auto, using(crate::proofs::Folding::back_grows))]
+#[tactic(auto, using(crate::specs::RunsGrow::back_grows))]
 pub fn runs_grow_by_tokens()
     ensures { RunsGrowByTokens }
+{}
+
+/// What a token enters and leaves is the difference of the numbers of open elements before and behind it.
+#[tactic(auto, using(crate::proofs::Balance::depth_is_difference))]
+pub fn depth_is_difference()
+    ensures { DepthIsDifference }
+{}
+
+/// So all items of a text leave each element that they enter, and none before it was entered.
+pub fn enters_and_leaves_balance()
+    ensures { EntersAndLeavesBalance }
 {}
 
 /// A token that is UTF-8 and of its kind gives names, strings and details that are UTF-8, and leads from a
@@ -95,6 +108,22 @@ pub fn tags_are_spelled()
 /// data, and these make the state: its elements, its scope, its pending run and its flags.
 pub fn states_are_known()
     ensures { StatesAreKnown }
+{}
+
+/// The run that is pending behind tokens gives the strings of its tokens joined, with the span from the first one's start
+/// to the last one's end.
+pub fn runs_give_their_chars()
+    ensures { RunsGiveTheirChars }
+{}
+
+/// Each Chars among the items of a text is that of such a run. In `<a>x<!--y-->z</a>` it is `xz`, from 3 to 13.
+pub fn chars_come_from_runs()
+    ensures { CharsComeFromRuns }
+{}
+
+/// An end tag tells the start tags that are left open inside of its element, the innermost first.
+pub fn end_tags_end_innermost_first()
+    ensures { EndTagsEndInnermostFirst }
 {}
 
 /// A comment is bad exactly where its content has `--`, or `-` at its end.

@@ -11,6 +11,7 @@
 #![tactic(auto)]
 
 mod append;
+pub mod bare;
 mod character_fault;
 mod declaration;
 mod element;

@@ -9,11 +9,12 @@ ghost use Rattle.nx_events.specs.SeenNames.{AreDeclared};
 use crate::flaw::Flaw;
 use crate::item::{Item, Items};
 use crate::qname::is_qname;
-use crate::scope::{Binding, XML_URI, XMLNS_URI};
+use crate::scope::{Binding, XML_URI};
 use crate::seen::Seen;
 use crate::tag::{Attribute, copy_of};
 use nx_base::fault::{Fault, Kind, Span};
 use nx_base::memory::NoMemory;
+use nx_base::name::XMLNS_NAMESPACE;
 use nx_base::sequence::TryCopy;
 use std::alloc::Global;
 
@@ -45,7 +46,7 @@ fn is_bad_binding(prefix: &[u8], uri: &[u8]) -> bool
     let is_xml_uri = uri == XML_URI;
     (is_xml && !is_xml_uri)
         || (!is_xml && is_xml_uri)
-        || uri == XMLNS_URI
+        || uri == XMLNS_NAMESPACE.as_bytes()
         || (!prefix.is_empty() && uri.is_empty())
 }
 

@@ -54,7 +54,7 @@ fn push_doctype(
 
 // Adds the items of a token that isn't a tag, character data or a byte order mark.
 #[tactic(auto, unfolding(crate::specs::Items::comment_items, crate::specs::Items::pi_items, crate::specs::Items::items_of_token))]
-fn push_other(
+pub(crate) fn push_other(
     alloc: Global,
     items: &mut Items,
     state: &EventState,
@@ -89,21 +89,11 @@ fn is_doctype(kind: TokenKind) -> bool
     matches!(kind, TokenKind::Doctype)
 }
 
-pub(crate) fn take_other(
-    alloc: Global,
-    items: &mut Items,
-    state: &mut EventState,
-    token: &Token,
-) -> Result<(), NoMemory>
-    requires kind { IsOther token.now.kind }
-    requires place { run_back state.old.run ≤ token.now.from }
-    requires room { token.now.from + length token.now.bytes < 2 ^ 64 }
-    ensures items { OnOk result (items.new ≡ items.old ++ items_of_token state.old token.now) }
-    ensures state { OnOk result (state.new ≡ passed_other state.old token.now) }
-    ensures unchanged { OnErr result (state.new ≡ state.old) }
+/// The state behind such a token.
+pub(crate) fn pass_other(state: &mut EventState, token: &Token)
+    requires { run_back state.old.run + length token.now.bytes < 2 ^ 64 }
+    ensures { state.new ≡ passed_other state.old token.now }
 {
-    push_other(alloc, items, state, token)?;
     pass(state, token);
     state.doctype = state.doctype || is_doctype(token.kind);
-    Ok(())
 }

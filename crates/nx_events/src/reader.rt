@@ -1,17 +1,20 @@
 //! Tokens as events and faults, one after another.
 
-ghost use Rattle.std.specs.Prelude.{◌≡◌, ◌+◌, ◌<◌, ◌≤◌, ◌^◌, ◌++◌, length, is_some, IfOk, OnOk, OnErr};
+ghost use Rattle.std.specs.Prelude.{◌≡◌, ◌+◌, ◌<◌, ◌≤◌, ◌^◌, ◌++◌, [], length, is_some, IfOk, OnOk, OnErr};
 ghost use Rattle.nx_events.specs.Runs.{run_back};
-ghost use Rattle.nx_events.specs.Items.{first_state, items_of_token, state_behind, items_at_end};
+ghost use Rattle.nx_events.specs.Items.{first_state, items_of_token, start_items, own_bindings, declared_in, state_behind, items_at_end};
+ghost use Rattle.nx_events.specs.Texts.{TokenIsText, StateIsText, ItemsAreText};
 
 use crate::character_fault::push_bare;
-use crate::end_tag::take_end;
+use crate::end_tag::{end, push_end};
 use crate::item::Items;
 use crate::nesting::push_all_left_out;
-use crate::other_token::take_other;
-use crate::start_tag::{take_empty, take_start};
+use crate::other_token::{pass_other, push_other};
+use crate::reading::Reading;
+use crate::scope::Binding;
+use crate::start_tag::{empty, open, push_empty, push_start};
 use crate::state::{EventState, pass_run, push_run};
-use crate::text_token::{take_cdata, take_text};
+use crate::text_token::{cdata_content, join, push_cdata, push_text};
 use nx_base::fault::{Kind, Span};
 use nx_base::memory::NoMemory;
 use nx_base::sequence::{Sequence, TryCopy};
@@ -32,14 +35,164 @@ pub fn begin(alloc: Global) -> Result<EventState, NoMemory>
     })
 }
 
-/// The items of one more token. Where it is refused, the state is as before.
-pub fn take(alloc: Global, state: &mut EventState, token: &Token) -> Result<Items, NoMemory>
+/// What a token declares for the tokens behind it, as `read` answers it to `pass_token`.
+#[derive(Drop)]
+pub struct Declared {
+    pub(crate) own: Vec<Binding>,
+}
+
+// What a token declares that isn't a start tag.
+fn nothing_declared(alloc: Global) -> Declared
+    ensures { result.own.items ≡ [] }
+{
+    Declared {
+        own: Vec::new(alloc),
+    }
+}
+
+// Adds the items of a start tag.
+fn read_start(
+    alloc: Global,
+    items: &mut Items,
+    state: &EventState,
+    token: &Token,
+) -> Result<Declared, NoMemory>
+    requires place { run_back state.now.run ≤ token.now.from }
+    requires room { token.now.from + length token.now.bytes < 2 ^ 64 }
+    ensures items { OnOk result (items.new ≡ items.old ++ start_items state.now token.now) }
+    ensures declared { IfOk result (λ declared. declared.own.items ≡ own_bindings token.now) }
+{
+    let own = push_start(alloc, items, state, token)?;
+    Ok(Declared { own })
+}
+
+// Adds the items of one more token to a list.
+#[tactic(auto, unfolding(crate::specs::Items::items_of_token))]
+fn read_by_kind(
+    alloc: Global,
+    items: &mut Items,
+    state: &EventState,
+    token: &Token,
+) -> Result<Declared, NoMemory>
+    requires place { run_back state.now.run ≤ token.now.from }
+    requires room { token.now.from + length token.now.bytes < 2 ^ 64 }
+    ensures items { OnOk result (items.new ≡ items.old ++ items_of_token state.now token.now) }
+    ensures declared { IfOk result (λ declared. declared.own.items ≡ declared_in token.now) }
+{
+    match token.kind {
+        TokenKind::Start => return read_start(alloc, items, state, token),
+        TokenKind::Bom => {}
+        TokenKind::Text => push_text(alloc, items, state, token)?,
+        TokenKind::Cdata => push_cdata(alloc, items, state, token)?,
+        TokenKind::Empty => push_empty(alloc, items, state, token)?,
+        TokenKind::End => push_end(alloc, items, state, token)?,
+        TokenKind::Decl => push_other(alloc, items, state, token)?,
+        TokenKind::Doctype => push_other(alloc, items, state, token)?,
+        TokenKind::Comment => push_other(alloc, items, state, token)?,
+        TokenKind::Pi => push_other(alloc, items, state, token)?,
+        TokenKind::Bad => push_other(alloc, items, state, token)?,
+        TokenKind::Unclosed => push_other(alloc, items, state, token)?,
+    }
+    Ok(nothing_declared(alloc))
+}
+
+/// Adds the items of one more token to a list, and answers what the token declares. The state stays. Where it is
+/// refused, the list may have some of the items.
+pub fn read(
+    alloc: Global,
+    items: &mut Items,
+    state: &EventState,
+    token: &Token,
+) -> Result<Declared, NoMemory>
     // The pending run begins at a place of the text, and the token ends at one.
+    requires place { run_back state.now.run ≤ token.now.from }
+    requires room { token.now.from + length token.now.bytes < 2 ^ 64 }
+    ensures items { OnOk result (items.new ≡ items.old ++ items_of_token state.now token.now) }
+    ensures declared { IfOk result (λ declared. declared.own.items ≡ declared_in token.now) }
+    // Names, strings and details are UTF-8 where the token and the state are.
+    ensures text { TokenIsText token.now → StateIsText state.now → ItemsAreText items.old → OnOk result (ItemsAreText items.new) }
+{
+    let declared = read_by_kind(alloc, items, state, token)?;
+    Ok(declared)
+}
+
+// The state behind a token that declares this, by its kind.
+#[tactic(auto, unfolding(crate::specs::Items::state_behind))]
+fn pass_by_kind(
+    alloc: Global,
+    state: &mut EventState,
+    token: &Token,
+    declared: &Declared,
+) -> Result<(), NoMemory>
+    requires place { run_back state.old.run ≤ token.now.from }
+    requires room { token.now.from + length token.now.bytes < 2 ^ 64 }
+    requires declared { declared.now.own.items ≡ declared_in token.now }
+    ensures state { OnOk result (state.new ≡ state_behind state.old token.now) }
+    ensures unchanged { OnErr result (state.new ≡ state.old) }
+{
+    let bytes = token.bytes.as_slice();
+    match token.kind {
+        TokenKind::Bom => pass_run(&mut state.run, token.bytes.len()),
+        TokenKind::Text => join(alloc, state, token, Reading::Text, bytes)?,
+        TokenKind::Cdata => join(alloc, state, token, Reading::Plain, cdata_content(bytes))?,
+        TokenKind::Start => open(alloc, state, token, declared.own.as_slice())?,
+        TokenKind::Empty => empty(state),
+        TokenKind::End => end(state, token),
+        TokenKind::Decl => pass_other(state, token),
+        TokenKind::Doctype => pass_other(state, token),
+        TokenKind::Comment => pass_other(state, token),
+        TokenKind::Pi => pass_other(state, token),
+        TokenKind::Bad => pass_other(state, token),
+        TokenKind::Unclosed => pass_other(state, token),
+    }
+    Ok(())
+}
+
+/// Brings the state behind a token that declares this, as `read` answered it. Where it is refused, the state is as
+/// before.
+pub fn pass_token(
+    alloc: Global,
+    state: &mut EventState,
+    token: &Token,
+    declared: &Declared,
+) -> Result<(), NoMemory>
+    requires place { run_back state.old.run ≤ token.now.from }
+    requires room { token.now.from + length token.now.bytes < 2 ^ 64 }
+    requires declared { declared.now.own.items ≡ declared_in token.now }
+    ensures state { OnOk result (state.new ≡ state_behind state.old token.now) }
+    ensures unchanged { OnErr result (state.new ≡ state.old) }
+    ensures text { TokenIsText token.now → StateIsText state.old → StateIsText state.new }
+{
+    pass_by_kind(alloc, state, token, declared)?;
+    Ok(())
+}
+
+// Adds the items of one more token to a list, and passes it.
+fn take_into(
+    alloc: Global,
+    items: &mut Items,
+    state: &mut EventState,
+    token: &Token,
+) -> Result<(), NoMemory>
+    requires place { run_back state.old.run ≤ token.now.from }
+    requires room { token.now.from + length token.now.bytes < 2 ^ 64 }
+    ensures items { OnOk result (items.new ≡ items.old ++ items_of_token state.old token.now) }
+    ensures state { OnOk result (state.new ≡ state_behind state.old token.now) }
+    ensures unchanged { OnErr result (state.new ≡ state.old) }
+{
+    let declared = read(alloc, items, state, token)?;
+    pass_token(alloc, state, token, &declared)
+}
+
+/// The items of one more token: both halves. Where it is refused, the state is as before.
+pub fn take(alloc: Global, state: &mut EventState, token: &Token) -> Result<Items, NoMemory>
     requires place { run_back state.old.run ≤ token.now.from }
     requires room { token.now.from + length token.now.bytes < 2 ^ 64 }
     ensures items { IfOk result (λ items. items ≡ items_of_token state.old token.now) }
     ensures state { OnOk result (state.new ≡ state_behind state.old token.now) }
     ensures unchanged { OnErr result (state.new ≡ state.old) }
+    ensures text { TokenIsText token.now → StateIsText state.old → IfOk result ItemsAreText }
+    ensures state_text { TokenIsText token.now → StateIsText state.old → StateIsText state.new }
 {
     let mut items = Items::new(alloc);
     take_into(alloc, &mut items, state, token)?;
@@ -58,6 +211,8 @@ pub fn take_again(
     ensures items { IfOk result (λ items. items ≡ items_of_token state.old token.now) }
     ensures state { OnOk result (state.new ≡ state_behind state.old token.now) }
     ensures unchanged { OnErr result (state.new ≡ state.old) }
+    ensures text { TokenIsText token.now → StateIsText state.old → IfOk result ItemsAreText }
+    ensures state_text { TokenIsText token.now → StateIsText state.old → StateIsText state.new }
 {
     let mut items = used;
     items.cut(0, items.len());
@@ -65,41 +220,18 @@ pub fn take_again(
     Ok(items)
 }
 
-// Adds the items of one more token to a list.
-#[tactic(auto, unfolding(crate::specs::Items::items_of_token, crate::specs::Items::state_behind))]
-fn take_into(
-    alloc: Global,
-    items: &mut Items,
-    state: &mut EventState,
-    token: &Token,
-) -> Result<(), NoMemory>
-    // The pending run begins at a place of the text, and the token ends at one.
-    requires place { run_back state.old.run ≤ token.now.from }
-    requires room { token.now.from + length token.now.bytes < 2 ^ 64 }
-    ensures items { OnOk result (items.new ≡ items.old ++ items_of_token state.old token.now) }
-    ensures state { OnOk result (state.new ≡ state_behind state.old token.now) }
-    ensures unchanged { OnErr result (state.new ≡ state.old) }
+/// The items of the end of a text of `len` bytes.
+pub fn finish(alloc: Global, state: &EventState, len: usize) -> Result<Items, NoMemory>
+    requires { run_back state.now.run ≤ len }
+    ensures items { IfOk result (λ items. items ≡ items_at_end state.now len) }
+    ensures text { StateIsText state.now → IfOk result ItemsAreText }
 {
-    match token.kind {
-        TokenKind::Bom => pass_run(&mut state.run, token.bytes.len()),
-        TokenKind::Text => take_text(alloc, items, state, token)?,
-        TokenKind::Cdata => take_cdata(alloc, items, state, token)?,
-        TokenKind::Start => take_start(alloc, items, state, token)?,
-        TokenKind::Empty => take_empty(alloc, items, state, token)?,
-        TokenKind::End => take_end(alloc, items, state, token)?,
-        TokenKind::Decl => take_other(alloc, items, state, token)?,
-        TokenKind::Doctype => take_other(alloc, items, state, token)?,
-        TokenKind::Comment => take_other(alloc, items, state, token)?,
-        TokenKind::Pi => take_other(alloc, items, state, token)?,
-        TokenKind::Bad => take_other(alloc, items, state, token)?,
-        TokenKind::Unclosed => take_other(alloc, items, state, token)?,
-    }
-    Ok(())
+    let items = items_at_end(alloc, state, len)?;
+    Ok(items)
 }
 
-/// The items of the end of a text of `len` bytes.
 #[tactic(auto, unfolding(crate::specs::Items::items_at_end))]
-pub fn finish(alloc: Global, state: &EventState, len: usize) -> Result<Items, NoMemory>
+fn items_at_end(alloc: Global, state: &EventState, len: usize) -> Result<Items, NoMemory>
     requires { run_back state.now.run ≤ len }
     ensures { IfOk result (λ items. items ≡ items_at_end state.now len) }
 {

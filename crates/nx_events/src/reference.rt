@@ -1,12 +1,13 @@
 //! References: `&`, a name or the number of a character, and `;` (XML 1.0, 4.1 and 4.6).
 
 ghost use Rattle.std.specs.Prelude.{◌≡◌, ◌+◌, ◌-◌, ◌*◌, ◌<◌, ◌≤◌, [], ◌++◌, length, take, drop, min, ◌^◌, OnOk};
-ghost use Rattle.std.specs.Char.{digit_value};
-ghost use Rattle.nx_events.specs.References.{name_chars_len, name_len, behind_mark, reference_body_len, reference_len, number_of, char_or_none, numbered, character_named, referenced, spelled};
+ghost use Rattle.std.specs.Str.Parse.{digits_value};
+ghost use Rattle.nx_base.specs.CharacterCodes.{char_of_code};
+ghost use Rattle.nx_events.specs.References.{name_chars_len, name_len, behind_mark, reference_body_len, reference_len, numbered, character_named, referenced, spelled};
 
 use crate::front::{digits_len, hexdigits_len};
 use crate::utf8::{continuation_len, front_char, is_name_char, is_name_start};
-use nx_base::character;
+use nx_base::character_code::{char_of_code, code_of_digits};
 use nx_base::memory::NoMemory;
 
 // How many bytes the name characters at the front have.
@@ -73,57 +74,13 @@ pub(crate) fn reference_len(bytes: &[u8]) -> usize
     }
 }
 
-// The value of a digit or a letter, and 36 for any other byte.
-fn digit_value(b: u8) -> u32
-    ensures { result ≡ digit_value b }
-{
-    if b < 48 {
-        36
-    } else if b < 58 {
-        u32::from(b) - 48
-    } else if b < 65 {
-        36
-    } else if b < 91 {
-        u32::from(b) - 55
-    } else if b < 97 {
-        36
-    } else if b < 123 {
-        u32::from(b) - 87
-    } else {
-        36
-    }
-}
-
-// The number that digits write, or the first one behind the last character where it is greater.
-#[tactic(auto, unfolding(crate::specs::References::number_of))]
-fn number(digits: &[u8], base: u32) -> u32
-    requires { base ≤ 16 }
-    ensures { result ≡ min (number_of base digits.now) 0x11_0000 }
-{
-    let mut n: u32 = 0;
-    for digit in digits {
-        n = (n * base + digit_value(*digit)).min(0x11_0000);
-    }
-    n
-}
-
-// The character of the code, where XML allows it.
-#[tactic(auto, unfolding(nx_base::specs::Characters::is_char, crate::specs::References::char_or_none))]
-fn char_or_none(code: u32) -> Option<char>
-    ensures { result ≡ char_or_none code }
-{
-    match char::from_u32(code) {
-        Some(c) => { if character::is_char(c) { Some(c) } else { None } }
-        None => None,
-    }
-}
-
 // The character of the number that digits write.
 fn denoted(digits: &[u8], base: u32) -> Option<char>
-    requires { base ≤ 16 }
-    ensures { result ≡ char_or_none (number_of base digits.now) }
+    requires some { 0 < base }
+    requires small { base ≤ 16 }
+    ensures { result ≡ char_of_code (digits_value base digits.now) }
 {
-    char_or_none(number(digits, base))
+    char_of_code(code_of_digits(digits, base))
 }
 
 // The character of what stands between `&` and `;`.

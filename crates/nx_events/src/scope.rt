@@ -3,12 +3,11 @@
 ghost use Rattle.std.specs.Prelude.{◌≡◌, ◌++◌, IfOk, option_copied};
 ghost use Rattle.nx_events.specs.Scopes.{last_uri, bound_uri, element_uri, attribute_uri, named_by, expand_element, expand_attribute};
 
-use crate::append::copy_each;
 use crate::qname::{local_of, prefix_of};
 use crate::tag::copy_of;
 use nx_base::memory::NoMemory;
 use nx_base::name::Name;
-use nx_base::sequence::{Bytes, TryCopy, TryCopyAll};
+use nx_base::sequence::{Bytes, TryCopy, TryCopyAll, copy_each};
 use std::alloc::Global;
 
 /// A prefix, empty for the default namespace, and the URI that it is bound to.
@@ -35,9 +34,6 @@ impl TryCopyAll for Binding {
 
 /// The URI of the prefix `xml`.
 pub(crate) const XML_URI: &[u8] = b"http://www.w3.org/XML/1998/namespace";
-
-/// The URI of the prefix `xmlns`.
-pub(crate) const XMLNS_URI: &[u8] = b"http://www.w3.org/2000/xmlns/";
 
 // The URI of the last pair of the prefix.
 fn last_uri<'a>(bindings: &'a [Binding], prefix: &[u8]) -> Option<&'a [u8]>

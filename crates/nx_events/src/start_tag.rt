@@ -67,7 +67,7 @@ fn push_tag_element(
 
 // Adds the items of a start tag, and answers the pairs that it declares.
 #[tactic(auto, unfolding(crate::specs::Items::start_items))]
-fn push_start(
+pub(crate) fn push_start(
     alloc: Global,
     items: &mut Items,
     state: &EventState,
@@ -94,7 +94,7 @@ fn push_start(
 }
 
 // The state inside of an element that declares these pairs.
-fn open(
+pub(crate) fn open(
     alloc: Global,
     state: &mut EventState,
     token: &Token,
@@ -120,40 +120,28 @@ fn open(
     Ok(())
 }
 
-pub(crate) fn take_start(
-    alloc: Global,
-    items: &mut Items,
-    state: &mut EventState,
-    token: &Token,
-) -> Result<(), NoMemory>
-    requires place { run_back state.old.run ≤ token.now.from }
-    requires room { token.now.from + length token.now.bytes < 2 ^ 64 }
-    ensures items { OnOk result (items.new ≡ items.old ++ start_items state.old token.now) }
-    ensures state { OnOk result (state.new ≡ opened state.old token.now) }
-    ensures unchanged { OnErr result (state.new ≡ state.old) }
-{
-    let own = push_start(alloc, items, state, token)?;
-    open(alloc, state, token, own.as_slice())?;
-    Ok(())
-}
-
+/// Adds the items of an empty-element tag.
 #[tactic(auto, unfolding(crate::specs::Items::empty_items))]
-pub(crate) fn take_empty(
+pub(crate) fn push_empty(
     alloc: Global,
     items: &mut Items,
-    state: &mut EventState,
+    state: &EventState,
     token: &Token,
 ) -> Result<(), NoMemory>
-    requires place { run_back state.old.run ≤ token.now.from }
+    requires place { run_back state.now.run ≤ token.now.from }
     requires room { token.now.from + length token.now.bytes < 2 ^ 64 }
-    ensures items { OnOk result (items.new ≡ items.old ++ empty_items state.old token.now) }
-    ensures state { OnOk result (state.new ≡ emptied state.old) }
-    ensures unchanged { OnErr result (state.new ≡ state.old) }
+    ensures { OnOk result (items.new ≡ items.old ++ empty_items state.now token.now) }
 {
     push_start(alloc, items, state, token)?;
     items.push(Item::Event(Event::Leave, token_span(token)))?;
+    Ok(())
+}
+
+/// The state behind an empty-element tag.
+pub(crate) fn empty(state: &mut EventState)
+    ensures { state.new ≡ emptied state.old }
+{
     state.came = true;
     state.started = true;
     state.run = None;
-    Ok(())
 }

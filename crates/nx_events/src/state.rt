@@ -3,12 +3,11 @@
 ghost use Rattle.std.specs.Prelude.{◌≡◌, ◌+◌, ◌<◌, ◌≤◌, ◌^◌, ◌++◌, length, IfOk, OnOk, OnErr};
 ghost use Rattle.nx_events.specs.Runs.{run_passed, run_joined, run_back, run_items};
 
-use crate::append::{append, copy_each};
 use crate::item::{Event, Item, Items};
 use crate::scope::Binding;
 use nx_base::fault::Span;
 use nx_base::memory::NoMemory;
-use nx_base::sequence::{Bytes, Sequence, TryCopy, TryCopyAll};
+use nx_base::sequence::{Bytes, Sequence, TryCopy, TryCopyAll, copy_each};
 use std::alloc::Global;
 
 /// An open element.
@@ -99,7 +98,7 @@ pub(crate) fn join_run(run: &mut Option<Run>, string: Bytes, n: usize) -> Result
             });
         }
         Some(run) => {
-            append(&mut run.string, string.as_slice())?;
+            run.string.append(string)?;
             run.len = run.gap + run.len + n;
             run.gap = 0;
         }

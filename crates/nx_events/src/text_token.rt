@@ -18,7 +18,7 @@ use nx_base::token::Token;
 use std::alloc::Global;
 
 // The content of a CDATA section.
-fn cdata_content(bytes: &[u8]) -> &[u8]
+pub(crate) fn cdata_content(bytes: &[u8]) -> &[u8]
     ensures { result.now ≡ cdata_content bytes.now }
 {
     if bytes.len() < 12 {
@@ -28,7 +28,7 @@ fn cdata_content(bytes: &[u8]) -> &[u8]
 }
 
 // The state behind character data with this content.
-fn join(
+pub(crate) fn join(
     alloc: Global,
     state: &mut EventState,
     token: &Token,
@@ -49,21 +49,18 @@ fn join(
     Ok(())
 }
 
+/// Adds the items of character data.
 #[tactic(auto, unfolding(crate::specs::Items::text_items))]
-pub(crate) fn take_text(
+pub(crate) fn push_text(
     alloc: Global,
     items: &mut Items,
-    state: &mut EventState,
+    state: &EventState,
     token: &Token,
 ) -> Result<(), NoMemory>
-    requires place { run_back state.old.run ≤ token.now.from }
     requires room { token.now.from + length token.now.bytes < 2 ^ 64 }
-    ensures items { OnOk result (items.new ≡ items.old ++ text_items state.old token.now) }
-    ensures state { OnOk result (state.new ≡ joined state.old token.now (string_of Reading.Text token.now.bytes)) }
-    ensures unchanged { OnErr result (state.new ≡ state.old) }
+    ensures { OnOk result (items.new ≡ items.old ++ text_items state.now token.now) }
 {
-    let bytes = token.bytes.as_slice();
-    let outside = !is_inside(state) && !are_spaces(bytes);
+    let outside = !is_inside(state) && !are_spaces(token.bytes.as_slice());
     push_characters(
         alloc,
         items,
@@ -72,24 +69,20 @@ pub(crate) fn take_text(
         Kind::TextOutside,
         token,
     )?;
-    join(alloc, state, token, Reading::Text, bytes)?;
     Ok(())
 }
 
+/// Adds the items of a CDATA section.
 #[tactic(auto, unfolding(crate::specs::Items::cdata_items))]
-pub(crate) fn take_cdata(
+pub(crate) fn push_cdata(
     alloc: Global,
     items: &mut Items,
-    state: &mut EventState,
+    state: &EventState,
     token: &Token,
 ) -> Result<(), NoMemory>
-    requires place { run_back state.old.run ≤ token.now.from }
     requires room { token.now.from + length token.now.bytes < 2 ^ 64 }
-    ensures items { OnOk result (items.new ≡ items.old ++ cdata_items state.old token.now) }
-    ensures state { OnOk result (state.new ≡ joined state.old token.now (string_of Reading.Plain (cdata_content token.now.bytes))) }
-    ensures unchanged { OnErr result (state.new ≡ state.old) }
+    ensures { OnOk result (items.new ≡ items.old ++ cdata_items state.now token.now) }
 {
-    let bytes = token.bytes.as_slice();
     let outside = !is_inside(state);
     push_characters(
         alloc,
@@ -99,6 +92,5 @@ pub(crate) fn take_cdata(
         Kind::TextOutside,
         token,
     )?;
-    join(alloc, state, token, Reading::Plain, cdata_content(bytes))?;
     Ok(())
 }

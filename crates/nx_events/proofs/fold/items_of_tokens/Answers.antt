@@ -26,8 +26,8 @@ loop-token-preserved c =
     let next = next_ready c.args.len ready.0 c.loop-token.state tokens i c.token-item.result (omega arith) c.token-item.is ready.1 in
     let P : EventState → Type 0 = λ state. (at : ℕ) × Ready c.args.len at state (drop (i + 1) tokens) in (
       subst P (sym c.in_ok-more.ensures.state) next.more,
-      fold_more c.args.len c.loop-token.state c.take.new.state tokens i c.token-item.result c.as_slice.result.now c.loop-token.items c.append.new.to _ (omega arith) c.token-item.is
-          (c.as_slice.ensures ∙ c.in_ok-more.ensures.items) c.in_ok-more.ensures.state c.in_ok-append.ensures.ok c.loop-token.invariant.1,
+      fold_more c.args.len c.loop-token.state c.take.new.state tokens i c.token-item.result c.in_ok-more.more c.loop-token.items c.append.new.self _ (omega arith) c.token-item.is
+          c.in_ok-more.ensures.items c.in_ok-more.ensures.state c.in_ok-append.ensures.ok c.loop-token.invariant.1,
     )
 
 pub finish-requires : goal.finish-requires
@@ -37,8 +37,8 @@ finish-requires c =
 
 pub returns-clause-items : goal.returns-clause-items
 returns-clause-items c =
-    fold_whole c.args.len c.loop-token.state c.args.tokens.now c.loop-token.token-index c.as_slice-2.result.now c.loop-token.items c.append-2.new.to _ (omega arith)
-    (c.as_slice-2.ensures ∙ c.in_ok-more-2.ensures) c.in_ok-append-2.ensures.ok c.loop-token.invariant.1
+    fold_whole c.args.len c.loop-token.state c.args.tokens.now c.loop-token.token-index c.in_ok-more-2.more c.loop-token.items c.append-2.new.self _ (omega arith)
+    c.in_ok-more-2.ensures.items c.in_ok-append-2.ensures.ok c.loop-token.invariant.1
 
 pub returns-clause-text : goal.returns-clause-text
 returns-clause-text c text same len =

@@ -1,7 +1,7 @@
 use Rattle.std.proofs.Common.{ap, ◌∙◌}
-use Rattle.nx_events.specs.References.{char_or_none}
+use Rattle.nx_base.specs.CharacterCodes.{char_of_code}
 use Rattle.nx_events.proofs.References.{capped}
 use Rattle.nx_events.proofs.reference.denoted.Goals as goal
 
 pub returns : goal.returns
-returns c = c.char_or_none.ensures ∙ ap char_or_none c.number.ensures ∙ capped _
+returns c = c.char_of_code.ensures ∙ ap char_of_code c.code_of_digits.ensures ∙ capped _

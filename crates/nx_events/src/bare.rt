@@ -1,0 +1,120 @@
+//! The machine without a schema: the state of events alone, whose faults are those of markup, nesting and namespaces.
+
+ghost use Rattle.std.specs.Prelude.{◌≡◌, ◌++◌, OnOk, OnErr};
+ghost use Rattle.nx_events.specs.Among.{fault_in, faults_among};
+
+use crate::item::{Item, Items};
+use crate::state::EventState;
+use crate::{equal, reader};
+use nx_base::fault::Faults;
+use nx_base::machine::Machine;
+use nx_base::memory::NoMemory;
+use nx_base::sequence::TryCopy;
+use nx_base::token::Token;
+use std::alloc::Global;
+
+/// No schema. A state is one of events, and means itself.
+#[derive(Drop)]
+pub struct Bare;
+
+// Adds the item where it is a fault.
+fn push_fault(faults: &mut Faults, item: &Item) -> Result<(), NoMemory>
+    ensures ok { OnOk result (faults.new ≡ faults.old ++ fault_in item.now) }
+    ensures err { OnErr result (faults.new ≡ faults.old) }
+{
+    match item {
+        Item::Event(_, _) => Ok(()),
+        Item::Fault(fault) => faults.push(fault.copy()?),
+    }
+}
+
+/// Adds those of the items that are faults, all or none.
+pub fn push_faults(faults: &mut Faults, items: &[Item]) -> Result<(), NoMemory>
+    ensures ok { OnOk result (faults.new ≡ faults.old ++ faults_among items.now) }
+    ensures err { OnErr result (faults.new ≡ faults.old) }
+{
+    let len = faults.len();
+    for item in items {
+        if push_fault(faults, item).is_err() {
+            let grown = faults.len();
+            faults.cut(len, grown);
+            return Err(NoMemory);
+        }
+    }
+    Ok(())
+}
+
+impl Machine for Bare {
+    type State = EventState;
+
+    ghost use Rattle.nx_events.specs.declared.state.EventState as state;
+    ghost use Rattle.nx_events.specs.BareRules.{bare_rules};
+    ghost use Rattle.nx_events.specs.BareLaws.{bare_later_laws, bare_rule_laws};
+
+    ghost Meaning = { state.EventState };
+
+    ghost later = { λ _ _. Unit {0} };
+
+    ghost is_state = { λ _ _. Unit {0} };
+
+    ghost means = { λ _ s. s };
+
+    ghost rules = { λ _. bare_rules };
+
+    ghost laws = { bare_later_laws };
+
+    ghost rule_laws = { λ _. bare_rule_laws };
+
+    fn start(&mut self, alloc: Global) -> Result<EventState, NoMemory> {
+        Ok(reader::begin(alloc)?)
+    }
+
+    fn step(
+        &mut self,
+        alloc: Global,
+        state: &mut EventState,
+        token: &Token,
+        faults: &mut Faults,
+    ) -> Result<(), NoMemory> {
+        let mut items = Items::new(alloc);
+        let declared = reader::read(alloc, &mut items, state, token)?;
+        let len = faults.len();
+        push_faults(faults, items.as_slice())?;
+        match reader::pass_token(alloc, state, token, &declared) {
+            Ok(()) => Ok(()),
+            Err(error) => {
+                let grown = faults.len();
+                faults.cut(len, grown);
+                Err(error)
+            }
+        }
+    }
+
+    fn at_end(
+        &mut self,
+        alloc: Global,
+        state: &EventState,
+        len: usize,
+        faults: &mut Faults,
+    ) -> Result<(), NoMemory> {
+        let items = reader::finish(alloc, state, len)?;
+        push_faults(faults, items.as_slice())?;
+        Ok(())
+    }
+
+    fn may_mark(&self, state: &EventState) -> bool {
+        !reader::pending(state)
+    }
+
+    fn depth(&self, state: &EventState) -> usize {
+        reader::depth(state)
+    }
+
+    fn same(&self, a: &EventState, b: &EventState) -> bool {
+        equal::same(a, b)
+    }
+
+    fn copy(&self, alloc: Global, state: &EventState) -> Result<EventState, NoMemory> {
+        Ok(reader::copy(alloc, state)?)
+    }
+}
