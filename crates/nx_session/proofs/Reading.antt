@@ -18,7 +18,7 @@ use Rattle.nx_events.specs.Texts.{ItemsAreText}
 use Rattle.nx_events.specs.declared.item.Item.{Item}
 use Rattle.nx_events.specs.declared.item.Item.TheVariants as items
 use Rattle.nx_events.specs.declared.state.EventState.{EventState}
-use Rattle.nx_events.specs.RunsGrow.{back_grows}
+use Rattle.nx_events.proofs.Folding.{back_grows}
 use Rattle.nx_events.proofs.TextItems.{all_text}
 use Rattle.nx_events.specs.Among.{faults_among}
 use Rattle.nx_session.specs.Faults.{faults_of, FaultsAreText, CutsTokens}
