@@ -6,7 +6,7 @@ use Rattle.nx_host.specs.declared.files.FileFault.{FileFault}
 use Rattle.nx_host.specs.declared.files.FileFault.TheVariants as file_fault
 use Rattle.nx_script.specs.Replies.{refusal_of_files}
 use Rattle.nx_script.specs.declared.reply.Reply.{Reply}
-use Rattle.nx_script.specs.declared.reply.Reply.TheVariants.{Silent, Printed, Errors, Refused}
+use Rattle.nx_script.specs.declared.reply.Reply.TheVariants.{Silent, Printed, Errors, Frontier, Taken, Refused}
 use Rattle.nx_script.specs.declared.reply.Refusal.TheVariants.{BadCommand, BadPosition, BadUri, Absent, NotUtf8, Failed, NoMemory}
 use Rattle.nx_session.specs.Editor.{EditorState, FilesState, files_state, work_folder}
 use Rattle.nx_session.specs.Documents.{Finds, OpensBytes, OpenStep, SaveStep}
@@ -21,6 +21,8 @@ opens uri_text uri bytes old new (Refused (NotUtf8 named at)) before after found
 opens uri_text uri bytes old new (Refused NoMemory) before after found same h = (h, same)
 opens uri_text uri bytes old new (Printed text) before after found same h = absurd h
 opens uri_text uri bytes old new (Errors faults) before after found same h = absurd h
+opens uri_text uri bytes old new (Frontier at len) before after found same h = absurd h
+opens uri_text uri bytes old new (Taken taken) before after found same h = absurd h
 opens uri_text uri bytes old new (Refused BadCommand) before after found same h = absurd h
 opens uri_text uri bytes old new (Refused (BadPosition at len)) before after found same h = absurd h
 opens uri_text uri bytes old new (Refused BadUri) before after found same h = absurd h

@@ -15,7 +15,7 @@ Finds uri_text uri files found = Joins work_folder uri_text uri × Holds files.m
 
 -- what becomes of an editor that opens these bytes under this URI
 abbrev pub OpensBytes : List ℕ → List ℕ → EditorState → Reply → EditorState → Type 0
-OpensBytes uri bytes old Silent new = IsUtf8 bytes × (new ≡ opened uri bytes)
+OpensBytes uri bytes old Silent new = IsUtf8 bytes × (new ≡ opened old uri bytes)
 OpensBytes uri bytes old (Refused (NotUtf8 named at)) new =
     (named ≡ uri) × ¬ (IsUtf8 bytes) × StopsBeingText bytes at × (new ≡ old)
 OpensBytes uri bytes old (Refused NoMemory) new = new ≡ old
@@ -24,7 +24,7 @@ OpensBytes uri bytes old reply new = ⊥
 -- the text is the file's from now on, the caret stands before it, and the document's URI is this one
 abbrev pub OpenStep : List ℕ → EditorState → FilesState → Reply → EditorState → FilesState → Type 0
 OpenStep uri_text old before Silent new after =
-    (uri text : List ℕ) × Finds uri_text uri before (Some text) × IsUtf8 text × (new ≡ opened uri text) × (after ≡ before)
+    (uri text : List ℕ) × Finds uri_text uri before (Some text) × IsUtf8 text × (new ≡ opened old uri text) × (after ≡ before)
 OpenStep uri_text old before (Refused BadUri) new after =
     IsBadUri work_folder uri_text × (new ≡ old) × (after ≡ before)
 OpenStep uri_text old before (Refused Failed) new after =

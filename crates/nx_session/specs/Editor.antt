@@ -4,11 +4,14 @@ use Rattle.nx_base.specs.Text.{edited, moved_place}
 use Rattle.nx_base.specs.declared.edit.Edit.{Edit}
 use Rattle.nx_host.specs.Files.{FileMap}
 
--- an editor between two commands: its text, the caret's byte offset, and the URI of its document
+-- an editor between two commands: its text, the caret's byte offset, the URI of its document, the byte offset up to
+-- which the text is read, and how many tokens the last command took that read it
 pub record EditorState : Type 0 where
   pub text : List ℕ
   pub caret : ℕ
   pub document : List ℕ
+  pub frontier : ℕ
+  pub taken : ℕ
 
 -- what files tell, and how many calls they have failed
 pub record FilesState : Type 0 where
@@ -31,22 +34,34 @@ world editor files steps = record { editor = editor; files = files; steps = step
 abbrev pub work_folder : List ℕ
 work_folder = codes "file:///work/"
 
--- an editor of the document under this URI, before its first edit
-abbrev pub opened : List ℕ → List ℕ → EditorState
-opened uri text = record { text = text; caret = 0; document = uri }
+-- the editor with the document under this URI: the whole text is replaced, so nothing of it is read
+abbrev pub opened : EditorState → List ℕ → List ℕ → EditorState
+opened old uri text = record { text = text; caret = 0; document = uri; frontier = 0; taken = old.taken }
 
 -- an editor before its first command
 abbrev pub new_editor : EditorState
-new_editor = opened (codes "file:///work/untitled.xml") []
+new_editor = record { text = []; caret = 0; document = codes "file:///work/untitled.xml"; frontier = 0; taken = 0 }
 
 -- where a caret goes: it moves with the text, but stays where text is put in at it
 abbrev pub caret_after : Edit → ℕ → ℕ
 caret_after edit caret = if caret == edit.from then caret else moved_place caret edit
 
--- the editor after the bytes from `from` to `to` were replaced by the added ones
-abbrev pub edited_editor : EditorState → ℕ → ℕ → List ℕ → EditorState
-edited_editor old from to added = record {
+-- the editor after the bytes from `from` to `to` were replaced by the added ones, read up to a frontier of its own
+abbrev pub edited_editor : EditorState → ℕ → ℕ → List ℕ → ℕ → EditorState
+edited_editor old from to added frontier = record {
   text = edited old.text from to added;
   caret = caret_after (record { from = from; to = to; added = length added }) old.caret;
   document = old.document;
+  frontier = frontier;
+  taken = old.taken;
+}
+
+-- the editor read up to this byte offset, by so many tokens
+abbrev pub read_editor : EditorState → ℕ → ℕ → EditorState
+read_editor old frontier taken = record {
+  text = old.text;
+  caret = old.caret;
+  document = old.document;
+  frontier = frontier;
+  taken = taken;
 }

@@ -4,3 +4,4 @@ pub mod Editor
 pub mod Faults
 pub mod Step
 pub mod Validating
+pub mod Reading

@@ -2,7 +2,7 @@
 use Rattle.std.specs.Prelude.{◌≡◌, ℕ, ◌⊎◌, List}
 use Rattle.nx_script.specs.Grammar.{IsLine}
 use Rattle.nx_script.specs.declared.command.Command.{Command}
-use Rattle.nx_script.specs.declared.command.Command.TheVariants.{Nothing, OpenFile, Save, Insert, Delete, Print, Errors}
+use Rattle.nx_script.specs.declared.command.Command.TheVariants.{Nothing, OpenFile, Save, Insert, Delete, Print, Errors, Slice, Stats}
 use Rattle.nx_script.specs.declared.reply.Reply.{Reply}
 use Rattle.nx_script.specs.declared.reply.Reply.TheVariants.{Silent, Refused}
 use Rattle.nx_script.specs.declared.reply.Refusal.{Refusal}
@@ -10,7 +10,7 @@ use Rattle.nx_script.specs.declared.reply.Refusal.TheVariants.{BadCommand, NoMem
 use Rattle.nx_session.specs.Editor.{EditorState, FilesState, World}
 use Rattle.nx_session.specs.Editing.{InsertStep, DeleteStep, PrintStep}
 use Rattle.nx_session.specs.Documents.{OpenStep, SaveStep}
-use Rattle.nx_session.specs.Validating.{ErrorsStep}
+use Rattle.nx_session.specs.Validating.{ErrorsStep, SliceStep, StatsStep}
 
 -- a line that is passed over
 abbrev pub NothingStep : EditorState → Reply → EditorState → Type 0
@@ -38,11 +38,19 @@ Step old (Insert at added) reply new = OnEditor (InsertStep at added) old reply 
 Step old (Delete from to) reply new = OnEditor (DeleteStep from to) old reply new
 Step old Print reply new = OnEditor PrintStep old reply new
 Step old Errors reply new = OnTokens ErrorsStep old reply new
+Step old (Slice count) reply new = OnTokens (SliceStep count) old reply new
+Step old Stats reply new = OnEditor StatsStep old reply new
+
+-- the text, the caret and the document's URI are as before
+pub record SameDocument (old new : EditorState) : Type 0 where
+  pub text : new.text ≡ old.text
+  pub caret : new.caret ≡ old.caret
+  pub document : new.document ≡ old.document
 
 -- whatever the cause, a refused command leaves the text, the caret and the document's URI
-abbrev pub RefusalsLeaveTheEditor : Type 0
-RefusalsLeaveTheEditor = (old new : World) (given : Command) (cause : Refusal) →
-    Step old given (Refused cause) new → new.editor ≡ old.editor
+abbrev pub RefusalsLeaveTheDocument : Type 0
+RefusalsLeaveTheDocument = (old new : World) (given : Command) (cause : Refusal) →
+    Step old given (Refused cause) new → SameDocument old.editor new.editor
 
 -- what a line of a script may do: it is a command, and a step; or it is none, and refused; or there was no memory to read it
 abbrev pub LineStep : World → List ℕ → Reply → World → Type 0

@@ -1,11 +1,11 @@
 //! Laws of the editor. Nothing here runs.
 
 ghost use Rattle.nx_session.specs.Faults.{TextsGiveText};
-ghost use Rattle.nx_session.specs.Step.{RefusalsLeaveTheEditor};
+ghost use Rattle.nx_session.specs.Step.{RefusalsLeaveTheDocument};
 
 /// A refused command leaves the text, the caret and the document's URI.
-pub fn refusals_leave_the_editor()
-    ensures { RefusalsLeaveTheEditor }
+pub fn refusals_leave_the_document()
+    ensures { RefusalsLeaveTheDocument }
 {}
 
 /// The names, strings and details that a text gives are text.

@@ -4,11 +4,12 @@
 //! editor and its files to the next, with a reply; lines are read and replies written by nx_script, and
 //! whole scripts are run by nx_run.
 //!
-//! Nothing is kept of a text but the text: its faults are found from its first byte each time they are
-//! asked for. For `<a><b></a>` the reply is one fault, at the end tag, whatever commands came before.
+//! Beside the text stand the machine that reads it for its faults and the marks of how far it has read, so
+//! that a text is read a slice at a time, and on from where the last edit left it. Which faults are listed
+//! doesn't depend on that: for `<a><b></a>` the reply is one fault, at the end tag, whatever commands came
+//! before.
 #![tactic(auto)]
 
-mod faults;
 pub mod law;
 pub mod session;
 #[cfg(test)]

@@ -13,7 +13,9 @@ mod validating;
 use nx_base::memory::NoMemory;
 use nx_base::sequence::Bytes;
 use nx_base::steps::Steps;
+use nx_events::bare::Bare;
 use nx_host::files::Files;
+use nx_marks::marks::Marks;
 use nx_script::command::Command;
 use nx_script::reply::{Refusal, Reply};
 use nx_text::text::Text;
@@ -24,7 +26,8 @@ use std::sync::ledger::Ledger;
 /// The URI of a document that was opened from nowhere.
 const UNTITLED: &str = "file:///work/untitled.xml";
 
-/// An editor. To a contract it is its text, its caret and its document's URI.
+/// An editor. To a contract it is its text, its caret, its document's URI, how far the text is read, and how many
+/// tokens the last command took that read it.
 #[derive(Drop)]
 pub struct Session {
     alloc: Global,
@@ -32,14 +35,27 @@ pub struct Session {
     /// A byte offset of the text.
     caret: usize,
     document: Bytes,
+    /// Reads the text for its faults.
+    machine: Bare,
+    /// How far it has read.
+    marks: Marks<Bare>,
 }
 
 impl Model for Session {
     ghost use Rattle.nx_session.specs.Editor.{EditorState};
+    ghost use Rattle.nx_session.specs.Reading.{IsReadRight};
 
     ghost Value = { EditorState };
 
-    ghost view = { λ s. record { text = s.text; caret = s.caret; document = s.document } };
+    ghost view = { λ s. record {
+      text = s.text;
+      caret = s.caret;
+      document = s.document;
+      frontier = s.marks.kept.at;
+      taken = s.marks.taken;
+    } };
+
+    ghost invariant = { λ s. IsReadRight s.text s.marks.kept };
 }
 
 impl Session {
@@ -48,11 +64,15 @@ impl Session {
         ensures { IfOk result (λ session. session ≡ new_editor) }
     {
         let document = Bytes::from_vec(Vec::from_slice(alloc, UNTITLED.as_bytes())?);
+        let mut machine = Bare;
+        let marks = Marks::new(alloc, &mut machine)?;
         Ok(Session {
             alloc,
             text: Text::new(alloc),
             caret: 0,
             document,
+            machine,
+            marks,
         })
     }
 
@@ -108,6 +128,8 @@ impl Session {
             Command::Delete(from, to) => self.delete(*from, *to),
             Command::Print => self.print(),
             Command::Errors => self.errors(steps),
+            Command::Slice(count) => self.slice(*count, steps),
+            Command::Stats => Ok(Reply::Taken(self.marks.taken())),
         }
     }
 }

@@ -13,9 +13,11 @@ use std::sync::ledger::{Blank, Ledger};
 use std::test::Fail;
 
 /// Lines, and how long the text is behind each.
-const LINES: [(&str, usize); 6] = [
+const LINES: [(&str, usize); 8] = [
     ("insert 0 \"é<b>\"", 5),
+    ("slice 1", 5),
     ("delete 2 3", 4),
+    ("stats", 4),
     ("errors", 4),
     ("open \"d.xml\"", 5),
     ("open \"none.xml\"", 5),

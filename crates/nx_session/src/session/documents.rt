@@ -1,11 +1,12 @@
 //! Commands on files.
 
-ghost use Rattle.std.specs.Prelude.{IsUtf8};
+ghost use Rattle.std.specs.Prelude.{◌≡◌, IsUtf8};
 ghost use Rattle.nx_script.specs.Replies.{reply_of, ReplyIsText};
-ghost use Rattle.nx_session.specs.Editor.{files_state};
+ghost use Rattle.nx_session.specs.Editor.{files_state, opened};
 ghost use Rattle.nx_session.specs.Documents.{OpenStep, OpensBytes, SaveStep};
 
 use super::Session;
+use nx_base::edit::Edit;
 use nx_base::sequence::Bytes;
 use nx_host::files::Files;
 use nx_host::uri::{self, WORK_FOLDER};
@@ -45,13 +46,26 @@ impl Session {
         let mut text = Text::new(self.alloc);
         match text.insert(0, content) {
             Ok(()) => {
-                self.text = text;
-                self.caret = 0;
+                self.show(text);
                 self.document = uri;
                 Ok(Reply::Silent)
             }
             Err(_) => Err(Refusal::NoMemory),
         }
+    }
+
+    /// Replaces the whole text.
+    fn show(&mut self, text: Text)
+        ensures { self.new ≡ opened self.old self.old.document text }
+    {
+        let edit = Edit {
+            from: 0,
+            to: self.text.len(),
+            added: text.len(),
+        };
+        self.marks.edit(&edit);
+        self.text = text;
+        self.caret = 0;
     }
 
     /// Stores the text under the URI.

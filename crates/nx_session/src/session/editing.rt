@@ -13,15 +13,14 @@ use nx_host::utf8::text_of;
 use nx_script::reply::{Refusal, Reply};
 use nx_text::text::TextFault;
 
-/// Where a caret goes when the bytes from `from` to `to` become `added` bytes: with the text, but it stays
-/// where text is put in at it.
-fn moved_caret(caret: usize, from: usize, to: usize, added: usize) -> usize
-    ensures { result ≡ caret_after (record { from = from; to = to; added = added }) caret }
+/// Where a caret goes with an edit: with the text, but it stays where text is put in at it.
+fn moved_caret(caret: usize, edit: &Edit) -> usize
+    ensures { result ≡ caret_after edit.now caret }
 {
-    if caret == from {
+    if caret == edit.from {
         caret
     } else {
-        moved(caret, &Edit { from, to, added })
+        moved(caret, edit)
     }
 }
 
@@ -33,9 +32,16 @@ impl Session {
         ensures text { ReplyIsText (reply_of result) }
     {
         let place = at as usize;
+        let _len = self.text.len();
         match self.text.insert(place, text_of(added)) {
             Ok(()) => {
-                self.caret = moved_caret(self.caret, place, place, added.len());
+                let edit = Edit {
+                    from: place,
+                    to: place,
+                    added: added.len(),
+                };
+                self.marks.edit(&edit);
+                self.caret = moved_caret(self.caret, &edit);
                 Ok(Reply::Silent)
             }
             Err(TextFault::BadPosition { at: _, len }) => Err(Refusal::BadPosition { at, len }),
@@ -48,9 +54,13 @@ impl Session {
         ensures step { DeleteStep from to self.old (reply_of result) self.new }
         ensures text { ReplyIsText (reply_of result) }
     {
-        match self.text.delete(from as usize, to as usize) {
+        let (from, to) = (from as usize, to as usize);
+        let _len = self.text.len();
+        match self.text.delete(from, to) {
             Ok(()) => {
-                self.caret = moved_caret(self.caret, from as usize, to as usize, 0);
+                let edit = Edit { from, to, added: 0 };
+                self.marks.edit(&edit);
+                self.caret = moved_caret(self.caret, &edit);
                 Ok(Reply::Silent)
             }
             Err(TextFault::BadPosition { at, len }) => Err(Refusal::BadPosition {

@@ -1,20 +1,40 @@
 //! Commands that read the text for its faults.
 
 ghost use Rattle.nx_script.specs.Replies.{reply_of, ReplyIsText};
-ghost use Rattle.nx_session.specs.Validating.{ErrorsStep};
+ghost use Rattle.nx_session.specs.Validating.{ErrorsStep, SliceStep};
 
 use super::Session;
-use crate::faults::faults_of;
 use nx_base::steps::Steps;
 use nx_script::reply::{Refusal, Reply};
 use std::sync::ledger::Ledger;
 
 impl Session {
-    /// The faults of the text.
-    pub(super) fn errors<L: Ledger>(&self, steps: &mut Steps<L>) -> Result<Reply, Refusal>
-        ensures step { ErrorsStep self.now steps.old (reply_of result) self.now steps.new }
+    /// Reads the text to its end, and lists its faults.
+    pub(super) fn errors<L: Ledger>(&mut self, steps: &mut Steps<L>) -> Result<Reply, Refusal>
+        ensures step { ErrorsStep self.old steps.old (reply_of result) self.new steps.new }
         ensures text { ReplyIsText (reply_of result) }
     {
-        Ok(Reply::Errors(faults_of(self.alloc, &self.text, steps)?))
+        self.marks
+            .catch_up(self.alloc, &mut self.machine, &self.text, steps)?;
+        let len = self.text.len();
+        let faults = self.marks.faults(self.alloc, &mut self.machine, len)?;
+        Ok(Reply::Errors(faults))
+    }
+
+    /// Reads so many tokens of the text on.
+    pub(super) fn slice<L: Ledger>(
+        &mut self,
+        count: u64,
+        steps: &mut Steps<L>,
+    ) -> Result<Reply, Refusal>
+        ensures step { SliceStep count self.old steps.old (reply_of result) self.new steps.new }
+        ensures text { ReplyIsText (reply_of result) }
+    {
+        self.marks
+            .slice(self.alloc, &mut self.machine, &self.text, count, steps)?;
+        Ok(Reply::Frontier {
+            at: self.marks.frontier(),
+            len: self.text.len(),
+        })
     }
 }

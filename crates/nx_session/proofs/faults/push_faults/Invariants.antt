@@ -1,6 +1,0 @@
-use Rattle.std.proofs.Common.{◌≡◌, ◌++◌, take}
-use Rattle.nx_events.specs.Among.{faults_among}
-use Rattle.nx_session.proofs.faults.push_faults.Given as goal
-
-abbrev pub invariant-loop-item : goal.invariant-loop-item
-invariant-loop-item l = l.faults ≡ l.fn.faults ++ faults_among (take l.item-index l.items)

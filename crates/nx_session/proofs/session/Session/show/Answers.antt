@@ -1,0 +1,15 @@
+use Rattle.std.proofs.Common.{◌≡◌, ◌≤◌, List, ℕ, sym, subst, arith}
+use Rattle.std.proofs.lemmas.Str.{IsCharBoundary-start, IsCharBoundary-end}
+use Rattle.nx_base.specs.Text.{IsPlace}
+use Rattle.nx_session.specs.Reading.{IsReadRight}
+use Rattle.nx_session.proofs.Replacing.{edited_whole}
+use Rattle.nx_session.proofs.session.Session.show.Goals as goal
+
+pub invariant_of-self : goal.invariant_of-self
+invariant_of-self c =
+    let text = c.self.inside.text in
+    let P : ℕ → Type 0 = λ n. IsPlace text n in
+    let Q : List ℕ → Type 0 = λ new. IsReadRight new c.edit.new.self.kept in
+    subst Q (edited_whole text c.args.text c.len.result c.len.ensures.bytes)
+    (c.edit.ensures.right c.self.inside.machine text c.args.text c.len.ensures.utf8 c.len-2.ensures.utf8 (IsCharBoundary-start text c.len.ensures.utf8)
+    (subst P (sym c.len.ensures.bytes) (IsCharBoundary-end text)) (omega arith) c.self.invariant)
