@@ -53,7 +53,7 @@ fn piece<'a>(text: &mut Vec<u8>, bytes: &'a [u8]) -> Result<&'a [u8], ScriptFaul
     }
 }
 
-/// The same for an escape, its backslash left out.
+/// Adds what an escape means to the text, its backslash left out, and answers what follows the escape.
 #[tactic(auto, unfolding(crate::specs::Reading::escape_at))]
 fn escaped<'a>(text: &mut Vec<u8>, escape: &'a [u8]) -> Result<&'a [u8], ScriptFault>
     ensures found { Finds (λ rest. (text.new.items, rest.now)) result (onto text.old.items (escape_at escape.now)) }
@@ -108,7 +108,7 @@ fn braced(bytes: &[u8]) -> Result<(u32, &[u8]), ScriptFault>
     }
 }
 
-/// The same behind the opening brace.
+/// The number that hexadecimal digits spell behind an opening brace, and what follows the closing brace.
 #[tactic(auto, unfolding(crate::specs::Reading::code_at))]
 fn code(bytes: &[u8]) -> Result<(u32, &[u8]), ScriptFault>
     ensures found { Finds (λ x. (x.0, x.1.now)) result (code_at bytes.now) }

@@ -1,7 +1,10 @@
 //! What the editor answers a command.
 
 use nx_base::fault::Faults;
+use nx_base::memory::NoMemory;
 use nx_base::sequence::Bytes;
+use nx_host::files::FileFault;
+use nx_host::uri::UriFault;
 
 /// The answer to a command.
 #[derive(Drop)]
@@ -33,4 +36,43 @@ pub enum Refusal {
     /// The files could not do it.
     Failed,
     NoMemory,
+}
+
+impl From<NoMemory> for Refusal {
+    ghost use Rattle.std.specs.Prelude.{◌≡◌};
+    ghost use Rattle.nx_script.specs.declared.reply.Refusal.TheVariants as refusals;
+
+    ghost from_gives = { λ _ refusal. refusal ≡ refusals.NoMemory };
+
+    fn from(_error: NoMemory) -> Refusal {
+        Refusal::NoMemory
+    }
+}
+
+impl From<UriFault> for Refusal {
+    ghost use Rattle.std.specs.Prelude.{◌≡◌};
+    ghost use Rattle.nx_script.specs.Replies.{refusal_of_uri};
+
+    ghost from_gives = { λ fault refusal. refusal ≡ refusal_of_uri fault };
+
+    fn from(fault: UriFault) -> Refusal {
+        match fault {
+            UriFault::Bad => Refusal::BadUri,
+            UriFault::NoMemory => Refusal::NoMemory,
+        }
+    }
+}
+
+impl From<FileFault> for Refusal {
+    ghost use Rattle.std.specs.Prelude.{◌≡◌};
+    ghost use Rattle.nx_script.specs.Replies.{refusal_of_files};
+
+    ghost from_gives = { λ fault refusal. refusal ≡ refusal_of_files fault };
+
+    fn from(fault: FileFault) -> Refusal {
+        match fault {
+            FileFault::Failed => Refusal::Failed,
+            FileFault::NoMemory => Refusal::NoMemory,
+        }
+    }
 }

@@ -1,3 +1,6 @@
+pub mod Documents
+pub mod Editing
 pub mod Editor
 pub mod Faults
 pub mod Step
+pub mod Validating

@@ -1,29 +1,30 @@
 use Rattle.std.proofs.Common.{refl}
+use Rattle.std.proofs.lemmas.Result.{err_from_is_err_and}
 use Rattle.nx_session.specs.Editor.{files_state}
-use Rattle.nx_session.proofs.Opening.{opens}
+use Rattle.nx_session.proofs.Filing.{opens, open-unfetched}
 use Rattle.nx_session.proofs.session.Session.open_file.Goals as goal
 
-pub returns-in-Ok-Some-clause-step : goal.returns-in-Ok-Some-clause-step
-returns-in-Ok-Some-clause-step g c =
+pub returns-in_err-bytes-clause-step : goal.returns-in_err-bytes-clause-step
+returns-in_err-bytes-clause-step g c =
     let f = g.F.Files in
-    opens c.args.uri_text.now c.in-Ok.uri c.in-Ok-Some.bytes c.args.self.now c.open_bytes.new.self c.open_bytes.result
+    let refusal = err_from_is_err_and c.from_residual-in_err-bytes.result c.from_residual-in_err-bytes.ensures.1 in
+    rw (refusal.1, refusal.2)
+    (open-unfetched c.args.uri_text.now c.in_ok-uri.uri c.args.self.now
+    (files_state (f.told c.args.files.now) (f.faults c.args.files.now)) (files_state (f.told c.fetch.new.self) (f.faults c.fetch.new.self)) c.in_err-bytes.field-0.0
+    (rw c.text_of.ensures at c.in_ok-uri.ensures.joined) c.in_err-bytes.ensures.map c.in_err-bytes.ensures.faults)
+
+pub returns-in-Some-clause-step : goal.returns-in-Some-clause-step
+returns-in-Some-clause-step g c =
+    let f = g.F.Files in
+    opens c.args.uri_text.now c.in_ok-uri.uri c.in-Some.bytes c.args.self.now c.open_bytes.new.self _
     (files_state (f.told c.args.files.now) (f.faults c.args.files.now)) (files_state (f.told c.fetch.new.self) (f.faults c.fetch.new.self))
-    (rw c.text_of.ensures at c.in-Ok.ensures.joined, rw (c.text_of-2.ensures, c.in-Ok-Some.field-0-is) at c.in-Ok-Some.ensures.found)
-    (cc (c.in-Ok-Some.ensures.map, c.in-Ok-Some.ensures.faults))
+    (rw c.text_of.ensures at c.in_ok-uri.ensures.joined, rw (c.text_of-2.ensures, c.in-Some.is) at c.in_ok-bytes.ensures.found)
+    (cc (c.in_ok-bytes.ensures.map, c.in_ok-bytes.ensures.faults))
     c.open_bytes.ensures.step
 
-pub returns-in-Ok-None-clause-step : goal.returns-in-Ok-None-clause-step
-returns-in-Ok-None-clause-step g c = (
-  (rw c.text_of.ensures at c.in-Ok.ensures.joined, rw (c.text_of-2.ensures, c.in-Ok-None.field-0-is) at c.in-Ok-None.ensures.found),
+pub returns-in-None-clause-step : goal.returns-in-None-clause-step
+returns-in-None-clause-step g c = (
+  (rw c.text_of.ensures at c.in_ok-uri.ensures.joined, rw (c.text_of-2.ensures, c.in-None.is) at c.in_ok-bytes.ensures.found),
   refl,
-  cc (c.in-Ok-None.ensures.map, c.in-Ok-None.ensures.faults),
-)
-
-pub returns-in-Err-Failed-clause-step : goal.returns-in-Err-Failed-clause-step
-returns-in-Err-Failed-clause-step g c = (
-  c.in-Ok.uri,
-  rw c.text_of.ensures at c.in-Ok.ensures.joined,
-  refl,
-  c.in-Err-Failed.ensures.map,
-  rw c.in-Err-Failed.field-0-is at c.in-Err-Failed.ensures.faults,
+  cc (c.in_ok-bytes.ensures.map, c.in_ok-bytes.ensures.faults),
 )
