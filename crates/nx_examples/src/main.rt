@@ -2,12 +2,15 @@
 #![tactic(auto)]
 
 use nx_base::sequence::Bytes;
-use nx_host::disk::DiskFiles;
-use nx_run::machine::run_on_machine;
+use nx_base::steps::Steps;
+use nx_host::disk::{DiskFiles, StdOut};
+use nx_run::run::run;
+use nx_run::status::Status;
 use rng_core::grammar::Grammar;
 use rng_restrict::check::check;
 use rng_simplify::fault::SchemaFault;
 use rng_simplify::simplify::simplify;
+use std::alloc::AllocError;
 use std::io;
 use std::marker::Brand;
 use std::sync::ledger::Blank;
@@ -35,9 +38,7 @@ fn main(rt: HostRuntime) -> io::Result<()> {
     for script in &SCRIPTS {
         let script = *script;
         println!(rt; "== {script}")?;
-        let word = Bytes::from_vec(Vec::from_slice(rt.alloc(), script.as_bytes())?);
-        let status = run_on_machine::<_, Brand>(&rt, &[word], Blank::new(1));
-        let code = status.code();
+        let code = run_script(&rt, script)?.code();
         println!(rt; "== status {code}")?;
     }
     for schema in &SCHEMAS {
@@ -45,6 +46,15 @@ fn main(rt: HostRuntime) -> io::Result<()> {
         judge_schema(&rt, schema)?;
     }
     Ok(())
+}
+
+/// Runs the script as `nxml` would.
+fn run_script(rt: &HostRuntime, script: &str) -> Result<Status, AllocError> {
+    let word = Bytes::from_vec(Vec::from_slice(rt.alloc(), script.as_bytes())?);
+    let mut files = DiskFiles::new(rt);
+    let mut out = StdOut::new(rt);
+    let mut steps = Steps::<Brand>::new(Blank::new(1));
+    Ok(run(rt.alloc(), &[word], &mut files, &mut out, &mut steps))
 }
 
 /// Prints what becomes of the schema.
