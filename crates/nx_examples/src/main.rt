@@ -1,6 +1,8 @@
 //! Runs the example scripts, one behind another, as `nxml` would, and tells of each example schema whether it can be used.
 #![tactic(auto)]
 
+ghost use Rattle.std.specs.Prelude.{◌≡◌, ◌<◌};
+
 use nx_base::sequence::Bytes;
 use nx_base::steps::Steps;
 use nx_host::disk::{DiskFiles, StdOut};
@@ -10,10 +12,9 @@ use rng_core::grammar::Grammar;
 use rng_restrict::check::check;
 use rng_simplify::fault::SchemaFault;
 use rng_simplify::simplify::simplify;
-use std::alloc::AllocError;
 use std::io;
 use std::marker::Brand;
-use std::sync::ledger::Blank;
+use std::sync::ledger::{Blank, Ledger};
 
 /// The scripts, in the folder that the program is called in.
 const SCRIPTS: [&str; 5] = [
@@ -38,7 +39,8 @@ fn main(rt: HostRuntime) -> io::Result<()> {
     for script in &SCRIPTS {
         let script = *script;
         println!(rt; "== {script}")?;
-        let code = run_script(&rt, script)?.code();
+        let word = Bytes::from_vec(Vec::from_slice(rt.alloc(), script.as_bytes())?);
+        let code = run_here::<Brand>(&rt, &[word], Blank::new(1)).code();
         println!(rt; "== status {code}")?;
     }
     for schema in &SCHEMAS {
@@ -48,13 +50,17 @@ fn main(rt: HostRuntime) -> io::Result<()> {
     Ok(())
 }
 
-/// Runs the script as `nxml` would.
-fn run_script(rt: &HostRuntime, script: &str) -> Result<Status, AllocError> {
-    let word = Bytes::from_vec(Vec::from_slice(rt.alloc(), script.as_bytes())?);
+/// The run over the machine's files and output, as `nxml` runs a script. Its count of tokens is for the proof alone, and takes
+/// nothing.
+fn run_here<L: Ledger>(rt: &HostRuntime, words: &[Bytes], blank: Blank) -> Status
+    requires name { blank.name ≡ L.name }
+    requires parts { blank.parts ≡ L.parts }
+    requires some { 0 < L.parts }
+{
     let mut files = DiskFiles::new(rt);
     let mut out = StdOut::new(rt);
-    let mut steps = Steps::<Brand>::new(Blank::new(1));
-    Ok(run(rt.alloc(), &[word], &mut files, &mut out, &mut steps))
+    let mut steps = Steps::<L>::new(blank);
+    run(rt.alloc(), words, &mut files, &mut out, &mut steps)
 }
 
 /// Prints what becomes of the schema.
