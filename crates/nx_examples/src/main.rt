@@ -1,16 +1,20 @@
 //! Runs the example scripts, one behind another, as `nxml` would, and tells of each example schema whether it can be used.
 #![tactic(auto)]
 
+ghost use Rattle.std.specs.Prelude.{◌≡◌, ◌<◌};
+
 use nx_base::sequence::Bytes;
-use nx_host::disk::DiskFiles;
-use nx_run::machine::run_on_machine;
+use nx_base::steps::Steps;
+use nx_host::disk::{DiskFiles, StdOut};
+use nx_run::run::run;
+use nx_run::status::Status;
 use rng_core::grammar::Grammar;
 use rng_restrict::check::check;
 use rng_simplify::fault::SchemaFault;
 use rng_simplify::simplify::simplify;
 use std::io;
 use std::marker::Brand;
-use std::sync::ledger::Blank;
+use std::sync::ledger::{Blank, Ledger};
 
 /// The scripts, in the folder that the program is called in.
 const SCRIPTS: [&str; 5] = [
@@ -36,8 +40,7 @@ fn main(rt: HostRuntime) -> io::Result<()> {
         let script = *script;
         println!(rt; "== {script}")?;
         let word = Bytes::from_vec(Vec::from_slice(rt.alloc(), script.as_bytes())?);
-        let status = run_on_machine::<_, Brand>(&rt, &[word], Blank::new(1));
-        let code = status.code();
+        let code = run_here::<Brand>(&rt, &[word], Blank::new(1)).code();
         println!(rt; "== status {code}")?;
     }
     for schema in &SCHEMAS {
@@ -45,6 +48,19 @@ fn main(rt: HostRuntime) -> io::Result<()> {
         judge_schema(&rt, schema)?;
     }
     Ok(())
+}
+
+/// The run over the machine's files and output, as `nxml` runs a script. Its count of tokens is for the proof alone, and takes
+/// nothing.
+fn run_here<L: Ledger>(rt: &HostRuntime, words: &[Bytes], blank: Blank) -> Status
+    requires name { blank.name ≡ L.name }
+    requires parts { blank.parts ≡ L.parts }
+    requires some { 0 < L.parts }
+{
+    let mut files = DiskFiles::new(rt);
+    let mut out = StdOut::new(rt);
+    let mut steps = Steps::<L>::new(blank);
+    run(rt.alloc(), words, &mut files, &mut out, &mut steps)
 }
 
 /// Prints what becomes of the schema.

@@ -13,7 +13,7 @@ no_map faults = None
 abbrev pub no_bytes : ℕ → Option (List ℕ)
 no_bytes faults = None
 
--- the URI names no path of the disk that is a text: it has another scheme or a host, or its path is no UTF-8
+-- the URI names no path of the disk that is a text: it has another scheme, a host, a query or a fragment, or its path is no UTF-8
 abbrev pub IsNowhere : List ℕ → Type 0
 IsNowhere uri = (path : List ℕ) → NamesPath uri path → ¬ IsUtf8 path
 

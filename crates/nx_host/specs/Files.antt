@@ -1,5 +1,8 @@
 -- What files mean: where they tell it, a map from URI texts to bytes, and a count of faults.
-use Rattle.std.specs.Prelude.{◌≡◌, ◌≢◌, ℕ, Bool, List, Option, Some, None, is_some, Result, Ok, Err}
+use Rattle.std.specs.Prelude.{◌≡◌, ◌≢◌, ◌↔◌, ℕ, Bool, List, Option, Some, None, is_some, Result, Ok, Err}
+use Rattle.std.specs.IoError.{error_kind}
+use Rattle.std.specs.declared.io.Error.{Error}
+use Rattle.std.specs.declared.io.ErrorKind.TheVariants.{OutOfMemory}
 use Rattle.nx_host.specs.declared.files.FileFault.{FileFault}
 use Rattle.nx_host.specs.declared.files.FileFault.TheVariants.{Failed, NoMemory}
 use Rattle.nx_host.specs.Count.{Rose}
@@ -41,3 +44,7 @@ abbrev pub CountsFault : {A : Type 0} → Result A FileFault → ℕ → ℕ →
 CountsFault (Ok done) before now = now ≡ before
 CountsFault (Err NoMemory) before now = now ≡ before
 CountsFault (Err Failed) before now = Rose before now
+
+-- an error of the system is want of memory where it says so, and otherwise a failure
+abbrev pub IsFaultOf : Error → FileFault → Type 0
+IsFaultOf error fault = (fault ≡ NoMemory) ↔ (error_kind error ≡ OutOfMemory)

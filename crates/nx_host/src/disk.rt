@@ -10,7 +10,8 @@ use crate::count::one_more;
 use crate::disk_path::path_of;
 use crate::files::{FileFault, Files};
 use crate::out::{Out, OutFault};
-use crate::streams::{fault_of, read_all, write_whole};
+use crate::replacement::put;
+use crate::streams::{read_all, write_whole};
 use nx_base::sequence::Bytes;
 use std::alloc::Global;
 use std::io::ErrorKind;
@@ -18,8 +19,9 @@ use std::marker::Model;
 use std::{fs, io, rt};
 
 /// The files of the disk. `file:///work/X` is the relative path X, and any other `file:///Y` the path
-/// `/Y`, both percent-decoded and without query and fragment. To a contract they are their count of
-/// faults.
+/// `/Y`, both percent-decoded; a URI with a query or a fragment names no file. A store puts a new file in
+/// the place of the old one when it is whole, so one that fails leaves the old one. To a contract they are
+/// their count of faults.
 pub struct DiskFiles<'a, R> {
     rt: &'a R,
     faults: u64,
@@ -122,12 +124,12 @@ fn has_file<R: rt::Files>(rt: &R, alloc: Global, uri: &str) -> Result<bool, File
     }
 }
 
-/// Writes the bytes to the file that the URI names, in place of what was in it.
+/// Puts the bytes into the file that the URI names, in place of what was in it.
 fn write_file<R: rt::Files>(rt: &R, alloc: Global, uri: &str, bytes: &[u8]) -> Result<(), FileFault>
     ensures { IsNowhere uri.now → IsErr result }
 {
     match path_of(alloc, uri)? {
-        Some(path) => write_path(rt, path.as_str(), bytes).map_err(|error| fault_of(&error)),
+        Some(path) => write_path(rt, alloc, path.as_str(), bytes),
         None => Err(FileFault::Failed),
     }
 }
@@ -137,7 +139,7 @@ fn read_path<R: rt::Files>(rt: &R, alloc: Global, path: &str) -> Result<Option<B
     match fs::open(rt, path) {
         Ok(mut file) => Ok(Some(Bytes::from_vec(read_all(alloc, &mut file)?))),
         Err(error) if is_missing(&error) => Ok(None),
-        Err(error) => Err(fault_of(&error)),
+        Err(error) => Err(error.into()),
     }
 }
 
@@ -146,14 +148,19 @@ fn has_path<R: rt::Files>(rt: &R, path: &str) -> Result<bool, FileFault> {
     match fs::metadata(rt, path) {
         Ok(metadata) => Ok(!metadata.is_dir()),
         Err(error) if is_missing(&error) => Ok(false),
-        Err(error) => Err(fault_of(&error)),
+        Err(error) => Err(error.into()),
     }
 }
 
-/// Writes the bytes to the file at the path, in place of what was in it.
-fn write_path<R: rt::Files>(rt: &R, path: &str, bytes: &[u8]) -> io::Result<()> {
-    let mut file = fs::create(rt, path)?;
-    write_whole(&mut file, bytes)
+/// Puts the bytes into the file at the path, in place of what was in it.
+fn write_path<R: rt::Files>(
+    rt: &R,
+    alloc: Global,
+    path: &str,
+    bytes: &[u8],
+) -> Result<(), FileFault> {
+    put(rt, alloc, path, bytes)?;
+    Ok(())
 }
 
 /// Standard output. To a contract it is its count of faults.

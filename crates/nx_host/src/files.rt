@@ -6,6 +6,7 @@ ghost use Rattle.nx_host.specs.Files.{FileMap, Holds, HasFile, Stores, CountsFau
 use nx_base::memory::NoMemory;
 use nx_base::sequence::Bytes;
 use std::alloc::{AllocError, Global};
+use std::io::{self, ErrorKind};
 
 /// Why files refused a call.
 #[derive(Clone, Copy, Debug, PartialEq, Eq)]
@@ -34,6 +35,20 @@ impl From<AllocError> for FileFault {
 
     fn from(_error: AllocError) -> FileFault {
         FileFault::NoMemory
+    }
+}
+
+impl From<io::Error> for FileFault {
+    ghost use Rattle.nx_host.specs.Files.{IsFaultOf};
+
+    ghost from_gives = { IsFaultOf };
+
+    /// Want of memory is what it is, and any other error of the system is a failure.
+    fn from(error: io::Error) -> FileFault {
+        match error.kind() {
+            ErrorKind::OutOfMemory => FileFault::NoMemory,
+            _ => FileFault::Failed,
+        }
     }
 }
 

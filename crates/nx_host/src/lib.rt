@@ -11,6 +11,7 @@ pub mod files;
 pub mod memory_files;
 pub mod memory_out;
 pub mod out;
+mod replacement;
 pub mod streams;
 #[cfg(test)]
 mod tests;

@@ -1,8 +1,7 @@
 //! Reading and writing to the end, in a bounded number of turns.
 
-ghost use Rattle.std.specs.Prelude.{◌≡◌, ◌↔◌, IfOk, IfSome, OnOk};
+ghost use Rattle.std.specs.Prelude.{◌≡◌, IfOk, IfSome, OnOk};
 ghost use Rattle.std.specs.Io.KnownBytes.{Appends};
-ghost use Rattle.std.specs.IoError.{error_kind};
 
 use crate::files::FileFault;
 use std::alloc::Global;
@@ -14,16 +13,6 @@ pub const READ_TURNS: u64 = 1 << 40;
 
 /// How many bytes one read asks for.
 const PIECE: usize = 8192;
-
-/// What an error of the system is to the caller: want of memory, or a failure.
-pub(crate) fn fault_of(error: &io::Error) -> FileFault
-    ensures { (result ≡ FileFault.NoMemory) ↔ (error_kind error.now ≡ ErrorKind.OutOfMemory) }
-{
-    match error.kind() {
-        ErrorKind::OutOfMemory => FileFault::NoMemory,
-        _ => FileFault::Failed,
-    }
-}
 
 /// All that is left to read. A read that is interrupted is tried again.
 pub(crate) fn read_all<R: Read>(alloc: Global, reader: &mut R) -> Result<Vec<u8>, FileFault>
@@ -37,7 +26,7 @@ pub(crate) fn read_all<R: Read>(alloc: Global, reader: &mut R) -> Result<Vec<u8>
             Ok(count) => read.extend_from_slice(&piece[..count])?,
             Err(error) => {
                 if error.kind() != ErrorKind::Interrupted {
-                    return Err(fault_of(&error));
+                    return Err(error.into());
                 }
             }
         }

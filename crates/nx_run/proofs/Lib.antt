@@ -1,2 +1,4 @@
+pub mod Fetching
+pub mod Lines
 pub mod Playing
 pub mod Printing

@@ -15,9 +15,10 @@ use Rattle.nx_run.specs.declared.status.Status.TheVariants.{Done, Refused, Memor
 use Rattle.nx_script.specs.Replies.{ReplyIsText}
 use Rattle.nx_session.specs.Editor.{EditorState, World, world, new_editor}
 use Rattle.nx_session.specs.Step.{LineStep}
+use Rattle.nx_run.specs.Codes.{stop_status}
 use Rattle.nx_run.specs.Output.{OutState}
 use Rattle.nx_run.specs.Surroundings.{Surroundings, begun_in}
-use Rattle.nx_run.specs.Play.{Plays, texts_from, wants_memory, is_refusal, stop_status, IsWhole, IsCutOff, IsPlayOf}
+use Rattle.nx_run.specs.Play.{Plays, texts_from, wants_memory, is_refusal, IsWhole, IsCutOff, IsPlayOf}
 
 -- a play goes on by one line
 pub plays-push : (old : World) (lines : List (List ℕ)) (answers : List Reply) (mid new : World) (line : List ℕ) (answer : Reply) →

@@ -2,8 +2,6 @@
 use Rattle.std.specs.Prelude.{◌≡◌, ℕ, ◌+◌, ◌⊎◌, Bool, true, false, List, [], ◌∷◌, ◌++◌, length, Option, if◌then◌else◌}
 use Rattle.std.specs.List.{AllByRecursion, list_any}
 use Rattle.nx_host.specs.Count.{Rose}
-use Rattle.nx_host.specs.declared.out.OutFault.{OutFault}
-use Rattle.nx_host.specs.declared.out.OutFault.TheVariants.{Failed, NoMemory}
 use Rattle.nx_host.specs.Out.{Appends}
 use Rattle.nx_script.specs.Lines.{lines_of}
 use Rattle.nx_script.specs.Printing.{reply_text}
@@ -46,11 +44,6 @@ abbrev pub status_of : List Reply → Status
 status_of answers =
     if list_any wants_memory answers then Memory
     else (if list_any is_refusal answers then Refused else Done)
-
--- the status of a run that stops because the output refused a write
-abbrev pub stop_status : OutFault → Status
-stop_status Failed = Output
-stop_status NoMemory = Memory
 
 -- the script was played to its end, from a new editor, and the texts of all replies were written
 pub record IsWhole (script : List ℕ) (old new : Surroundings) (before after : Option (List ℕ)) (status : Status) : Type 0 where

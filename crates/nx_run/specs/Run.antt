@@ -1,13 +1,12 @@
 -- A whole run of the program: its words, the files, an output and the count of tokens before and after it, and its status.
-use Rattle.std.specs.Prelude.{◌≡◌, ℕ, ◌⊎◌, List, Some, None, IsUtf8}
+use Rattle.std.specs.Prelude.{◌≡◌, ℕ, ◌⊎◌, List, Some, IsUtf8}
 use Rattle.nx_host.specs.Count.{Rose}
 use Rattle.nx_host.specs.Out.{Appends, AppendsPrefix}
 use Rattle.nx_run.specs.declared.script.ScriptRefusal.{ScriptRefusal}
 use Rattle.nx_run.specs.declared.status.Status.{Status}
 use Rattle.nx_run.specs.declared.status.Status.TheVariants.{Done, Refused, Words, Script, Output, Memory}
-use Rattle.nx_session.specs.Editor.{files_state}
-use Rattle.nx_run.specs.Output.{OutState, out_state}
-use Rattle.nx_run.specs.Surroundings.{Surroundings, surroundings}
+use Rattle.nx_run.specs.Output.{OutState}
+use Rattle.nx_run.specs.Surroundings.{Surroundings}
 use Rattle.nx_run.specs.Words.{NamesScript, usage_line}
 use Rattle.nx_run.specs.Script.{IsScript, HoldsOfScript, refusal_line}
 use Rattle.nx_run.specs.Play.{IsPlayOf, IsUnbegun}
@@ -69,11 +68,6 @@ IsRunOf words old new before after Memory =
     ⊎ IsUnread words old new (λ line. StarvesLine line before after)
     ⊎ IsPlayed words old new before after Memory
     ⊎ IsStarved words old new before after
-
--- a run over files and an output that tell nothing, and have failed nothing yet
-abbrev pub RunsOnMachine : List (List ℕ) → Status → Type 0
-RunsOnMachine words status =
-    (new : Surroundings) × (after : OutState) × IsRunOf words (surroundings (files_state None 0) 0) new (out_state None 0) after status
 
 -- what writing a line ends a run with: the status that the line stands for, or that of an output that refuses it
 abbrev pub SaysLine : List ℕ → Status → Status → OutState → OutState → Type 0

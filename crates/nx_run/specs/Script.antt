@@ -5,10 +5,14 @@ use Rattle.nx_host.specs.Count.{Rose}
 use Rattle.nx_host.specs.Files.{Holds}
 use Rattle.nx_host.specs.Uri.{Joins, IsBadUri}
 use Rattle.nx_host.specs.Utf8.{StopsBeingText}
+use Rattle.nx_host.specs.declared.files.FileFault.{FileFault}
+use Rattle.nx_host.specs.declared.files.FileFault.TheVariants as file_fault
+use Rattle.nx_host.specs.declared.uri.UriFault.{UriFault}
+use Rattle.nx_host.specs.declared.uri.UriFault.TheVariants as uri_fault
 use Rattle.nx_run.specs.declared.script.ScriptRefusal.{ScriptRefusal}
 use Rattle.nx_run.specs.declared.script.ScriptRefusal.TheVariants.{BadUri, Absent, NotUtf8, Failed}
-use Rattle.nx_run.specs.declared.script.ScriptFault.{ScriptFault}
-use Rattle.nx_run.specs.declared.script.ScriptFault.TheVariants.{Refused, NoMemory}
+use Rattle.nx_run.specs.declared.script.FetchFault.{FetchFault}
+use Rattle.nx_run.specs.declared.script.FetchFault.TheVariants.{Refused, NoMemory}
 use Rattle.nx_session.specs.Editor.{FilesState, work_folder}
 
 -- the files hold the script under the word's URI, and it is text
@@ -30,10 +34,26 @@ HoldsOfScript Failed word old new =
     (uri : List ℕ) × Joins work_folder word uri × (new.map ≡ old.map) × Rose old.faults new.faults
 
 -- what fetching the script gave
-abbrev pub FetchesScript : List ℕ → FilesState → FilesState → Result (List ℕ) ScriptFault → Type 0
+abbrev pub FetchesScript : List ℕ → FilesState → FilesState → Result (List ℕ) FetchFault → Type 0
 FetchesScript word old new (Ok script) = IsScript word old script × (new ≡ old)
 FetchesScript word old new (Err (Refused cause)) = HoldsOfScript cause word old new
 FetchesScript word old new (Err NoMemory) = new ≡ old
+
+-- the bytes are the answer where they are text, and otherwise the first offset at which they stop being one
+abbrev pub IsTextAlone : List ℕ → Result (List ℕ) FetchFault → Type 0
+IsTextAlone bytes (Ok script) = IsUtf8 bytes × (script ≡ bytes)
+IsTextAlone bytes (Err (Refused (NotUtf8 at))) = ¬ (IsUtf8 bytes) × StopsBeingText bytes at
+IsTextAlone bytes (Err fault) = ⊥
+
+-- why there is no script where its URI can't be had
+abbrev pub fetch_fault_of_uri : UriFault → FetchFault
+fetch_fault_of_uri uri_fault.Bad = Refused BadUri
+fetch_fault_of_uri uri_fault.NoMemory = NoMemory
+
+-- why there is no script where the files refuse it
+abbrev pub fetch_fault_of_files : FileFault → FetchFault
+fetch_fault_of_files file_fault.Failed = Refused Failed
+fetch_fault_of_files file_fault.NoMemory = NoMemory
 
 -- what is written where the script can't be read
 abbrev pub refusal_line : ScriptRefusal → List ℕ

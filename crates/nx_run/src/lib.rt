@@ -6,7 +6,6 @@
 #![tactic(auto)]
 
 pub mod law;
-pub mod machine;
 mod play;
 pub mod run;
 mod script;

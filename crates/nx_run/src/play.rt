@@ -6,12 +6,12 @@ ghost use Rattle.nx_session.specs.Editor.{files_state, world};
 ghost use Rattle.nx_session.specs.Step.{LineStep};
 ghost use Rattle.nx_run.specs.Output.{out_state};
 ghost use Rattle.nx_run.specs.Surroundings.{surroundings};
-ghost use Rattle.nx_run.specs.Play.{IsPlayOf, stop_status, wants_memory, is_refusal};
+ghost use Rattle.nx_run.specs.Play.{IsPlayOf, wants_memory, is_refusal};
 
 use crate::status::Status;
 use nx_base::steps::Steps;
 use nx_host::files::Files;
-use nx_host::out::{Out, OutFault};
+use nx_host::out::Out;
 use nx_script::line::split_line;
 use nx_script::read::{ScriptFault, read_line};
 use nx_script::reply::{Refusal, Reply};
@@ -45,16 +45,6 @@ impl Tally {
             (false, true) => Status::Refused,
             (false, false) => Status::Done,
         }
-    }
-}
-
-/// The status of a run that stops because the output refused a write.
-fn stop_status(fault: OutFault) -> Status
-    ensures { result ≡ stop_status fault }
-{
-    match fault {
-        OutFault::Failed => Status::Output,
-        OutFault::NoMemory => Status::Memory,
     }
 }
 
@@ -107,7 +97,7 @@ pub fn play<F: Files, O: Out, L: Ledger>(
         drop(reply);
         match written {
             Ok(()) => {}
-            Err(fault) => return stop_status(fault),
+            Err(fault) => return Status::from(fault),
         }
         rest = following;
     }

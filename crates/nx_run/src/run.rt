@@ -8,14 +8,14 @@ ghost use Rattle.nx_run.specs.Run.{IsRunOf, SaysLine};
 ghost use Rattle.nx_run.specs.Script.{refusal_line};
 
 use crate::play::play;
-use crate::script::{ScriptFault, ScriptRefusal, fetch_script};
+use crate::script::{FetchFault, ScriptRefusal, fetch_script};
 use crate::status::Status;
 use crate::words::{USAGE, script_word};
 use nx_base::memory::NoMemory;
 use nx_base::sequence::Bytes;
 use nx_base::steps::Steps;
 use nx_host::files::Files;
-use nx_host::out::{Out, OutFault};
+use nx_host::out::Out;
 use nx_host::utf8::text_of;
 use std::alloc::Global;
 use std::sync::ledger::Ledger;
@@ -38,8 +38,8 @@ pub fn run<F: Files, O: Out, L: Ledger>(
     };
     match fetch_script(alloc, word, files) {
         Ok(script) => play(alloc, text_of(&script), files, out, steps),
-        Err(ScriptFault::Refused(cause)) => refuse(alloc, cause, out),
-        Err(ScriptFault::NoMemory) => Status::Memory,
+        Err(FetchFault::Refused(cause)) => refuse(alloc, cause, out),
+        Err(FetchFault::NoMemory) => Status::Memory,
     }
 }
 
@@ -61,7 +61,6 @@ fn write_line<O: Out>(alloc: Global, line: &str, status: Status, out: &mut O) ->
 {
     match out.write(alloc, line.as_bytes()) {
         Ok(()) => status,
-        Err(OutFault::Failed) => Status::Output,
-        Err(OutFault::NoMemory) => Status::Memory,
+        Err(fault) => Status::from(fault),
     }
 }

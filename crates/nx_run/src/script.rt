@@ -2,7 +2,7 @@
 
 ghost use Rattle.std.specs.Prelude.{◌≡◌, IfOk, string_bytes};
 ghost use Rattle.nx_session.specs.Editor.{files_state};
-ghost use Rattle.nx_run.specs.Script.{FetchesScript, refusal_line};
+ghost use Rattle.nx_run.specs.Script.{FetchesScript, IsTextAlone, refusal_line};
 
 use nx_base::memory::NoMemory;
 use nx_base::sequence::Bytes;
@@ -27,9 +27,37 @@ pub enum ScriptRefusal {
 
 /// Why there is no script to play.
 #[derive(Clone, Copy, Debug, PartialEq, Eq)]
-pub enum ScriptFault {
+pub enum FetchFault {
     Refused(ScriptRefusal),
     NoMemory,
+}
+
+impl From<UriFault> for FetchFault {
+    ghost use Rattle.std.specs.Prelude.{◌≡◌};
+    ghost use Rattle.nx_run.specs.Script.{fetch_fault_of_uri};
+
+    ghost from_gives = { λ given fault. fault ≡ fetch_fault_of_uri given };
+
+    fn from(fault: UriFault) -> FetchFault {
+        match fault {
+            UriFault::Bad => FetchFault::Refused(ScriptRefusal::BadUri),
+            UriFault::NoMemory => FetchFault::NoMemory,
+        }
+    }
+}
+
+impl From<FileFault> for FetchFault {
+    ghost use Rattle.std.specs.Prelude.{◌≡◌};
+    ghost use Rattle.nx_run.specs.Script.{fetch_fault_of_files};
+
+    ghost from_gives = { λ given fault. fault ≡ fetch_fault_of_files given };
+
+    fn from(fault: FileFault) -> FetchFault {
+        match fault {
+            FileFault::Failed => FetchFault::Refused(ScriptRefusal::Failed),
+            FileFault::NoMemory => FetchFault::NoMemory,
+        }
+    }
 }
 
 impl ScriptRefusal {
@@ -48,32 +76,26 @@ impl ScriptRefusal {
 }
 
 /// The script under the URI that the word denotes.
-pub fn fetch_script<F: Files>(
-    alloc: Global,
-    word: &str,
-    files: &mut F,
-) -> Result<Bytes, ScriptFault>
+pub fn fetch_script<F: Files>(alloc: Global, word: &str, files: &mut F) -> Result<Bytes, FetchFault>
     ensures { FetchesScript word.now (files_state (F.told files.old) (F.faults files.old))
         (files_state (F.told files.new) (F.faults files.new)) result }
 {
-    let uri = match uri::join(alloc, WORK_FOLDER, word) {
-        Ok(uri) => uri,
-        Err(UriFault::Bad) => return Err(ScriptFault::Refused(ScriptRefusal::BadUri)),
-        Err(UriFault::NoMemory) => return Err(ScriptFault::NoMemory),
-    };
-    let found = match files.fetch(alloc, text_of(&uri)) {
-        Ok(found) => found,
-        Err(FileFault::Failed) => return Err(ScriptFault::Refused(ScriptRefusal::Failed)),
-        Err(FileFault::NoMemory) => return Err(ScriptFault::NoMemory),
-    };
-    let Some(script) = found else {
-        return Err(ScriptFault::Refused(ScriptRefusal::Absent));
-    };
-    match str::from_utf8(script.as_slice()) {
-        Ok(_) => Ok(script),
+    let uri = uri::join(alloc, WORK_FOLDER, word)?;
+    match files.fetch(alloc, text_of(&uri))? {
+        Some(script) => text_alone(script),
+        None => Err(FetchFault::Refused(ScriptRefusal::Absent)),
+    }
+}
+
+/// The bytes, where they are text.
+fn text_alone(bytes: Bytes) -> Result<Bytes, FetchFault>
+    ensures { IsTextAlone bytes result }
+{
+    match str::from_utf8(bytes.as_slice()) {
+        Ok(_) => Ok(bytes),
         Err(_) => {
-            let at = text_front(script.as_slice());
-            Err(ScriptFault::Refused(ScriptRefusal::NotUtf8(at)))
+            let at = text_front(bytes.as_slice());
+            Err(FetchFault::Refused(ScriptRefusal::NotUtf8(at)))
         }
     }
 }

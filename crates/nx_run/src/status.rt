@@ -3,6 +3,8 @@
 ghost use Rattle.std.specs.Prelude.{◌≡◌, ℕ};
 ghost use Rattle.nx_run.specs.Codes.{code_of};
 
+use nx_host::out::OutFault;
+
 /// How a run ended.
 #[derive(Clone, Copy, Debug, PartialEq, Eq)]
 pub enum Status {
@@ -32,6 +34,21 @@ impl Status {
             Status::Script => 3,
             Status::Output => 4,
             Status::Memory => 5,
+        }
+    }
+}
+
+impl From<OutFault> for Status {
+    ghost use Rattle.std.specs.Prelude.{◌≡◌};
+    ghost use Rattle.nx_run.specs.Codes.{stop_status};
+
+    ghost from_gives = { λ fault status. status ≡ stop_status fault };
+
+    /// The status of a run that stops because the output refused a write.
+    fn from(fault: OutFault) -> Status {
+        match fault {
+            OutFault::Failed => Status::Output,
+            OutFault::NoMemory => Status::Memory,
         }
     }
 }

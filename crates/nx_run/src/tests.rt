@@ -13,7 +13,6 @@ use nx_host::memory_out::{MemOut, SureOut};
 use nx_host::out::Out;
 use std::alloc::Global;
 use std::marker::Brand;
-use std::process::Abort;
 use std::sync::ledger::{Blank, Ledger};
 use std::test::Fail;
 
@@ -149,6 +148,23 @@ const ROWS: [Row; 24] = [
     },
 ];
 
+/// The documents beside a script, of which two are no text.
+const DOCUMENTS: [(&str, &[u8]); 3] = [
+    ("file:///work/b.xml", b"a\xE2\x82A"),
+    ("file:///work/c.xml", b"a\xE2\x82"),
+    ("file:///work/d.xml", b"<d/>\n"),
+];
+
+/// The script, and documents beside it.
+fn files_with(alloc: Global, script: &[u8]) -> Result<SureFiles, NoMemory> {
+    let mut files = SureFiles::new(alloc);
+    files.add(SCRIPT, script)?;
+    for (uri, bytes) in &DOCUMENTS {
+        files.add(*uri, *bytes)?;
+    }
+    Ok(files)
+}
+
 fn words_of(alloc: Global, texts: &[&str]) -> Result<Vec<Bytes>, NoMemory> {
     let mut words = Vec::new(alloc);
     for text in texts {
@@ -157,14 +173,16 @@ fn words_of(alloc: Global, texts: &[&str]) -> Result<Vec<Bytes>, NoMemory> {
     Ok(words)
 }
 
-/// A run that counts no tokens for anyone.
+/// A run whose count of tokens nobody asks for; none where there is no memory for the words.
 fn run_words<F: Files, O: Out>(
     alloc: Global,
-    words: &[Bytes],
+    texts: &[&str],
     files: &mut F,
     out: &mut O,
-) -> Status {
-    run_counting::<F, O, Brand>(alloc, words, files, out, Blank::new(1))
+) -> Option<Status> {
+    let words = words_of(alloc, texts).ok()?;
+    let blank = Blank::new(1);
+    Some(run_counting::<F, O, Brand>(alloc, words.as_slice(), files, out, blank))
 }
 
 fn run_counting<F: Files, O: Out, L: Ledger>(
@@ -182,76 +200,88 @@ fn run_counting<F: Files, O: Out, L: Ledger>(
     run(alloc, words, files, out, &mut steps)
 }
 
-fn run_script<F: Files, O: Out>(
-    alloc: Global,
-    files: &mut F,
-    out: &mut O,
-) -> Result<Status, NoMemory> {
-    let words = words_of(alloc, &["run.nxs"])?;
-    Ok(run_words(alloc, words.as_slice(), files, out))
+/// Whether a run wrote and ended as a row says.
+fn compared(written: &[u8], ended: Option<Status>, output: &str, status: Status) -> &'static str {
+    if written != output.as_bytes() {
+        "written otherwise"
+    } else if ended != Some(status) {
+        "ended otherwise"
+    } else {
+        "as told"
+    }
 }
 
-/// The script, and documents beside it.
-fn files_with(alloc: Global, script: &[u8]) -> Result<SureFiles, NoMemory> {
-    let mut files = SureFiles::new(alloc);
-    files.add(SCRIPT, script)?;
-    files.add("file:///work/b.xml", &[0x61, 0xe2, 0x82, 0x41])?;
-    files.add("file:///work/c.xml", &[0x61, 0xe2, 0x82])?;
-    files.add("file:///work/d.xml", b"<d/>\n")?;
-    Ok(files)
+/// What becomes of a run with these words, where this is the script.
+fn played(
+    alloc: Global,
+    texts: &[&str],
+    script: &[u8],
+    output: &str,
+    status: Status,
+) -> &'static str {
+    let Ok(mut files) = files_with(alloc, script) else {
+        return "no memory";
+    };
+    let mut out = SureOut::new(alloc);
+    let ended = run_words(alloc, texts, &mut files, &mut out);
+    compared(out.bytes(), ended, output, status)
 }
 
 #[test]
-fn scripts_print(rt: HostRuntime) -> Result<(), Fail> {
+fn scripts_print(rt: HostRuntime) {
     for row in &ROWS {
         let script = row.script;
-        let mut files = files_with(rt.alloc(), script.as_bytes())?;
-        let mut out = SureOut::new(rt.alloc());
-        let status = run_script(rt.alloc(), &mut files, &mut out)?;
-        assert_eq!(rt; out.bytes(), row.output.as_bytes(), "{script:?}");
-        assert_eq!(rt; status, row.status, "{script:?}");
-    }
-    Ok(())
-}
-
-/// Each write of each script fails in turn: what was written is a front of what the sure run writes.
-#[test]
-fn failing_writes_stop(rt: HostRuntime) -> Result<(), Fail> {
-    for row in &ROWS {
-        for number in 1..20u64 {
-            let mut files = files_with(rt.alloc(), row.script.as_bytes())?;
-            let mut out = MemOut::new(rt.alloc(), &[number])?;
-            let status = run_script(rt.alloc(), &mut files, &mut out)?;
-            assert!(rt; row.output.as_bytes().starts_with(out.bytes()));
-            if out.bytes() == row.output.as_bytes() && status == row.status {
-                break;
-            }
-            assert_eq!(rt; status, Status::Output);
-        }
-    }
-    Ok(())
-}
-
-/// Where memory is wanting, the output is the sure run's up to the first command that is refused for it,
-/// or up to where the run stops. With ample memory this is the sure run itself; it tells more where an
-/// allocation is made to fail.
-#[test]
-fn want_of_memory_is_told(rt: HostRuntime) -> Result<(), Fail> {
-    for row in &ROWS {
-        let Ok(mut files) = files_with(rt.alloc(), row.script.as_bytes()) else {
-            continue;
-        };
-        let mut out = SureOut::new(rt.alloc());
-        let Ok(status) = run_script(rt.alloc(), &mut files, &mut out) else {
-            continue;
-        };
-        let told = before_want_of_memory(out.bytes());
-        assert!(rt; row.output.as_bytes().starts_with(told));
         assert!(rt;
-            status == Status::Memory || (told.len() == row.output.len() && status == row.status)
+            played(
+                rt.alloc(),
+                &["run.nxs"],
+                script.as_bytes(),
+                row.output,
+                row.status
+            ) == "as told",
+            "{script:?}"
         );
     }
-    Ok(())
+}
+
+/// Whether a run of which a write failed wrote a front of what the row says, and stopped there.
+fn stopped(written: &[u8], ended: Option<Status>, row: &Row) -> &'static str {
+    if ended == Some(Status::Output) && row.output.as_bytes().starts_with(written) {
+        "stopped"
+    } else {
+        compared(written, ended, row.output, row.status)
+    }
+}
+
+/// What becomes of a row where the write with this number fails.
+fn played_failing(alloc: Global, row: &Row, number: u64) -> &'static str {
+    let Ok(mut files) = files_with(alloc, row.script.as_bytes()) else {
+        return "no memory";
+    };
+    let Ok(mut out) = MemOut::new(alloc, &[number]) else {
+        return "no memory";
+    };
+    let ended = run_words(alloc, &["run.nxs"], &mut files, &mut out);
+    stopped(out.bytes(), ended, row)
+}
+
+/// Whether a row stops at each of its writes where that fails, and at no later one.
+fn stops_at_writes(alloc: Global, row: &Row) -> bool {
+    for number in 1..20u64 {
+        let answer = played_failing(alloc, row, number);
+        if answer != "stopped" {
+            return answer == "as told";
+        }
+    }
+    false
+}
+
+#[test]
+fn failing_writes_stop(rt: HostRuntime) {
+    for row in &ROWS {
+        let script = row.script;
+        assert!(rt; stops_at_writes(rt.alloc(), row), "{script:?}");
+    }
 }
 
 /// The output up to the first line that refuses a command for want of memory.
@@ -270,86 +300,114 @@ fn before_want_of_memory(output: &[u8]) -> &[u8] {
     }
 }
 
+/// Whether a run wrote what the row says up to where memory was wanting, and told that.
+fn told_of_memory(written: &[u8], ended: Option<Status>, row: &Row) -> bool {
+    let told = before_want_of_memory(written);
+    if ended.is_none() || ended == Some(Status::Memory) {
+        row.output.as_bytes().starts_with(told)
+    } else {
+        compared(told, ended, row.output, row.status) == "as told"
+    }
+}
+
+/// Whether a row that is played does so.
+fn tells_of_memory(alloc: Global, row: &Row) -> bool {
+    let Ok(mut files) = files_with(alloc, row.script.as_bytes()) else {
+        return true;
+    };
+    let mut out = SureOut::new(alloc);
+    let ended = run_words(alloc, &["run.nxs"], &mut files, &mut out);
+    told_of_memory(out.bytes(), ended, row)
+}
+
+/// With ample memory this is the sure run; it tells more where an allocation is made to fail.
+#[test]
+fn want_of_memory_is_told(rt: HostRuntime) {
+    for row in &ROWS {
+        let script = row.script;
+        assert!(rt; tells_of_memory(rt.alloc(), row), "{script:?}");
+    }
+}
+
+/// Whether the files hold this text under the URI.
+fn holds(alloc: Global, files: &mut SureFiles, uri: &str, text: &str) -> bool {
+    match files.fetch(alloc, uri) {
+        Ok(Some(bytes)) => bytes.as_slice() == text.as_bytes(),
+        _ => false,
+    }
+}
+
 #[test]
 fn saved_texts_are_there(rt: HostRuntime) -> Result<(), Fail> {
-    let mut files = files_with(rt.alloc(), ROWS[10].script.as_bytes())?;
-    let mut out = SureOut::new(rt.alloc());
-    run_script(rt.alloc(), &mut files, &mut out)?;
-    for (uri, text) in [
-        ("file:///work/a%20b.xml", "xy"),
-        ("file:///work/o.xml", "x"),
-        (SCRIPT, ROWS[10].script),
-    ] {
-        let bytes = files.fetch(rt.alloc(), uri)?.ok_or("no file")?;
-        assert_eq!(rt; bytes.as_slice(), text.as_bytes(), "{uri}");
+    let alloc = rt.alloc();
+    let script = ROWS[10].script;
+    let mut files = files_with(alloc, script.as_bytes())?;
+    let mut out = SureOut::new(alloc);
+    let _ended = run_words(alloc, &["run.nxs"], &mut files, &mut out);
+    assert!(rt; holds(alloc, &mut files, "file:///work/a%20b.xml", "xy"));
+    assert!(rt; holds(alloc, &mut files, "file:///work/o.xml", "x"));
+    assert!(rt; holds(alloc, &mut files, SCRIPT, script));
+    Ok(())
+}
+
+const FILING: &str = "insert 0 \"x\"\nsave \"o.xml\"\nopen \"run.nxs\"\ndelete 1 59\nprint\n";
+
+/// What becomes of that script where the call on files with this number fails.
+fn filed_failing(alloc: Global, number: u64, output: &str, status: Status) -> &'static str {
+    let Ok(mut files) = MemFiles::new(alloc, &[number]) else {
+        return "no memory";
+    };
+    if files.add(SCRIPT, FILING.as_bytes()).is_err() {
+        return "no memory";
     }
-    Ok(())
+    let mut out = SureOut::new(alloc);
+    let ended = run_words(alloc, &["run.nxs"], &mut files, &mut out);
+    compared(out.bytes(), ended, output, status)
 }
 
-/// Each call on files fails in turn.
+/// Each call on files that fails, what is printed and how the run ends.
+const FAILING: [(u64, &str, Status); 4] = [
+    (1, "script refused: Failed\n", Status::Script),
+    (2, "line 2 refused: Failed\ni\n", Status::Refused),
+    (
+        3,
+        "line 3 refused: Failed\nline 4 refused: BadPosition 59 1\nx\n",
+        Status::Refused,
+    ),
+    (4, "i\n", Status::Done),
+];
+
 #[test]
-fn failing_files_are_told(rt: HostRuntime) -> Result<(), Fail> {
-    let script = "insert 0 \"x\"\nsave \"o.xml\"\nopen \"run.nxs\"\ndelete 1 59\nprint\n";
-    for (number, output, status) in [
-        (1u64, "script refused: Failed\n", Status::Script),
-        (2, "line 2 refused: Failed\ni\n", Status::Refused),
-        (
-            3,
-            "line 3 refused: Failed\nline 4 refused: BadPosition 59 1\nx\n",
-            Status::Refused,
-        ),
-        (4, "i\n", Status::Done),
-    ] {
-        let mut files = MemFiles::new(rt.alloc(), &[number])?;
-        files.add(SCRIPT, script.as_bytes())?;
-        let mut out = SureOut::new(rt.alloc());
-        let ended = run_script(rt.alloc(), &mut files, &mut out)?;
-        assert_eq!(rt; out.bytes(), output.as_bytes());
-        assert_eq!(rt; ended, status);
+fn failing_files_are_told(rt: HostRuntime) {
+    for (number, output, status) in &FAILING {
+        assert_eq!(rt;
+            filed_failing(rt.alloc(), *number, *output, *status),
+            "as told",
+            "{output:?}"
+        );
     }
-    Ok(())
 }
 
-/// Words and scripts that name nothing to run.
+/// Words that name no script that can be read, and what is printed. The script that is there is no text.
+const MISNAMED: [(&[&str], &str, Status); 7] = [
+    (&[], USAGE_LINE, Status::Words),
+    (&["--help"], USAGE_LINE, Status::Words),
+    (&["run.nxs", "more"], USAGE_LINE, Status::Words),
+    (&[""], USAGE_LINE, Status::Words),
+    (&["none.nxs"], "script refused: Absent\n", Status::Script),
+    (&["http://["], "script refused: BadUri\n", Status::Script),
+    (&["run.nxs"], "script refused: NotUtf8 3\n", Status::Script),
+];
+
+const USAGE_LINE: &str = "usage: nxml [--schema URI] [--rules URI] SCRIPT\n";
+
 #[test]
-fn what_is_no_script_is_refused(rt: HostRuntime) -> Result<(), Fail> {
-    let usage = "usage: nxml [--schema URI] [--rules URI] SCRIPT\n";
-    let none: [&str; 0] = [];
-    refused(&rt, &none, usage, Status::Words)?;
-    refused(&rt, &["--help"], usage, Status::Words)?;
-    refused(&rt, &["run.nxs", "more"], usage, Status::Words)?;
-    refused(&rt, &[""], usage, Status::Words)?;
-    refused(
-        &rt,
-        &["none.nxs"],
-        "script refused: Absent\n",
-        Status::Script,
-    )?;
-    refused(
-        &rt,
-        &["http://["],
-        "script refused: BadUri\n",
-        Status::Script,
-    )?;
-    refused(
-        &rt,
-        &["run.nxs"],
-        "script refused: NotUtf8 3\n",
-        Status::Script,
-    )
-}
-
-fn refused<R: AllocGlobal + Abort>(
-    rt: &R,
-    texts: &[&str],
-    output: &str,
-    status: Status,
-) -> Result<(), Fail> {
-    let words = words_of(rt.alloc(), texts)?;
-    let mut files = files_with(rt.alloc(), &[b'p', 0xe2, 0x82])?;
-    let mut out = SureOut::new(rt.alloc());
-    let ended = run_words(rt.alloc(), words.as_slice(), &mut files, &mut out);
-    assert_eq!(rt; out.bytes(), output.as_bytes());
-    assert_eq!(rt; ended, status);
-    Ok(())
+fn what_is_no_script_is_refused(rt: HostRuntime) {
+    for (texts, output, status) in &MISNAMED {
+        assert_eq!(rt;
+            played(rt.alloc(), *texts, b"p\xE2\x82", *output, *status),
+            "as told",
+            "{output:?}"
+        );
+    }
 }

@@ -11,8 +11,8 @@ use Rattle.nx_base.specs.Text.{IsPlace}
 use Rattle.nx_base.specs.Tokens.{Cut, cut_as, begins_with, bytes_up_to, bad_rest, tags, tag, markup, order_mark, first_token, cut, IsOfKind}
 use Rattle.nx_base.specs.declared.token.TokenKind.TheVariants as kinds
 use Rattle.nx_scan.specs.Tag.{left_of}
-use Rattle.nx_scan.specs.declared.tag.Seen.{Seen}
-use Rattle.nx_scan.specs.declared.tag.Seen.TheVariants as seen
+use Rattle.nx_scan.specs.declared.tag.TagState.{TagState}
+use Rattle.nx_scan.specs.declared.tag.TagState.TheVariants as seen
 use Rattle.nx_scan.proofs.BadEnds.{bad_rest-less, bad_rest-greater, bad_rest-further, bad_rest-nil}
 use Rattle.nx_scan.proofs.Every.{cut-fits}
 use Rattle.nx_scan.proofs.Fitting.{FitsIn, bad_rest-border}
@@ -75,7 +75,7 @@ take-behind (x ∷ xs) ys n =
     ap (λ k. take k (x ∷ (xs ++ ys))) (let e : suc (length xs) + n ≡ suc (length xs + n) = omega arith in e) ∙ ap (λ zs. x ∷ zs) (take-behind xs ys n)
 
 -- a tag, or what stands in its place
-abbrev own : Seen → List ℕ → Type 0
+abbrev own : TagState → List ℕ → Type 0
 own read bs = tag (left_of read) (take (tag (left_of read) bs).len bs) ≡ tag (left_of read) bs
 
 lost-own : (bs : List ℕ) → own seen.Lost bs
@@ -84,7 +84,7 @@ lost-own bs =
     ap (λ n. tag (left_of seen.Lost) (take n bs)) len ∙ tag-never (take (bad_rest bs) bs)
     ∙ ap (cut_as kinds.Bad) (bad_rest-own bs) ∙ sym (tag-never bs)
 
-own-by : (bs : List ℕ) (read : Seen) → (IsOpen read → own read bs) → Status read → own read bs
+own-by : (bs : List ℕ) (read : TagState) → (IsOpen read → own read bs) → Status read → own read bs
 own-by bs read further (is_open o) = further o
 own-by bs read further (is_whole kind w) = w.cut (take (tag (left_of read) bs).len bs) ∙ sym (w.cut bs)
 own-by bs seen.Lost further is_lost = lost-own bs
@@ -93,7 +93,7 @@ module _ (c : ℕ) (cs : List ℕ) (u : scalars (c ∷ cs) ≡ true) where
   text_utf8 : IsUtf8 (encode c ++ encodes cs)
   text_utf8 = (c ∷ cs, (u, refl))
 
-  off-own : (read : Seen) → IsOpen read →
+  off-own : (read : TagState) → IsOpen read →
       ((more : List ℕ) → IsUtf8 (encode c ++ more) → tag (left_of read) (encode c ++ more) ≡ cut_as kinds.Bad (bad_rest (encode c ++ more))) →
       own read (encode c ++ encodes cs)
   off-own read o is =
@@ -117,7 +117,7 @@ module _ (c : ℕ) (cs : List ℕ) (u : scalars (c ∷ cs) ≡ true) where
             ∙ ap (cut_as kinds.Bad) (bad_rest-nil ∙ sym zeros) ∙ sym here)
       ]
 
-  walked-own : (read : Seen) → IsOpen read → ((behind : Seen) → own behind (encodes cs)) → Walk read c → own read (encode c ++ encodes cs)
+  walked-own : (read : TagState) → IsOpen read → ((behind : TagState) → own behind (encodes cs)) → Walk read c → own read (encode c ++ encodes cs)
   walked-own read o further (off is) = off-own read o is
   walked-own read o further (on behind is) =
       let n = (tag (left_of behind) (encodes cs)).len in
@@ -131,7 +131,7 @@ module _ (c : ℕ) (cs : List ℕ) (u : scalars (c ∷ cs) ≡ true) where
       ∙ ap (tag (left_of read)) (take-behind (encode c) (encodes cs) n)
       ∙ is (take n (encodes cs)) first_utf8 ∙ ap (later (length (encode c))) (further behind) ∙ sym here
 
-tag-own : (cs : List ℕ) (read : Seen) → scalars cs ≡ true → own read (encodes cs)
+tag-own : (cs : List ℕ) (read : TagState) → scalars cs ≡ true → own read (encodes cs)
 tag-own [] read u =
     own-by [] read (λ o. ap (tag (left_of read)) (take-nil (tag (left_of read) []).len)) (status read)
 tag-own (c ∷ cs) read u =

@@ -4,8 +4,8 @@ use Rattle.std.specs.Prelude.{◌==◌}
 use Rattle.std.proofs.lemmas.Bool.{and_parts, or_cases, cases_Bool, cases_eq, ne_eqb, leb-true, true≢false}
 use Rattle.nx_base.specs.Characters.{is_space, is_name_start, is_name_char}
 use Rattle.nx_scan.specs.Tag.{left_of, left_after}
-use Rattle.nx_scan.specs.declared.tag.Seen.{Seen}
-use Rattle.nx_scan.specs.declared.tag.Seen.TheVariants as seen
+use Rattle.nx_scan.specs.declared.tag.TagState.{TagState}
+use Rattle.nx_scan.specs.declared.tag.TagState.TheVariants as seen
 
 -- a character of a class is none that the class doesn't have
 differs : (p : ℕ → Bool) (c d : ℕ) → p c ≡ true → p d ≡ false → (c == d) ≡ false
@@ -72,11 +72,11 @@ start_is c h = record {
 }
 
 -- behind the character c, what was read as `before` is read as `next`
-abbrev pub Reads : Seen → ℕ → Seen → Type 0
+abbrev pub Reads : TagState → ℕ → TagState → Type 0
 Reads before c next = left_of next ≡ left_after (left_of before) c
 
 -- as behind what was read as `other`
-abbrev pub ReadsAs : Seen → Seen → ℕ → Type 0
+abbrev pub ReadsAs : TagState → TagState → ℕ → Type 0
 ReadsAs before other c = left_after (left_of before) c ≡ left_after (left_of other) c
 
 pub name-name : (c : ℕ) → is_name_char c ≡ true → Reads seen.Name c seen.Name
@@ -220,11 +220,11 @@ unfolding left_of left_after
 end-gap_lost c h p = simp (h, ne_eqb c 62 p)
 
 -- nothing follows a whole tag, or what is none
-pub whole_lost : (read : Seen) (c : ℕ) →
+pub whole_lost : (read : TagState) (c : ℕ) →
     (read ≡ seen.Start) ⊎ ((read ≡ seen.Empty) ⊎ ((read ≡ seen.End) ⊎ (read ≡ seen.Lost))) → Reads read c seen.Lost
 unfolding left_of left_after
 whole_lost read c is =
-    let P : Seen → Type 0 = λ s. Reads s c seen.Lost in
+    let P : TagState → Type 0 = λ s. Reads s c seen.Lost in
     elim is [
       | inl e ↦ subst P (sym e) refl
       | inr x ↦ elim x [
@@ -234,11 +234,11 @@ whole_lost read c is =
     ]
 
 -- so each character leads from what was read to what is read then
-pub record Next (read : Seen) (c : ℕ) : Type 0 where
-  pub behind : Seen
+pub record Next (read : TagState) (c : ℕ) : Type 0 where
+  pub behind : TagState
   pub reads : Reads read c behind
 
-next_as : (read other : Seen) (c : ℕ) → ReadsAs read other c → Next other c → Next read c
+next_as : (read other : TagState) (c : ℕ) → ReadsAs read other c → Next other c → Next read c
 next_as read other c same n = record { behind = n.behind; reads = n.reads ∙ sym same }
 
 next_value : (c : ℕ) → Next seen.Value c
@@ -268,7 +268,7 @@ next_end_gap c =
           [ inl e ↦ record { behind = seen.End; reads = end-close c e } | inr p ↦ record { behind = seen.Lost; reads = end-gap_lost c n p } ]
     ]
 
-pub next : (read : Seen) (c : ℕ) → Next read c
+pub next : (read : TagState) (c : ℕ) → Next read c
 next seen.Open c =
     elim (cases_eq c 47) [
       | inl e ↦ record { behind = seen.EndOpen; reads = open-slash c e }

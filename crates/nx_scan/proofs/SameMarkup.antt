@@ -10,7 +10,7 @@ use Rattle.nx_base.specs.Tokens.{Cut, cut_as, begins_with, closed, doctype, begi
 use Rattle.nx_base.specs.declared.token.TokenKind.{TokenKind}
 use Rattle.nx_base.specs.declared.token.TokenKind.TheVariants as kinds
 use Rattle.nx_scan.specs.Tag.{left_of, left_after}
-use Rattle.nx_scan.specs.declared.tag.Seen.TheVariants as seen
+use Rattle.nx_scan.specs.declared.tag.TagState.TheVariants as seen
 use Rattle.nx_scan.proofs.Marks.{begins_with-split, mark_reads, byte-here, here-within}
 use Rattle.nx_scan.proofs.Rows.{behind_mark}
 use Rattle.nx_scan.proofs.SameTags.{border-behind, tag-same}

@@ -8,8 +8,8 @@ use Rattle.std.proofs.lemmas.Str.{IsUtf8-take, IsUtf8-past_char, encode_same}
 use Rattle.nx_base.specs.Tokens.{Cut, cut_as, bad_rest, tag}
 use Rattle.nx_base.specs.declared.token.TokenKind.TheVariants as kinds
 use Rattle.nx_scan.specs.Tag.{left_of}
-use Rattle.nx_scan.specs.declared.tag.Seen.{Seen}
-use Rattle.nx_scan.specs.declared.tag.Seen.TheVariants as seen
+use Rattle.nx_scan.specs.declared.tag.TagState.{TagState}
+use Rattle.nx_scan.specs.declared.tag.TagState.TheVariants as seen
 use Rattle.nx_scan.proofs.Stable.{bad_rest-same}
 use Rattle.nx_scan.proofs.TagEnds.{later, IsOpen}
 use Rattle.nx_scan.proofs.Walking.{Status, is_open, is_whole, is_lost, status, Walk, on, off, walk, tag-never}
@@ -71,8 +71,8 @@ border-behind front more m le border =
 -- a tag, or what stands in its place
 module _ (c : ℕ) (cs : List ℕ) (other : List ℕ) (m : ℕ) (u : scalars (c ∷ cs) ≡ true) (other_utf8 : IsUtf8 other)
     (border : IsCharBoundary (encodes (c ∷ cs)) m) (same : take m other ≡ take m (encodes (c ∷ cs))) (some : 0 < m) where
-  walked-same : (read : Seen) → (tag (left_of read) (encodes (c ∷ cs))).len < m →
-      ((behind : Seen) (rest : List ℕ) (k : ℕ) → IsUtf8 rest → IsCharBoundary (encodes cs) k → take k rest ≡ take k (encodes cs) →
+  walked-same : (read : TagState) → (tag (left_of read) (encodes (c ∷ cs))).len < m →
+      ((behind : TagState) (rest : List ℕ) (k : ℕ) → IsUtf8 rest → IsCharBoundary (encodes cs) k → take k rest ≡ take k (encodes cs) →
       (tag (left_of behind) (encodes cs)).len < k → tag (left_of behind) rest ≡ tag (left_of behind) (encodes cs)) →
       Walk read c → tag (left_of read) other ≡ tag (left_of read) (encodes (c ∷ cs))
   walked-same read lt further (on behind is) =
@@ -97,7 +97,7 @@ module _ (c : ℕ) (cs : List ℕ) (other : List ℕ) (m : ℕ) (u : scalars (c 
       ∙ ap (cut_as kinds.Bad) (bad_rest-same (encode c ++ encodes cs) other m same border.0 (omega arith))
       ∙ sym here
 
-tag-same_by : (cs : List ℕ) (read : Seen) (other : List ℕ) (m : ℕ) → IsCharBoundary (encodes cs) m → take m other ≡ take m (encodes cs) →
+tag-same_by : (cs : List ℕ) (read : TagState) (other : List ℕ) (m : ℕ) → IsCharBoundary (encodes cs) m → take m other ≡ take m (encodes cs) →
     (tag (left_of read) (encodes cs)).len < m → (IsOpen read → tag (left_of read) other ≡ tag (left_of read) (encodes cs)) → Status read →
     tag (left_of read) other ≡ tag (left_of read) (encodes cs)
 tag-same_by cs read other m border same lt further (is_open o) = further o
@@ -106,7 +106,7 @@ tag-same_by cs seen.Lost other m border same lt further is_lost =
     let len : (tag (left_of seen.Lost) (encodes cs)).len ≡ bad_rest (encodes cs) = ap (λ (t : Cut). t.len) (tag-never (encodes cs)) in
     tag-never other ∙ ap (cut_as kinds.Bad) (bad_rest-same (encodes cs) other m same border.0 (omega arith)) ∙ sym (tag-never (encodes cs))
 
-pub tag-same : (cs : List ℕ) (read : Seen) (other : List ℕ) (m : ℕ) → scalars cs ≡ true → IsUtf8 other → IsCharBoundary (encodes cs) m →
+pub tag-same : (cs : List ℕ) (read : TagState) (other : List ℕ) (m : ℕ) → scalars cs ≡ true → IsUtf8 other → IsCharBoundary (encodes cs) m →
     take m other ≡ take m (encodes cs) → (tag (left_of read) (encodes cs)).len < m → tag (left_of read) other ≡ tag (left_of read) (encodes cs)
 tag-same [] read other m u other_utf8 border same lt = let fits = border.0 in absurd (omega arith)
 tag-same (c ∷ cs) read other m u other_utf8 border same lt =

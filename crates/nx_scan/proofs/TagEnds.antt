@@ -16,8 +16,8 @@ use Rattle.nx_text.specs.Reading.{StandsAt, HasNoCharAt}
 use Rattle.nx_scan.specs.Ending.{EndsAt}
 use Rattle.nx_scan.specs.Tag.{left_of, left_after, in_end}
 use Rattle.nx_scan.specs.declared.scan.End.{End}
-use Rattle.nx_scan.specs.declared.tag.Seen.{Seen}
-use Rattle.nx_scan.specs.declared.tag.Seen.TheVariants as seen
+use Rattle.nx_scan.specs.declared.tag.TagState.{TagState}
+use Rattle.nx_scan.specs.declared.tag.TagState.TheVariants as seen
 
 -- the cut of a token that began so many bytes earlier
 abbrev pub later : ℕ → Cut → Cut
@@ -188,7 +188,7 @@ unfolding tag left_of
 tag-is_end rest = tag_or-whole kinds.End rest (tag_or kinds.Start never rest (tag_or kinds.Empty never rest (bad (left_of seen.End) rest)))
 
 -- what was read is a whole tag of this kind
-pub record IsWhole (read : Seen) (kind : TokenKind) : Type 0 where
+pub record IsWhole (read : TagState) (kind : TokenKind) : Type 0 where
   pub possible : can_go_on (left_of read) ≡ true
   pub cut : (rest : List ℕ) → tag (left_of read) rest ≡ cut_as kind 0
 
@@ -205,11 +205,11 @@ unfolding left_of
 end-whole = record { possible = refl; cut = tag-is_end }
 
 -- what was read is no whole tag, and not lost
-pub record IsOpen (read : Seen) : Type 0 where
+pub record IsOpen (read : TagState) : Type 0 where
   pub part : IsPart (left_of read)
   pub possible : can_go_on (left_of read) ≡ true
 
-pub is_open : (read : Seen) → (read ≡ seen.Start → ⊥) → (read ≡ seen.Empty → ⊥) → (read ≡ seen.End → ⊥) → (read ≡ seen.Lost → ⊥) → IsOpen read
+pub is_open : (read : TagState) → (read ≡ seen.Start → ⊥) → (read ≡ seen.Empty → ⊥) → (read ≡ seen.End → ⊥) → (read ≡ seen.Lost → ⊥) → IsOpen read
 unfolding left_of
 is_open seen.Open a b c d = record { part = record { end = refl; start = refl; empty = refl }; possible = refl }
 is_open seen.Name a b c d = record { part = record { end = refl; start = refl; empty = refl }; possible = refl }
@@ -257,7 +257,7 @@ module _ (text : List ℕ) (at place c : ℕ) (left : Tags) (utf8 : IsUtf8 text)
       ∙ later-later (place - at) (length (encode c)) (place + len_utf8 c - at) (tag (left_after left c) here.rest) (let k = length-encode c in omega arith)
       ∙ ap (λ rest. later (place + len_utf8 c - at) (tag (left_after left c) rest)) (sym (drop_past_char text here.rest place c here.spelled))
 
-  pub step-on : (read : Seen) → left_of read ≡ left_after left c → IsOpen read → (behind_c : ℕ) → behind_c ≡ place + len_utf8 c →
+  pub step-on : (read : TagState) → left_of read ≡ left_after left c → IsOpen read → (behind_c : ℕ) → behind_c ≡ place + len_utf8 c →
       record {
         border : IsPlace text behind_c;
         behind : at ≤ behind_c;
@@ -283,7 +283,7 @@ module _ (text : List ℕ) (at place c : ℕ) (left : Tags) (utf8 : IsUtf8 text)
       (sym (so_far ∙ ap (later (place - at)) (tag-lost left c (drop place text) (chars here.rest) part lost characters)))
       (ends-later text at place (cut_as kinds.Bad (bad_rest (drop place text))) found behind e)
 
-  pub is-whole : (read : Seen) (kind : TokenKind) → IsWhole read kind → left_of read ≡ left_after left c →
+  pub is-whole : (read : TagState) (kind : TokenKind) → IsWhole read kind → left_of read ≡ left_after left c →
       (found : End) → found.kind ≡ kind → found.place ≡ place + len_utf8 c → EndsAt text at (tag tags (drop at text)) found
   is-whole read kind whole next found kind_is place_is =
       let cut : tag tags (drop at text) ≡ later (place + len_utf8 c - at) (cut_as kind 0) =

@@ -10,19 +10,19 @@ use Rattle.nx_base.specs.Tokens.{Cut, cut_as, bad_rest, bad, begins_tag, tag_or,
 use Rattle.nx_base.specs.declared.token.TokenKind.{TokenKind}
 use Rattle.nx_base.specs.declared.token.TokenKind.TheVariants as kinds
 use Rattle.nx_scan.specs.Tag.{left_of, left_after, in_end}
-use Rattle.nx_scan.specs.declared.tag.Seen.{Seen}
-use Rattle.nx_scan.specs.declared.tag.Seen.TheVariants as seen
+use Rattle.nx_scan.specs.declared.tag.TagState.{TagState}
+use Rattle.nx_scan.specs.declared.tag.TagState.TheVariants as seen
 use Rattle.nx_scan.proofs.Fitting.{bad_rest-border}
 use Rattle.nx_scan.proofs.Reading.{next}
 use Rattle.nx_scan.proofs.TagEnds.{later, IsOpen, IsWhole, can_go_on, start-whole, empty-whole, end-whole, tag-step, tag-lost, tag-end, tag_or-never, lost_left}
 
 -- what was read is open, whole or lost
-pub data Status : Seen → Type 0 where
-  is_open : {read : Seen} → IsOpen read → Status read
-  is_whole : {read : Seen} (kind : TokenKind) → IsWhole read kind → Status read
+pub data Status : TagState → Type 0 where
+  is_open : {read : TagState} → IsOpen read → Status read
+  is_whole : {read : TagState} (kind : TokenKind) → IsWhole read kind → Status read
   is_lost : Status seen.Lost
 
-pub status : (read : Seen) → Status read
+pub status : (read : TagState) → Status read
 unfolding left_of
 status seen.Open = is_open (record { part = record { end = refl; start = refl; empty = refl }; possible = refl })
 status seen.Name = is_open (record { part = record { end = refl; start = refl; empty = refl }; possible = refl })
@@ -63,26 +63,26 @@ tag-never rest =
     ∙ bad-never rest
 
 -- a character is read: the tag goes on behind it, or is lost
-pub data Walk (read : Seen) (c : ℕ) : Type 0 where
-  on : (behind : Seen) → ((more : List ℕ) → IsUtf8 (encode c ++ more) →
+pub data Walk (read : TagState) (c : ℕ) : Type 0 where
+  on : (behind : TagState) → ((more : List ℕ) → IsUtf8 (encode c ++ more) →
       tag (left_of read) (encode c ++ more) ≡ later (length (encode c)) (tag (left_of behind) more)) → Walk read c
   off : ((more : List ℕ) → IsUtf8 (encode c ++ more) → tag (left_of read) (encode c ++ more) ≡ cut_as kinds.Bad (bad_rest (encode c ++ more))) → Walk read c
 
-walk-on : (read : Seen) (c : ℕ) (behind : Seen) → IsOpen read → left_of behind ≡ left_after (left_of read) c → can_go_on (left_of behind) ≡ true → Walk read c
+walk-on : (read : TagState) (c : ℕ) (behind : TagState) → IsOpen read → left_of behind ≡ left_after (left_of read) c → can_go_on (left_of behind) ≡ true → Walk read c
 walk-on read c behind open_read reads possible =
     on behind (λ more utf8.
     tag-step (left_of read) c (encode c ++ more) more open_read.part (sym (ap can_go_on reads) ∙ possible)
     (chars_past_char (encode c ++ more) more c utf8 refl) refl
     ∙ ap (λ left. later (length (encode c)) (tag left more)) (sym reads))
 
-pub walk-by : (read : Seen) (c : ℕ) (behind : Seen) → IsOpen read → left_of behind ≡ left_after (left_of read) c → Status behind → Walk read c
+pub walk-by : (read : TagState) (c : ℕ) (behind : TagState) → IsOpen read → left_of behind ≡ left_after (left_of read) c → Status behind → Walk read c
 walk-by read c behind open_read reads (is_open o) = walk-on read c behind open_read reads o.possible
 walk-by read c behind open_read reads (is_whole kind w) = walk-on read c behind open_read reads w.possible
 walk-by read c seen.Lost open_read reads is_lost =
     off (λ more utf8. tag-lost (left_of read) c (encode c ++ more) (chars more) open_read.part (sym reads ∙ lost_left)
     (chars_past_char (encode c ++ more) more c utf8 refl))
 
-pub walk : (read : Seen) (c : ℕ) → IsOpen read → Walk read c
+pub walk : (read : TagState) (c : ℕ) → IsOpen read → Walk read c
 walk read c open_read = walk-by read c (next read c).behind open_read (next read c).reads (status (next read c).behind)
 
 -- a tag, or what stands in its place, ends at a place
@@ -90,7 +90,7 @@ module _ (c : ℕ) (cs : List ℕ) (u : scalars (c ∷ cs) ≡ true) where
   rest_utf8 : IsUtf8 (encode c ++ encodes cs)
   rest_utf8 = (c ∷ cs, (u, refl))
 
-  walked-border : (read : Seen) → ((behind : Seen) → IsCharBoundary (encodes cs) (tag (left_of behind) (encodes cs)).len) → Walk read c →
+  walked-border : (read : TagState) → ((behind : TagState) → IsCharBoundary (encodes cs) (tag (left_of behind) (encodes cs)).len) → Walk read c →
       IsCharBoundary (encode c ++ encodes cs) (tag (left_of read) (encode c ++ encodes cs)).len
   walked-border read border (on behind is) =
       let len : (tag (left_of read) (encode c ++ encodes cs)).len ≡ length (encode c) + (tag (left_of behind) (encodes cs)).len =
@@ -103,7 +103,7 @@ module _ (c : ℕ) (cs : List ℕ) (u : scalars (c ∷ cs) ≡ true) where
       let len : (tag (left_of read) (encode c ++ encodes cs)).len ≡ bad_rest (encode c ++ encodes cs) = ap (λ (t : Cut). t.len) (is (encodes cs) rest_utf8) in
       subst (λ n. IsCharBoundary (encode c ++ encodes cs) n) (sym len) (bad_rest-border (encode c ++ encodes cs) rest_utf8)
 
-border-by : (cs : List ℕ) (read : Seen) → scalars cs ≡ true →
+border-by : (cs : List ℕ) (read : TagState) → scalars cs ≡ true →
     (IsOpen read → IsCharBoundary (encodes cs) (tag (left_of read) (encodes cs)).len) → Status read → IsCharBoundary (encodes cs) (tag (left_of read) (encodes cs)).len
 border-by cs read u further (is_open o) = further o
 border-by cs read u further (is_whole kind w) =
@@ -111,7 +111,7 @@ border-by cs read u further (is_whole kind w) =
 border-by cs seen.Lost u further is_lost =
     subst (λ (t : Cut). IsCharBoundary (encodes cs) t.len) (sym (tag-never (encodes cs))) (bad_rest-border (encodes cs) (cs, (u, refl)))
 
-pub tag-border : (cs : List ℕ) (read : Seen) → scalars cs ≡ true → IsCharBoundary (encodes cs) (tag (left_of read) (encodes cs)).len
+pub tag-border : (cs : List ℕ) (read : TagState) → scalars cs ≡ true → IsCharBoundary (encodes cs) (tag (left_of read) (encodes cs)).len
 tag-border [] read u =
     border-by [] read u
     (λ o. subst (λ (t : Cut). IsCharBoundary [] t.len) (sym (tag-end (left_of read) o.part)) (bad_rest-border [] ([], (refl, refl)))) (status read)

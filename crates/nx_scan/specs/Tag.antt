@@ -3,8 +3,8 @@ use Rattle.std.specs.Prelude.{ℕ}
 use Rattle.nx_base.specs.Form.{Form, name_char, only, one, seq, alt, many, never, nothing, after}
 use Rattle.nx_base.specs.Tags.{name_form, spaces, quoted_rest, attribute_value, attribute_rest, attribute, tag_rest}
 use Rattle.nx_base.specs.Tokens.{Tags}
-use Rattle.nx_scan.specs.declared.tag.Seen.{Seen}
-use Rattle.nx_scan.specs.declared.tag.Seen.TheVariants as seen
+use Rattle.nx_scan.specs.declared.tag.TagState.{TagState}
+use Rattle.nx_scan.specs.declared.tag.TagState.TheVariants as seen
 
 -- of a start tag or an empty-element tag, by how it closes
 abbrev pub in_tag : (Form → Form) → Tags
@@ -22,7 +22,7 @@ in_attribute left close = seq (seq left (many attribute)) (seq spaces close)
 abbrev pub end_rest : Form
 end_rest = seq spaces (one (only 62))
 
-unfoldable pub left_of : Seen → Tags
+unfoldable pub left_of : TagState → Tags
 left_of seen.Open = record {
   end = seq (one (only 47)) (seq name_form end_rest);
   start = seq name_form (tag_rest (one (only 62)));

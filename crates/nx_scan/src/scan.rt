@@ -10,7 +10,7 @@ ghost use Rattle.nx_scan.specs.Ending.{EndsAt};
 
 use crate::doctype::doctype_end;
 use crate::mark::{byte_is, find_byte, find_past, stands_at};
-use crate::tag::Seen;
+use crate::tag::TagState;
 use nx_base::character::is_space;
 use nx_base::memory::NoMemory;
 use nx_base::steps::Steps;
@@ -145,15 +145,15 @@ fn tag_end(text: &Text, at: usize) -> End
     ensures { EndsAt text.now at (tag tags (drop at text.now)) result }
 {
     let mut place = at + 1;
-    let mut seen = Seen::Open;
+    let mut seen = TagState::Open;
     while let Some(c) = text.char_at(place) {
         let next = seen.then(c);
         let behind = place + c.len_utf8();
         match next {
-            Seen::Start => return End::new(TokenKind::Start, behind),
-            Seen::Empty => return End::new(TokenKind::Empty, behind),
-            Seen::End => return End::new(TokenKind::End, behind),
-            Seen::Lost => return bad_end(text, place),
+            TagState::Start => return End::new(TokenKind::Start, behind),
+            TagState::Empty => return End::new(TokenKind::Empty, behind),
+            TagState::End => return End::new(TokenKind::End, behind),
+            TagState::Lost => return bad_end(text, place),
             _ => {}
         }
         seen = next;

@@ -5,9 +5,9 @@ ghost use Rattle.nx_scan.specs.Tag.{left_of, left_after};
 
 use nx_base::character::{is_name_char, is_name_start, is_space};
 
-/// What was read of a tag.
+/// What was read of a tag so far.
 #[derive(Clone, Copy, Debug, PartialEq, Eq)]
-pub(crate) enum Seen {
+pub(crate) enum TagState {
     /// `<`
     Open,
     /// A part of a start tag's name.
@@ -44,180 +44,184 @@ pub(crate) enum Seen {
     Lost,
 }
 
-impl Seen {
+impl TagState {
     /// What was read with one more character.
     #[tactic(auto, using(crate::proofs::Reading::whole_lost))]
-    pub(crate) fn then(self, c: char) -> Seen
+    pub(crate) fn then(self, c: char) -> TagState
         ensures { left_of result ≡ left_after (left_of self) c }
     {
         match self {
-            Seen::Open => behind_open(c),
-            Seen::Name => in_name(c),
-            Seen::Gap => in_gap(c),
-            Seen::Attribute => in_attribute(c),
-            Seen::AttributeGap => behind_attribute(c),
-            Seen::Equals => behind_equals(c),
-            Seen::Double => in_double(c),
-            Seen::Single => in_single(c),
-            Seen::Value => behind_value(c),
-            Seen::Slash => behind_slash(c),
-            Seen::EndOpen => behind_end_open(c),
-            Seen::EndName => in_end_name(c),
-            Seen::EndGap => behind_end_name(c),
-            Seen::Start | Seen::Empty | Seen::End | Seen::Lost => Seen::Lost,
+            TagState::Open => behind_open(c),
+            TagState::Name => in_name(c),
+            TagState::Gap => in_gap(c),
+            TagState::Attribute => in_attribute(c),
+            TagState::AttributeGap => behind_attribute(c),
+            TagState::Equals => behind_equals(c),
+            TagState::Double => in_double(c),
+            TagState::Single => in_single(c),
+            TagState::Value => behind_value(c),
+            TagState::Slash => behind_slash(c),
+            TagState::EndOpen => behind_end_open(c),
+            TagState::EndName => in_end_name(c),
+            TagState::EndGap => behind_end_name(c),
+            TagState::Start | TagState::Empty | TagState::End | TagState::Lost => TagState::Lost,
         }
     }
 }
 
 #[tactic(auto, using(crate::proofs::Reading::open_rules))]
-fn behind_open(c: char) -> Seen
-    ensures { left_of result ≡ left_after (left_of Seen.Open) c }
+fn behind_open(c: char) -> TagState
+    ensures { left_of result ≡ left_after (left_of TagState.Open) c }
 {
     if c == '/' {
-        Seen::EndOpen
+        TagState::EndOpen
     } else if is_name_start(c) {
-        Seen::Name
+        TagState::Name
     } else {
-        Seen::Lost
+        TagState::Lost
     }
 }
 
 #[tactic(auto, using(crate::proofs::Reading::name_rules))]
-fn in_name(c: char) -> Seen
-    ensures { left_of result ≡ left_after (left_of Seen.Name) c }
+fn in_name(c: char) -> TagState
+    ensures { left_of result ≡ left_after (left_of TagState.Name) c }
 {
     if is_name_char(c) {
-        Seen::Name
+        TagState::Name
     } else {
         behind_value(c)
     }
 }
 
 #[tactic(auto, using(crate::proofs::Reading::value_rules))]
-fn behind_value(c: char) -> Seen
-    ensures { left_of result ≡ left_after (left_of Seen.Value) c }
+fn behind_value(c: char) -> TagState
+    ensures { left_of result ≡ left_after (left_of TagState.Value) c }
 {
     if is_space(c) {
-        Seen::Gap
+        TagState::Gap
     } else if c == '>' {
-        Seen::Start
+        TagState::Start
     } else if c == '/' {
-        Seen::Slash
+        TagState::Slash
     } else {
-        Seen::Lost
+        TagState::Lost
     }
 }
 
 #[tactic(auto, using(crate::proofs::Reading::gap_rules))]
-fn in_gap(c: char) -> Seen
-    ensures { left_of result ≡ left_after (left_of Seen.Gap) c }
+fn in_gap(c: char) -> TagState
+    ensures { left_of result ≡ left_after (left_of TagState.Gap) c }
 {
     if is_name_start(c) {
-        Seen::Attribute
+        TagState::Attribute
     } else {
         behind_value(c)
     }
 }
 
 #[tactic(auto, using(crate::proofs::Reading::attribute_rules))]
-fn in_attribute(c: char) -> Seen
-    ensures { left_of result ≡ left_after (left_of Seen.Attribute) c }
+fn in_attribute(c: char) -> TagState
+    ensures { left_of result ≡ left_after (left_of TagState.Attribute) c }
 {
     if is_name_char(c) {
-        Seen::Attribute
+        TagState::Attribute
     } else {
         behind_attribute(c)
     }
 }
 
 #[tactic(auto, using(crate::proofs::Reading::attribute_gap_rules))]
-fn behind_attribute(c: char) -> Seen
-    ensures { left_of result ≡ left_after (left_of Seen.AttributeGap) c }
+fn behind_attribute(c: char) -> TagState
+    ensures { left_of result ≡ left_after (left_of TagState.AttributeGap) c }
 {
     if is_space(c) {
-        Seen::AttributeGap
+        TagState::AttributeGap
     } else if c == '=' {
-        Seen::Equals
+        TagState::Equals
     } else {
-        Seen::Lost
+        TagState::Lost
     }
 }
 
 #[tactic(auto, using(crate::proofs::Reading::equals_rules))]
-fn behind_equals(c: char) -> Seen
-    ensures { left_of result ≡ left_after (left_of Seen.Equals) c }
+fn behind_equals(c: char) -> TagState
+    ensures { left_of result ≡ left_after (left_of TagState.Equals) c }
 {
     if is_space(c) {
-        Seen::Equals
+        TagState::Equals
     } else if c == '"' {
-        Seen::Double
+        TagState::Double
     } else if c == '\'' {
-        Seen::Single
+        TagState::Single
     } else {
-        Seen::Lost
+        TagState::Lost
     }
 }
 
 #[tactic(auto, using(crate::proofs::Reading::double_rules))]
-fn in_double(c: char) -> Seen
-    ensures { left_of result ≡ left_after (left_of Seen.Double) c }
+fn in_double(c: char) -> TagState
+    ensures { left_of result ≡ left_after (left_of TagState.Double) c }
 {
     match c {
-        '"' => Seen::Value,
-        '<' => Seen::Lost,
-        _ => Seen::Double,
+        '"' => TagState::Value,
+        '<' => TagState::Lost,
+        _ => TagState::Double,
     }
 }
 
 #[tactic(auto, using(crate::proofs::Reading::single_rules))]
-fn in_single(c: char) -> Seen
-    ensures { left_of result ≡ left_after (left_of Seen.Single) c }
+fn in_single(c: char) -> TagState
+    ensures { left_of result ≡ left_after (left_of TagState.Single) c }
 {
     match c {
-        '\'' => Seen::Value,
-        '<' => Seen::Lost,
-        _ => Seen::Single,
+        '\'' => TagState::Value,
+        '<' => TagState::Lost,
+        _ => TagState::Single,
     }
 }
 
 #[tactic(auto, using(crate::proofs::Reading::slash_rules))]
-fn behind_slash(c: char) -> Seen
-    ensures { left_of result ≡ left_after (left_of Seen.Slash) c }
+fn behind_slash(c: char) -> TagState
+    ensures { left_of result ≡ left_after (left_of TagState.Slash) c }
 {
-    if c == '>' { Seen::Empty } else { Seen::Lost }
+    if c == '>' {
+        TagState::Empty
+    } else {
+        TagState::Lost
+    }
 }
 
 #[tactic(auto, using(crate::proofs::Reading::end_open_rules))]
-fn behind_end_open(c: char) -> Seen
-    ensures { left_of result ≡ left_after (left_of Seen.EndOpen) c }
+fn behind_end_open(c: char) -> TagState
+    ensures { left_of result ≡ left_after (left_of TagState.EndOpen) c }
 {
     if is_name_start(c) {
-        Seen::EndName
+        TagState::EndName
     } else {
-        Seen::Lost
+        TagState::Lost
     }
 }
 
 #[tactic(auto, using(crate::proofs::Reading::end_name_rules))]
-fn in_end_name(c: char) -> Seen
-    ensures { left_of result ≡ left_after (left_of Seen.EndName) c }
+fn in_end_name(c: char) -> TagState
+    ensures { left_of result ≡ left_after (left_of TagState.EndName) c }
 {
     if is_name_char(c) {
-        Seen::EndName
+        TagState::EndName
     } else {
         behind_end_name(c)
     }
 }
 
 #[tactic(auto, using(crate::proofs::Reading::end_gap_rules))]
-fn behind_end_name(c: char) -> Seen
-    ensures { left_of result ≡ left_after (left_of Seen.EndGap) c }
+fn behind_end_name(c: char) -> TagState
+    ensures { left_of result ≡ left_after (left_of TagState.EndGap) c }
 {
     if is_space(c) {
-        Seen::EndGap
+        TagState::EndGap
     } else if c == '>' {
-        Seen::End
+        TagState::End
     } else {
-        Seen::Lost
+        TagState::Lost
     }
 }

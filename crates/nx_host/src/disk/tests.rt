@@ -1,5 +1,8 @@
 //! What the disk answers, over real files, and what standard output takes, over a stand-in.
 
+mod failing;
+
+use self::failing::{FailingDisk, Failure};
 use super::{DiskFiles, StdOut};
 use crate::files::Files;
 use crate::out::{Out, OutFault};
@@ -7,25 +10,30 @@ use crate::tests::{found, stored};
 use std::alloc::Global;
 use std::cell::Cell;
 use std::fmt::Display;
+use std::fs::Permissions;
 use std::io::{Error, ErrorKind};
+use std::os::unix::fs::{PermissionsExt, symlink};
 use std::test::Fail;
-use std::{fs, io};
+use std::{fs, io, rt};
 
 const FOLDER: &str = "nx_host_disk_test";
 
 const STORED: &str = "file:///work/nx_host_disk_test/a%20b.txt";
 
-// Each URI, what `fetch` finds there, and what `has` says.
-const ANSWERS: [(&str, &str, bool); 11] = [
+// Each URI, what `fetch` finds there, and what `has` says. `loop` is a link to itself.
+const ANSWERS: [(&str, &str, bool); 14] = [
     (STORED, "text", true),
+    ("file:///work/nx_host_disk_test/a%20b.txt?", "none", false),
     (
-        "file:///work/nx_host_disk_test/a%20b.txt?query#part",
-        "text",
-        true,
+        "file:///work/nx_host_disk_test/a%20b.txt#part",
+        "none",
+        false,
     ),
     ("file:///work/nx_host_disk_test/c.txt", "none", false),
     ("file:///work/nx_host_disk_test/none/c.txt", "none", false),
     ("file:///work/nx_host_disk_test/a%20b.txt/c", "none", false),
+    ("file:///work/nx_host_disk_test/a%00.txt", "failed", false),
+    ("file:///work/nx_host_disk_test/loop", "failed", false),
     ("file:///work/nx_host_disk_test", "failed", false),
     ("file:///work/", "failed", false),
     ("file:///nx_host_disk_test/a%20b.txt", "none", false),
@@ -34,12 +42,28 @@ const ANSWERS: [(&str, &str, bool); 11] = [
     ("file:///work/%FF", "none", false),
 ];
 
-// Where nothing can be stored.
-const REFUSED: [&str; 3] = [
+// Where nothing can be stored. What is written to `/dev/full` fails, as on a disk that is full.
+const REFUSED: [&str; 8] = [
     "file:///work/nx_host_disk_test",
+    "file:///work/nx_host_disk_test/none/c.txt",
+    "file:///work/nx_host_disk_test/a%20b.txt?",
+    "file:///work/nx_host_disk_test/a%20b.txt#part",
+    "file:///work/nx_host_disk_test/loop",
     "file:///work/",
+    "file:///dev/full",
     "http://work/a.txt",
 ];
+
+// Makes the folder of a test anew.
+fn make_folder(rt: &HostRuntime, folder: &str) -> io::Result<()> {
+    let _left_over = fs::remove_dir_all(rt, folder);
+    fs::create_dir(rt, folder)
+}
+
+// How many entries a folder has.
+fn entry_count(rt: &HostRuntime, folder: &str) -> io::Result<usize> {
+    Ok(fs::read_dir(rt, folder)?.count())
+}
 
 // What `fetch` finds, and what `has` says.
 fn seen(files: &mut DiskFiles<'_, HostRuntime>, alloc: Global, uri: &str) -> (&'static str, bool) {
@@ -50,8 +74,8 @@ fn seen(files: &mut DiskFiles<'_, HostRuntime>, alloc: Global, uri: &str) -> (&'
 fn disk_files(rt: HostRuntime) -> Result<(), Fail> {
     let alloc = rt.alloc();
     let mut files = DiskFiles::new(&rt);
-    let _left_over = fs::remove_dir_all(&rt, FOLDER);
-    fs::create_dir(&rt, FOLDER)?;
+    make_folder(&rt, FOLDER)?;
+    symlink(&rt, "loop", "nx_host_disk_test/loop")?;
     assert_eq!(rt; stored(&mut files, alloc, STORED), "stored");
     for (uri, answer, is_there) in ANSWERS {
         assert!(rt;
@@ -62,9 +86,122 @@ fn disk_files(rt: HostRuntime) -> Result<(), Fail> {
     for uri in REFUSED {
         assert!(rt; stored(&mut files, alloc, uri) == "failed", "at {uri}");
     }
-    assert_eq!(rt; files.faults, 5);
-    fs::remove_file(&rt, "nx_host_disk_test/a b.txt")?;
-    fs::remove_dir(&rt, FOLDER)?;
+    assert_eq!(rt; stored(&mut files, alloc, "file:///dev/null"), "stored");
+    assert_eq!(rt; found(&mut files, alloc, STORED), "text");
+    assert_eq!(rt; files.faults, 14);
+    assert_eq!(rt; entry_count(&rt, FOLDER)?, 2);
+    fs::remove_dir_all(&rt, FOLDER)?;
+    Ok(())
+}
+
+const REPLACED: &str = "nx_host_replaced_test";
+
+const OLD: &str = "nx_host_replaced_test/old.txt";
+
+const OLD_URI: &str = "file:///work/nx_host_replaced_test/old.txt";
+
+const LINK_URI: &str = "file:///work/nx_host_replaced_test/link.txt";
+
+const DANGLING_URI: &str = "file:///work/nx_host_replaced_test/dangling.txt";
+
+// Makes the folder with a file whose text is longer than what is stored, and that its group may write, and links to
+// it and to nothing.
+fn make_replaced(rt: &HostRuntime) -> io::Result<()> {
+    make_folder(rt, REPLACED)?;
+    fs::write(rt, OLD, "a longer text")?;
+    fs::set_permissions(rt, OLD, Permissions::from_mode(0o660))?;
+    symlink(rt, "old.txt", "nx_host_replaced_test/link.txt")?;
+    symlink(rt, "new.txt", "nx_host_replaced_test/dangling.txt")
+}
+
+// Who may read and write what is at the path.
+fn mode_of(rt: &HostRuntime, path: &str) -> io::Result<u32> {
+    Ok(fs::metadata(rt, path)?.permissions().mode() & 0o777)
+}
+
+#[test]
+fn files_are_replaced(rt: HostRuntime) -> Result<(), Fail> {
+    let alloc = rt.alloc();
+    let mut files = DiskFiles::new(&rt);
+    for uri in [OLD_URI, LINK_URI] {
+        make_replaced(&rt)?;
+        assert!(rt; stored(&mut files, alloc, uri) == "stored", "at {uri}");
+        assert!(rt; found(&mut files, alloc, OLD_URI) == "text", "at {uri}");
+        assert_eq!(rt; mode_of(&rt, OLD)?, 0o660);
+        assert_eq!(rt; entry_count(&rt, REPLACED)?, 3);
+    }
+    assert_eq!(rt; stored(&mut files, alloc, DANGLING_URI), "stored");
+    assert!(rt; fs::symlink_metadata(&rt, "nx_host_replaced_test/dangling.txt")?.is_symlink());
+    assert_eq!(rt;
+        found(
+            &mut files,
+            alloc,
+            "file:///work/nx_host_replaced_test/new.txt"
+        ),
+        "text"
+    );
+    assert_eq!(rt; entry_count(&rt, REPLACED)?, 4);
+    fs::remove_dir_all(&rt, REPLACED)?;
+    Ok(())
+}
+
+const FAILURES: [Failure; 4] = [
+    Failure::Permissions,
+    Failure::Write,
+    Failure::Sync,
+    Failure::Rename,
+];
+
+// Whether a store on this disk fails.
+fn refuses<R: rt::Files>(disk: &R, alloc: Global, uri: &str) -> bool {
+    let mut files = DiskFiles::new(disk);
+    stored(&mut files, alloc, uri) == "failed"
+}
+
+#[test]
+fn failures_leave_files(rt: HostRuntime) -> Result<(), Fail> {
+    let alloc = rt.alloc();
+    make_replaced(&rt)?;
+    for failure in FAILURES {
+        let disk = FailingDisk { disk: &rt, failure };
+        assert!(rt; refuses(&disk, alloc, OLD_URI), "{failure:?}");
+        let left = fs::read_to_string(&rt, OLD)?;
+        assert_eq!(rt; left.as_str(), "a longer text");
+        assert_eq!(rt; entry_count(&rt, REPLACED)?, 3);
+    }
+    fs::remove_dir_all(&rt, REPLACED)?;
+    Ok(())
+}
+
+const GUARDED: &str = "nx_host_guarded_test";
+
+const SECRET: &str = "nx_host_guarded_test/secret.txt";
+
+const SECRET_URI: &str = "file:///work/nx_host_guarded_test/secret.txt";
+
+// Makes the folder with a file that nobody may read or write.
+fn make_guarded(rt: &HostRuntime) -> io::Result<()> {
+    make_folder(rt, GUARDED)?;
+    fs::write(rt, SECRET, "text")?;
+    fs::set_permissions(rt, SECRET, Permissions::from_mode(0))
+}
+
+// Root may read and write everything, so nothing is asked where the test runs as root.
+#[test]
+fn guarded_files_stay(rt: HostRuntime) -> Result<(), Fail> {
+    let alloc = rt.alloc();
+    let mut files = DiskFiles::new(&rt);
+    make_guarded(&rt)?;
+    if fs::open(&rt, SECRET).is_err() {
+        assert_eq!(rt; found(&mut files, alloc, SECRET_URI), "failed");
+        assert_eq!(rt; stored(&mut files, alloc, SECRET_URI), "failed");
+        fs::set_permissions(&rt, SECRET, Permissions::from_mode(0o600))?;
+        fs::set_permissions(&rt, GUARDED, Permissions::from_mode(0o500))?;
+        assert_eq!(rt; stored(&mut files, alloc, SECRET_URI), "failed");
+        assert_eq!(rt; found(&mut files, alloc, SECRET_URI), "text");
+        fs::set_permissions(&rt, GUARDED, Permissions::from_mode(0o700))?;
+    }
+    fs::remove_dir_all(&rt, GUARDED)?;
     Ok(())
 }
 

@@ -14,10 +14,10 @@ returns-in-Err g c =
     let w = c.write_reply-written in
     let was = out_state (o.told c.loop-rest.out) (o.faults c.loop-rest.out) in
     let after = out_state (o.told w.new.out) (o.faults w.new.out) in
-    play-refused _ _ _ (out_state (o.told c.args.out.now) (o.faults c.args.out.now)) was after w.result c.in-Err.fault c.stop_status.result c.in-Err.is h.no_fault
+    play-refused _ _ _ (out_state (o.told c.args.out.now) (o.faults c.args.out.now)) was after w.result c.in-Err.fault c.from.result c.in-Err.is h.no_fault
     (play-stopped _ _ _ _ _ was after _ _ _ _ _ c.split_line.result.1.now _ _ _ h c.split_line.ensures.lines c.answer-reply.ensures.step c.answer-reply.ensures.text
     (refused-part w.result c.in-Err.fault was.bytes after.bytes (reply_text (c.loop-rest.number + 1) c.answer-reply.result) c.in-Err.is w.ensures.written))
-    w.ensures.faults c.stop_status.ensures
+    w.ensures.faults c.from.ensures
 
 pub loop-rest-preserved : goal.loop-rest-preserved
 loop-rest-preserved g c =

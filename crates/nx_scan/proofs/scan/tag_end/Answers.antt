@@ -1,6 +1,6 @@
 use Rattle.std.proofs.Common.{◌+◌, ◌∙◌, ap, arith}
 use Rattle.nx_base.specs.declared.token.TokenKind.TheVariants as kinds
-use Rattle.nx_scan.specs.declared.tag.Seen.TheVariants as seen
+use Rattle.nx_scan.specs.declared.tag.TagState.TheVariants as seen
 use Rattle.nx_scan.specs.Tag.{left_of}
 use Rattle.nx_scan.proofs.TagEnds.{begin-tag, begin-place, open-part, is_open, step-on, is-whole, is-lost, is-ended, start-whole, empty-whole, end-whole}
 use Rattle.nx_scan.proofs.scan.tag_end.Goals as goal
