@@ -6,3 +6,5 @@ pub mod Spine
 pub mod Matching
 pub mod Validity
 pub mod Soundness
+pub mod Equality
+pub mod Weights

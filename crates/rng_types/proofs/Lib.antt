@@ -37,3 +37,4 @@ pub mod Apart
 pub mod Raised
 pub mod Sound
 pub mod Token
+pub mod Same

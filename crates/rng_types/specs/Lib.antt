@@ -14,3 +14,4 @@ pub mod NumberMembers
 pub mod TextMembers
 pub mod MemberTest
 pub mod OneToken
+pub mod Equality

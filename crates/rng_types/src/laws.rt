@@ -3,6 +3,7 @@
 ghost use Rattle.rng_types.specs.Types.{SameAreBlankAlike};
 ghost use Rattle.rng_types.specs.Answers.{AcceptsIsDecided, SameValueIsDecided, TakesAwayIsDecided, LeftIsDecided};
 ghost use Rattle.rng_types.specs.MemberTest.{MembersExist, TextsGiveMembers, NamedAreWellMade};
+ghost use Rattle.rng_types.specs.Equality.{EqualityIsDecided};
 ghost use Rattle.rng_types.specs.OneToken.{OneTokensExist};
 
 /// Two accepted texts of the same value are both blank or both not.
@@ -29,4 +30,9 @@ pub fn members_exist()
 /// The text of one token that has a value is told rightly.
 pub fn one_tokens_exist()
     ensures { OneTokensExist }
+{}
+
+/// The answers whether two types, or two lists of excepts, are the same are right.
+pub fn equality_is_decided()
+    ensures { EqualityIsDecided }
 {}
