@@ -41,7 +41,7 @@ loop-faults-preserved g c =
 pub returns-clause-faults : goal.returns-clause-faults
 returns-clause-faults g c =
     reading-ended c.args.text.now c.loop-faults.at c.loop-faults.state c.loop-faults.faults c.push_faults-2.new.faults c.in_ok-items-2.items c.args.steps.now c.loop-faults.steps
-    c.loop-faults.invariant (rw c.in_default.is at c.in_ok-token.ensures.token) (rw c.len-len.ensures.bytes at c.in_ok-items-2.ensures) (rw c.as_slice-2.ensures at c.in_ok-push_faults-2.ensures)
+    c.loop-faults.invariant (rw c.in_default.is at c.in_ok-token.ensures.token) (rw c.len-len.ensures.bytes at c.in_ok-items-2.ensures.items) (rw c.as_slice-2.ensures at c.in_ok-push_faults-2.ensures)
 
 pub returns-clause-details : goal.returns-clause-details
 returns-clause-details g c = subst FaultsAreText (sym (returns-clause-faults g c)) (faults_are_text c.args.text.now c.len-len.ensures.utf8)
