@@ -41,3 +41,9 @@ NoneIsViable g p h = (s : List Event) → IsRestOf g p h s → ⊥
 abbrev pub IsRequired : Language → Pattern → List Move → Name → Type 0
 IsRequired g p h n = (a : List Attribute) (k : List Event) → AreWritable (attributes_flat a []) → Kept g p h k
     → Viable g.definitions p (k ++ attributes_flat a (TagEnd ∷ [])) → HasAttribute n a
+
+-- some list that is kept behind one move more is viable. An event is admitted where that is so of the text's own event
+pub record CanMove (g : Language) (p : Pattern) (h : List Move) (m : Move) : Type 0 where
+  pub kept : List Event
+  pub is_kept : Kept g p (m ∷ h) kept
+  pub viable : Viable g.definitions p kept

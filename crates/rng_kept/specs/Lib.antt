@@ -1,5 +1,9 @@
-pub mod Deciding
+pub mod Answers
+pub mod WellMade
+pub mod NumberMembers
+pub mod TextMembers
 pub mod Members
+pub mod MemberTest
 pub mod OneToken
 pub mod Language
 pub mod Events
@@ -18,6 +22,7 @@ pub mod Merging
 pub mod Entering
 pub mod Content
 pub mod Tags
+pub mod Mentioned
 pub mod Required
 pub mod Clean
 pub mod Apart

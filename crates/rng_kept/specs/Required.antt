@@ -1,19 +1,26 @@
 -- Attributes that a residual requires.
-use Rattle.std.specs.Prelude.{Bool, true, false, not, ◌&&◌, ◌||◌, [], codes}
+use Rattle.std.specs.Prelude.{Bool, true, false, not, ◌&&◌, ◌||◌}
 use Rattle.std.specs.List.{list_all}
 use Rattle.nx_base.specs.declared.name.Name.{Name}
-use Rattle.rng_core.specs.Names.{Class, any_name, the_name, either, without}
-use Rattle.rng_core.specs.Unmentioned.{overlaps}
+use Rattle.nx_base.specs.Names.{is_namespace, same_name}
+use Rattle.rng_core.specs.Names.{Class, any_name, ns_name, the_name, either, without, has_attribute_name}
+use Rattle.rng_core.specs.Unmentioned.{covers_others_in, covers_others}
 use Rattle.rng_core.specs.Patterns.{Pattern, attribute, one_or_more, choice, group, interleave}
 use Rattle.rng_kept.specs.Residuals.{Way, among, in_tag, Residual}
 
--- `xmlns` in no namespace, which is the name of no attribute
-abbrev pub xmlns : Name
-xmlns = record { ns = []; local = codes "xmlns" }
+-- another name than this one stands in a class and is one that an attribute can have: one that a part mentions, or one of a
+-- namespace that it mentions
+abbrev pub other_at : Class → Class → Name → Bool
+other_at any_name class n = false
+other_at (ns_name ns) class n = is_namespace ns && covers_others_in class ns
+other_at (the_name m) class n =
+    (has_attribute_name class m && not (same_name m n)) || (is_namespace m.ns && covers_others_in class m.ns)
+other_at (either c d) class n = other_at c class n || other_at d class n
+other_at (without c d) class n = other_at c class n || other_at d class n
 
 -- whether all attributes of a class have this name
 abbrev pub has_only : Class → Name → Bool
-has_only class n = not (overlaps any_name (without class (either (the_name n) (the_name xmlns))))
+has_only class n = not (covers_others class || other_at class class n)
 
 -- whether each list of attributes that is matched has one of this name
 abbrev pub needs : Name → Pattern → Bool

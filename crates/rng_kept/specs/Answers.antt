@@ -1,6 +1,6 @@
--- What a type accepts, which texts have the same value, and what an except takes away, as answers.
-use Rattle.std.specs.Prelude.{ℕ, Bool, ◌^◌, ◌&&◌, List, IsTrue, ◌↔◌}
-use Rattle.std.specs.List.{list_all}
+-- What a type accepts, which texts have the same value, and what excepts take away, as answers.
+use Rattle.std.specs.Prelude.{ℕ, Bool, ◌^◌, ◌&&◌, not, List, IsTrue, ◌↔◌}
+use Rattle.std.specs.List.{list_all, AllByRecursion}
 use Rattle.std.specs.Ordering.{int_eq}
 use Rattle.std.specs.Str.{bytes_eq}
 use Rattle.std.specs.Bool.{beq}
@@ -45,6 +45,10 @@ is_taken_away type text (Own literal) = is_same_value type text literal
 is_taken_away type text (BuiltinString literal) = bytes_eq text literal
 is_taken_away type text (BuiltinToken literal) = bytes_eq (collapsed text) (collapsed literal)
 
+-- no except takes the text away
+abbrev pub is_left : Datatype → List Except → List ℕ → Bool
+is_left type excepts text = list_all (λ except. not (is_taken_away type text except)) excepts
+
 -- the answers decide the facts
 abbrev pub AcceptsIsDecided : Type 0
 AcceptsIsDecided = (type : Datatype) (text : List ℕ) → IsTrue (is_accepted type text) ↔ Accepts type text
@@ -54,3 +58,6 @@ SameValueIsDecided = (type : Datatype) (a b : List ℕ) → IsTrue (is_same_valu
 
 abbrev pub TakesAwayIsDecided : Type 0
 TakesAwayIsDecided = (type : Datatype) (text : List ℕ) (except : Except) → IsTrue (is_taken_away type text except) ↔ TakesAway type text except
+
+abbrev pub LeftIsDecided : Type 0
+LeftIsDecided = (type : Datatype) (text : List ℕ) (excepts : List Except) → IsTrue (is_left type excepts text) ↔ AllByRecursion (λ except. TakesAway type text except → ⊥) excepts

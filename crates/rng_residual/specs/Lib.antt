@@ -1,0 +1,7 @@
+pub mod Derivatives
+pub mod Openings
+pub mod Solid
+pub mod Merging
+pub mod Moves
+pub mod Required
+pub mod Unmentioned
