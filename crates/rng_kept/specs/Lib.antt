@@ -29,3 +29,4 @@ pub mod Apart
 pub mod Live
 pub mod Lively
 pub mod Standing
+pub mod Examples

@@ -9,3 +9,5 @@
 //! `Attributes`, `Openings`, `Skipping`, and over residuals `Entering`, `Tags`, `Content`, `Required`) say which residual each call of
 //! a matcher gives; the laws that these stand for the kept lists with one move more are those of the crate rng_residual.
 #![tactic(auto)]
+
+pub mod law;
