@@ -6,12 +6,13 @@ use Rattle.std.specs.Str.{bytes_eq}
 use Rattle.std.proofs.lemmas.Slice.Eq.{bytes_eq-Decides}
 use Rattle.nx_base.specs.declared.name.Name.{Name}
 use Rattle.nx_base.specs.Names.{is_xml_name, same_name}
+use Rattle.rng_core.specs.declared.name_class.Bearer.TheVariants.{Element}
 use Rattle.rng_core.specs.Names.{Class, any_name, ns_name, the_name, either, without, covers, has_name, Overlap}
-use Rattle.rng_core.specs.Unmentioned.{overlaps, meets_part, parts_meet}
+use Rattle.rng_core.specs.Unmentioned.{overlaps, meets_part, borne, parts_meet}
 use Rattle.rng_core.proofs.Overlaps.{overlap_is_found, overlap_is_there, same_fields, same_bytes, both_or}
 
 -- two tests are alike where each follows from the other
-alike : (a b : Bool) → (a ≡ true → b ≡ true) → (b ≡ true → a ≡ true) → a ≡ b
+pub alike : (a b : Bool) → (a ≡ true → b ≡ true) → (b ≡ true → a ≡ true) → a ≡ b
 alike true b to from = sym (to refl)
 alike false true to from = from refl
 alike false false to from = refl
@@ -64,7 +65,7 @@ name_overlaps n d o =
     let P : Name → Type 0 = λ m. has_name d m ≡ true in
     subst P same o.second
 
-same_to_itself : (b : List ℕ) → bytes_eq b b ≡ true
+pub same_to_itself : (b : List ℕ) → bytes_eq b b ≡ true
 same_to_itself b = (bytes_eq-Decides b b).1 refl
 
 has_itself : (n : Name) (d : Class) → has_name d n ≡ true → has_name (the_name n) n ≡ true
@@ -78,16 +79,17 @@ overlaps_of_name n d = alike (overlaps (the_name n) d) (has_name d n)
     (λ found. overlap_is_found (the_name n) d (record { name = n; first = has_itself n d found; second = found }))
 
 -- so a class may be taken apart
-part_is_met : (c d : Class) → meets_part c d ≡ overlaps c d
+pub part_is_met : (c d : Class) → meets_part c d ≡ overlaps c d
 part_is_met c any_name = refl
 part_is_met c (ns_name ns) = refl
 part_is_met c (the_name m) = sym (overlaps_of_name m c) ∙ overlaps_turned (the_name m) c
 part_is_met c (either x y) = both_or _ _ _ _ (part_is_met c x) (part_is_met c y) ∙ sym (overlaps_of_second c x y)
 part_is_met c (without x y) = refl
 
-pub parts_are_met : (c d : Class) → parts_meet c d ≡ overlaps c d
-parts_are_met any_name d = part_is_met any_name d
-parts_are_met (ns_name ns) d = part_is_met (ns_name ns) d
-parts_are_met (the_name m) d = sym (overlaps_of_name m d)
-parts_are_met (either x y) d = both_or _ _ _ _ (parts_are_met x d) (parts_are_met y d) ∙ sym (overlaps_of_first x y d)
-parts_are_met (without x y) d = part_is_met (without x y) d
+pub elements_are_met : (c d : Class) → parts_meet Element c d ≡ overlaps c d
+unfolding borne
+elements_are_met any_name d = part_is_met any_name d
+elements_are_met (ns_name ns) d = part_is_met (ns_name ns) d
+elements_are_met (the_name m) d = sym (overlaps_of_name m d)
+elements_are_met (either x y) d = both_or _ _ _ _ (elements_are_met x d) (elements_are_met y d) ∙ sym (overlaps_of_first x y d)
+elements_are_met (without x y) d = part_is_met (without x y) d

@@ -6,3 +6,4 @@ pub mod Spine
 pub mod Matching
 pub mod Validity
 pub mod Soundness
+pub mod Equality

@@ -7,7 +7,7 @@ use Rattle.rng_core.specs.declared.grammar.Pat.TheVariants as pat
 use Rattle.rng_core.specs.declared.grammar.Def.{Def}
 use Rattle.rng_core.specs.declared.grammar.Grammar.{Grammar}
 use Rattle.rng_core.specs.Names.{Class, any_name, ns_name, the_name, either, without}
-use Rattle.rng_core.specs.Patterns.{Pattern, Definition, not_allowed, empty, any_text, typed, literal, listed, attribute, ref, one_or_more, choice, group, interleave}
+use Rattle.rng_core.specs.Patterns.{Pattern, Definition, Language, not_allowed, empty, any_text, typed, literal, listed, attribute, ref, one_or_more, choice, group, interleave}
 
 abbrev pub class_of : NameClass → Class
 class_of class.AnyName = any_name
@@ -35,3 +35,6 @@ definition_of def = record { class = class_of def.class; content = pattern_of de
 
 abbrev pub definitions_of : Grammar → List Definition
 definitions_of grammar = map definition_of grammar.defs
+
+abbrev pub language_of : Grammar → Language
+language_of grammar = record { start = pattern_of grammar.start; definitions = definitions_of grammar }

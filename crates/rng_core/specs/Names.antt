@@ -33,3 +33,9 @@ pub record Overlap (c d : Class) : Type 0 where
   pub name : Name
   pub first : IsTrue (has_name c name)
   pub second : IsTrue (has_name d name)
+
+-- some name that an attribute can have is in both classes
+pub record AttributeOverlap (c d : Class) : Type 0 where
+  pub name : Name
+  pub first : IsTrue (has_attribute_name c name)
+  pub second : IsTrue (has_attribute_name d name)

@@ -22,3 +22,8 @@ pub data Pattern : Type 0 where
 pub record Definition : Type 0 where
   pub class : Class
   pub content : Pattern
+
+-- what a schema stands for: a start, and the definitions that references name
+pub record Language : Type 0 where
+  pub start : Pattern
+  pub definitions : List Definition

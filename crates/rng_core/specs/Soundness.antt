@@ -5,6 +5,7 @@ use Rattle.std.specs.Str.{is_utf8}
 use Rattle.nx_base.specs.Characters.{is_of_chars}
 use Rattle.nx_base.specs.declared.name.Name.{Name}
 use Rattle.rng_types.specs.Types.{Accepts}
+use Rattle.rng_types.specs.WellMade.{is_well_made}
 use Rattle.rng_types.specs.declared.datatype.Datatype.{Datatype}
 use Rattle.rng_types.specs.declared.datatype.Except.{Except}
 use Rattle.rng_types.specs.declared.datatype.Except.TheVariants.{Own, BuiltinString, BuiltinToken}
@@ -27,14 +28,15 @@ IsSoundExcept type (Own text) = IsTrue (is_utf8 text) × Accepts type text
 IsSoundExcept type (BuiltinString text) = IsTrue (is_utf8 text)
 IsSoundExcept type (BuiltinToken text) = IsTrue (is_utf8 text)
 
--- each reference names one of so many definitions, each literal is of its type and of characters that XML
--- allows, no type has more than 128 excepts, each of them sound, and each class is sound
+-- each reference names one of so many definitions, each type is well made, each literal is of its type and of characters
+-- that XML allows, no type has more than 128 excepts, each of them sound, and each class is sound
 pub data IsSoundPattern (count : ℕ) : Pattern → Type 0 where
   sound_not_allowed : IsSoundPattern count not_allowed
   sound_empty : IsSoundPattern count empty
   sound_text : IsSoundPattern count any_text
-  sound_data : {type : Datatype} {excepts : List Except} → length excepts ≤ 128 → AllByRecursion (IsSoundExcept type) excepts → IsSoundPattern count (typed type excepts)
-  sound_value : {type : Datatype} {text : List ℕ} → Accepts type text → IsTrue (is_of_chars text) → IsSoundPattern count (literal type text)
+  sound_data : {type : Datatype} {excepts : List Except} → IsTrue (is_well_made type) → length excepts ≤ 128 → AllByRecursion (IsSoundExcept type) excepts →
+      IsSoundPattern count (typed type excepts)
+  sound_value : {type : Datatype} {text : List ℕ} → IsTrue (is_well_made type) → Accepts type text → IsTrue (is_of_chars text) → IsSoundPattern count (literal type text)
   sound_list : {p : Pattern} → IsSoundPattern count p → IsSoundPattern count (listed p)
   sound_attribute : {class : Class} {p : Pattern} → IsSoundClass class → IsSoundPattern count p → IsSoundPattern count (attribute class p)
   sound_ref : {i : ℕ} → i < count → IsSoundPattern count (ref i)

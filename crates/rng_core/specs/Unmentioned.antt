@@ -1,8 +1,15 @@
 -- Names that a class doesn't mention are in it alike.
-use Rattle.std.specs.Prelude.{ℕ, Bool, true, false, not, ◌&&◌, ◌||◌, List}
+use Rattle.std.specs.Prelude.{ℕ, Bool, true, false, not, ◌&&◌, ◌||◌, List, [], codes}
 use Rattle.std.specs.Str.{bytes_eq}
 use Rattle.nx_base.specs.Names.{is_namespace}
-use Rattle.rng_core.specs.Names.{Class, any_name, ns_name, the_name, either, without, has_name}
+use Rattle.nx_base.specs.declared.name.Name.{Name}
+use Rattle.rng_core.specs.declared.name_class.Bearer.{Bearer}
+use Rattle.rng_core.specs.declared.name_class.Bearer.TheVariants.{Element, Attribute}
+use Rattle.rng_core.specs.Names.{Class, any_name, ns_name, the_name, either, without, has_name, Overlap, AttributeOverlap}
+
+-- `xmlns` in no namespace, which no attribute has as its name
+abbrev pub xmlns_name : Name
+xmlns_name = record { ns = []; local = codes "xmlns" }
 
 -- whether a class covers the names of a namespace that it doesn't mention
 abbrev pub covers_others_in : Class → List ℕ → Bool
@@ -44,10 +51,32 @@ meets_part c (the_name m) = has_name c m
 meets_part c (either x y) = meets_part c x || meets_part c y
 meets_part c (without x y) = overlaps c (without x y)
 
--- and the parts of one against another
-abbrev pub parts_meet : Class → Class → Bool
-parts_meet any_name d = meets_part any_name d
-parts_meet (ns_name ns) d = meets_part (ns_name ns) d
-parts_meet (the_name m) d = has_name d m
-parts_meet (either x y) d = parts_meet x d || parts_meet y d
-parts_meet (without x y) d = meets_part (without x y) d
+-- the names of a class that an element, or an attribute, can have
+unfoldable pub borne : Bearer → Class → Class
+borne Element c = c
+borne Attribute c = without c (the_name xmlns_name)
+
+-- some such name is in both classes
+abbrev pub OverlapAs : Bearer → Class → Class → Type 0
+OverlapAs Element c d = Overlap c d
+OverlapAs Attribute c d = AttributeOverlap c d
+
+-- whether two classes share such a name that a third mentions, or other names of a namespace that it mentions
+abbrev pub meets_as : Bearer → Class → Class → Class → Bool
+meets_as bearer any_name c d = false
+meets_as bearer (ns_name ns) c d = share_others_in c d ns
+meets_as bearer (the_name m) c d = (has_name (borne bearer c) m && has_name d m) || share_others_in c d m.ns
+meets_as bearer (either x y) c d = meets_as bearer x c d || meets_as bearer y c d
+meets_as bearer (without x y) c d = meets_as bearer x c d || meets_as bearer y c d
+
+-- whether two classes share one of those that the two mention, or names that neither mentions
+abbrev pub tries : Bearer → Class → Class → Bool
+tries bearer c d = (covers_others c && covers_others d) || (meets_as bearer c c d || meets_as bearer d c d)
+
+-- and the parts of one, as names of such a bearer, against another
+abbrev pub parts_meet : Bearer → Class → Class → Bool
+parts_meet bearer any_name d = meets_part (borne bearer any_name) d
+parts_meet bearer (ns_name ns) d = meets_part (borne bearer (ns_name ns)) d
+parts_meet bearer (the_name m) d = has_name (borne bearer d) m
+parts_meet bearer (either x y) d = parts_meet bearer x d || parts_meet bearer y d
+parts_meet bearer (without x y) d = meets_part (borne bearer (without x y)) d

@@ -6,6 +6,7 @@
 
 pub mod building;
 mod copying;
+pub mod equality;
 pub mod grammar;
 pub mod name_class;
 pub mod overlap;

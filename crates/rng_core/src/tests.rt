@@ -2,7 +2,7 @@
 
 use crate::building::{attribute_of, choice_of, group_of, interleave_of, list_of, one_or_more_of};
 use crate::grammar::{Def, Pat};
-use crate::name_class::NameClass;
+use crate::name_class::{Bearer, NameClass};
 use crate::overlap::overlap;
 use nx_base::memory::NoMemory;
 use nx_base::name::Name;
@@ -74,6 +74,23 @@ fn classes_overlap(rt: HostRuntime) -> Result<(), Fail> {
     Ok(())
 }
 
+#[test]
+fn no_attribute_is_named_xmlns(rt: HostRuntime) -> Result<(), Fail> {
+    let any = NameClass::AnyName;
+    let xmlns = one(rt.alloc(), "", "xmlns")?;
+    let elsewhere = one(rt.alloc(), "u", "xmlns")?;
+    let bare = all_in(rt.alloc(), "")?;
+    let name = name_of(rt.alloc(), "", "xmlns")?;
+    assert!(rt; any.has(&name) && !any.has_attribute(&name));
+    assert!(rt; any.has_attribute(&name_of(rt.alloc(), "u", "xmlns")?));
+    assert!(rt; xmlns.overlaps(&xmlns, Bearer::Element));
+    assert!(rt; !xmlns.overlaps(&xmlns, Bearer::Attribute));
+    assert!(rt; !any.overlaps(&xmlns, Bearer::Attribute));
+    assert!(rt; elsewhere.overlaps(&elsewhere, Bearer::Attribute));
+    assert!(rt; bare.overlaps(&bare, Bearer::Attribute));
+    Ok(())
+}
+
 // A choice of so many names, which nests to the left.
 fn many(alloc: Global, prefix: &str, count: u32) -> Result<NameClass, Fail> {
     let mut class = one(alloc, "u", prefix)?;
@@ -94,6 +111,7 @@ fn wide_choices_are_walked(rt: HostRuntime) -> Result<(), Fail> {
         class.copy(rt.alloc())?,
     )?;
     let few = many(rt.alloc(), "b", 50)?;
+    assert!(rt; class.same(&class) && !class.same(&few));
     assert!(rt; class.has(&name_of(rt.alloc(), "u", "a0")?));
     assert!(rt; !class.has(&name_of(rt.alloc(), "u", "b")?));
     assert_eq!(rt; overlap(rt.alloc(), &class, &few), Ok(false));
@@ -143,6 +161,7 @@ fn deep(alloc: Global, count: u32) -> Result<Pat, Fail> {
 fn copies_deep_patterns(rt: HostRuntime) -> Result<(), Fail> {
     let pattern = deep(rt.alloc(), 8_000)?;
     let copied = pattern.copy(rt.alloc())?;
-    assert!(rt; matches!(&copied, Pat::Choice(_, _)));
+    assert!(rt; pattern.same(&copied));
+    assert!(rt; !pattern.same(&deep(rt.alloc(), 7_998)?));
     Ok(())
 }

@@ -43,7 +43,6 @@ accepts_b : Accepts nc_name_type (codes "b")
 unfolding is_char is_space is_name_start is_name_char chars is_utf8 encode
 accepts_b = record { form = refl; facets = refl }
 
-
 -- <doc id='..'><title>..</title></doc>
 abbrev with_title : List ℕ → Children → Tree
 with_title v inside = record { name = doc; attributes = record { name = id; value = v } ∷ []; children = element title [] inside nil }
@@ -147,16 +146,46 @@ pub keeps_lists : KeepsLists
 keeps_lists = record {
   taken = opened_kept;
   wrongly_taken = ([], Enter para ∷ [], refl, adds_event, refl, tt);
-  skipped = (opening, Enter title ∷ TagEnd ∷ Leave ∷ Enter para ∷ [], opened_kept, adds_skipped (element title [] nil nil) a_title (title_is_written, (tt, (tt, tt))), refl,
-    begins_para _ (TagEnd ∷ Leave ∷ Leave ∷ []) (tt, (tt, (tt, tt))) refl);
-  with_value = (Enter doc ∷ [], Att id (codes "b") ∷ [], named_kept, adds_value (codes "b") of_chars_b, refl,
-    begins_title {inside = nil} _ (TagEnd ∷ Enter title ∷ TagEnd ∷ Leave ∷ Leave ∷ []) accepts_b no_string no_children (tt, (title_is_written, (tt, (tt, (tt, tt))))) refl);
-  with_string = (Enter doc ∷ Att id (codes "a") ∷ TagEnd ∷ Enter title ∷ TagEnd ∷ [], Chars (codes "x") ∷ [], in_title_kept, adds_string (codes "x") of_chars_x x_is_not_blank, refl,
-    begins_title {inside = string (codes "x") nil} _ (Leave ∷ Leave ∷ []) accepts_a (one_string no_string) (string_first no_children) (tt, (tt, tt)) refl);
-  with_attributes = (Enter doc ∷ [], Att id (codes "a") ∷ TagEnd ∷ [], named_kept, adds_attributes (record { name = id; value = codes "a" } ∷ []) ((id_is_written, of_chars_a), tt), refl,
-    begins_title {inside = nil} _ (Enter title ∷ TagEnd ∷ Leave ∷ Leave ∷ []) accepts_a no_string no_children (title_is_written, (tt, (tt, (tt, tt)))) refl);
-  with_content = (opening, Enter title ∷ TagEnd ∷ Leave ∷ Leave ∷ [], opened_kept, adds_content (element title [] nil nil) a_title (title_is_written, (tt, (tt, tt))), refl,
-    begins_title {inside = nil} _ [] accepts_a no_string no_children tt refl);
+  skipped = (
+    opening,
+    Enter title ∷ TagEnd ∷ Leave ∷ Enter para ∷ [],
+    opened_kept,
+    adds_skipped (element title [] nil nil) a_title (title_is_written, (tt, (tt, tt))),
+    refl,
+    begins_para _ (TagEnd ∷ Leave ∷ Leave ∷ []) (tt, (tt, (tt, tt))) refl,
+  );
+  with_value = (
+    Enter doc ∷ [],
+    Att id (codes "b") ∷ [],
+    named_kept,
+    adds_value (codes "b") of_chars_b,
+    refl,
+    begins_title {inside = nil} _ (TagEnd ∷ Enter title ∷ TagEnd ∷ Leave ∷ Leave ∷ []) accepts_b no_string no_children (tt, (title_is_written, (tt, (tt, (tt, tt))))) refl,
+  );
+  with_string = (
+    Enter doc ∷ Att id (codes "a") ∷ TagEnd ∷ Enter title ∷ TagEnd ∷ [],
+    Chars (codes "x") ∷ [],
+    in_title_kept,
+    adds_string (codes "x") of_chars_x x_is_not_blank,
+    refl,
+    begins_title {inside = string (codes "x") nil} _ (Leave ∷ Leave ∷ []) accepts_a (one_string no_string) (string_first no_children) (tt, (tt, tt)) refl,
+  );
+  with_attributes = (
+    Enter doc ∷ [],
+    Att id (codes "a") ∷ TagEnd ∷ [],
+    named_kept,
+    adds_attributes (record { name = id; value = codes "a" } ∷ []) ((id_is_written, of_chars_a), tt),
+    refl,
+    begins_title {inside = nil} _ (Enter title ∷ TagEnd ∷ Leave ∷ Leave ∷ []) accepts_a no_string no_children (title_is_written, (tt, (tt, (tt, tt)))) refl,
+  );
+  with_content = (
+    opening,
+    Enter title ∷ TagEnd ∷ Leave ∷ Leave ∷ [],
+    opened_kept,
+    adds_content (element title [] nil nil) a_title (title_is_written, (tt, (tt, tt))),
+    refl,
+    begins_title {inside = nil} _ [] accepts_a no_string no_children tt refl,
+  );
 }
 
 -- ---- no paragraph alone

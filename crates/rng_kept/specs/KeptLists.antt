@@ -2,9 +2,8 @@
 use Rattle.std.specs.Prelude.{◌≡◌, List, [], ◌∷◌, ◌++◌}
 use Rattle.nx_base.specs.declared.name.Name.{Name}
 use Rattle.nx_base.specs.Trees.{Attribute, HasAttribute, Event, TagEnd, attributes_flat, AreWritable}
-use Rattle.rng_core.specs.Patterns.{Pattern}
+use Rattle.rng_core.specs.Patterns.{Pattern, Language}
 use Rattle.rng_core.specs.Validity.{Valid, IsRest, Viable}
-use Rattle.rng_kept.specs.Language.{Language}
 use Rattle.rng_kept.specs.Moves.{Move, take, skip_to, any_value, any_string, missing_attributes, missing_content, Adds}
 
 -- a list that a move makes, but for one that ends with the text's own event, is to be viable

@@ -1,11 +1,3 @@
-pub mod Answers
-pub mod WellMade
-pub mod NumberMembers
-pub mod TextMembers
-pub mod Members
-pub mod MemberTest
-pub mod OneToken
-pub mod Language
 pub mod Events
 pub mod Moves
 pub mod KeptLists

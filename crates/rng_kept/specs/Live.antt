@@ -1,7 +1,6 @@
 -- Live schemas: a choice of elements as their start, and definitions each part of which matches something.
 use Rattle.std.specs.Prelude.{◌≡◌, ℕ, List, true, false, Some, slice_get}
-use Rattle.rng_core.specs.Patterns.{Pattern, Definition, ref, choice}
-use Rattle.rng_kept.specs.Language.{Language}
+use Rattle.rng_core.specs.Patterns.{Pattern, Definition, ref, choice, Language}
 use Rattle.rng_kept.specs.Clean.{Clean}
 use Rattle.rng_kept.specs.Apart.{IsApart}
 

@@ -18,9 +18,9 @@ other_at (the_name m) class n =
 other_at (either c d) class n = other_at c class n || other_at d class n
 other_at (without c d) class n = other_at c class n || other_at d class n
 
--- whether all attributes of a class have this name
+-- whether a class has this name, and no other one that an attribute can have
 abbrev pub has_only : Class → Name → Bool
-has_only class n = not (covers_others class || other_at class class n)
+has_only class n = has_attribute_name class n && not (covers_others class || other_at class class n)
 
 -- whether each list of attributes that is matched has one of this name
 abbrev pub needs : Name → Pattern → Bool

@@ -40,7 +40,8 @@ pub data TakesOuter (g : List Definition) : Outer → List Event → Type 0 wher
 pub data TakesWay (g : List Definition) : Way → List Event → Type 0 where
   among_children : {o : Outer} {s : List Event} → TakesOuter g o s → TakesWay g (among o) s
   in_start_tag : {p : Pattern} {o : Outer} {s : List Event} (a : List Attribute) (k : Children) (rest : List Event)
-      → s ≡ attributes_flat a (TagEnd ∷ children_flat k (Leave ∷ rest)) → MatchesWeakly g p a k → TakesOuter g o rest → TakesWay g (in_tag p o) s
+      → s ≡ attributes_flat a (TagEnd ∷ children_flat k (Leave ∷ rest)) → MatchesWeakly g p a k
+      → TakesOuter g o rest → TakesWay g (in_tag p o) s
 
 pub data Takes (g : List Definition) : Residual → List Event → Type 0 where
   by_this : {w : Way} {ws : Residual} {s : List Event} → TakesWay g w s → Takes g (w ∷ ws) s

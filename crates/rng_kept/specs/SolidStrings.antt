@@ -3,9 +3,9 @@ use Rattle.std.specs.Prelude.{[], ◌∷◌, Bool, true, false, not, ◌&&◌, �
 use Rattle.nx_base.specs.Characters.{is_blank}
 use Rattle.rng_types.specs.declared.datatype.Except.TheVariants.{BuiltinToken}
 use Rattle.rng_core.specs.Patterns.{Pattern, not_allowed, any_text, typed, literal, listed, one_or_more, choice, group, interleave}
-use Rattle.rng_kept.specs.Answers.{is_accepted}
-use Rattle.rng_kept.specs.MemberTest.{has_member}
-use Rattle.rng_kept.specs.OneToken.{one_token_of}
+use Rattle.rng_types.specs.Answers.{is_accepted}
+use Rattle.rng_types.specs.MemberTest.{has_member}
+use Rattle.rng_types.specs.OneToken.{one_token_of}
 use Rattle.rng_kept.specs.SmallPatterns.{choice_of, group_of, interleave_of, one_or_more_of}
 use Rattle.rng_kept.specs.Nullable.{nullable}
 use Rattle.rng_kept.specs.Strings.{Tests, after_by}

@@ -1,10 +1,9 @@
 -- Which residuals stand for kept lists.
-use Rattle.std.specs.Prelude.{ℕ, List, [], ◌∷◌, Option, Some, None, ◌+◌, if◌then◌else◌}
+use Rattle.std.specs.Prelude.{◌≡◌, ℕ, List, [], ◌∷◌, Option, Some, None, ◌+◌, if◌then◌else◌, slice_get, IsTrue}
 use Rattle.nx_base.specs.declared.name.Name.{Name}
 use Rattle.nx_base.specs.Trees.{Event}
 use Rattle.rng_core.specs.Names.{has_name}
-use Rattle.rng_core.specs.Patterns.{Pattern, Definition, not_allowed, ref}
-use Rattle.rng_kept.specs.Language.{Language}
+use Rattle.rng_core.specs.Patterns.{Pattern, Definition, not_allowed, ref, Language}
 use Rattle.rng_kept.specs.Events.{AreText, IsDistinct}
 use Rattle.rng_kept.specs.Moves.{Move, attributes_of, AreTextMoves}
 use Rattle.rng_kept.specs.KeptLists.{IsEndOf, NoneIsViable}
@@ -30,6 +29,13 @@ StandsBehind g p h m (Some x) = Stands g p (m ∷ h) x
 -- what a frame begins with
 abbrev pub first_residual : Pattern → Residual
 first_residual p = among (document p) ∷ []
+
+-- a definition's elements may have the name
+pub record IsKnown (g : Language) (name : Name) : Type 0 where
+  pub number : ℕ
+  pub definition : Definition
+  pub is : slice_get g.definitions number ≡ Some definition
+  pub named : IsTrue (has_name definition.class name)
 
 -- the definitions that have a name, from a number on, as a choice
 abbrev pub known_from : List Definition → Name → ℕ → Pattern

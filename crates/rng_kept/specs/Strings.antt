@@ -4,8 +4,8 @@ use Rattle.rng_types.specs.Spaces.{words}
 use Rattle.rng_types.specs.declared.datatype.Datatype.{Datatype}
 use Rattle.rng_types.specs.declared.datatype.Except.{Except}
 use Rattle.rng_core.specs.Patterns.{Pattern, not_allowed, empty, any_text, typed, literal, listed, one_or_more, choice, group, interleave}
-use Rattle.rng_kept.specs.Answers.{is_accepted, is_same_value}
-use Rattle.rng_kept.specs.Answers.{is_left}
+use Rattle.rng_types.specs.Answers.{is_accepted, is_same_value}
+use Rattle.rng_types.specs.Answers.{is_left}
 use Rattle.rng_kept.specs.SmallPatterns.{choice_of, group_of, interleave_of, star}
 use Rattle.rng_kept.specs.Nullable.{nullable}
 

@@ -1,36 +1,34 @@
 -- Names that no class tells apart are admitted alike.
-use Rattle.std.proofs.Common.{◌≡◌, ℕ, List, [], ◌∷◌, ◌++◌, map, Bool, true, false, ◌&&◌, refl, sym, ap, subst, inl, inr, ⊎_elim, ◌∙◌, append_assoc, Some}
+use Rattle.std.proofs.Common.{◌≡◌, ℕ, List, [], ◌∷◌, ◌++◌, map, Bool, true, false, refl, sym, ap, subst, ⊎_elim, ◌∙◌, Some}
 use Rattle.std.specs.Prelude.{slice_get, if◌then◌else◌, IsTrue}
-use Rattle.std.proofs.lemmas.Bool.{false≢true, cases_Bool}
+use Rattle.std.proofs.lemmas.Bool.{false≢true}
 use Rattle.std.specs.Str.{is_utf8}
 use Rattle.nx_base.specs.declared.name.Name.{Name}
 use Rattle.nx_base.specs.Names.{is_xml_name, is_attribute_name, same_name}
-use Rattle.nx_base.specs.Trees.{Attribute, Children, nil, string, element, HasAttribute, here, further, AreAttributes, no_attributes, one_more, AreChildren, without_blanks, Event, Enter, Att, TagEnd, Leave, children_flat, attributes_flat, IsWritable, AreWritable}
+use Rattle.nx_base.specs.Trees.{Attribute, Children, element, HasAttribute, here, further, AreAttributes, no_attributes, one_more, Event, Enter, Att, TagEnd, Leave, children_flat, attributes_flat, AreWritable}
 use Rattle.rng_core.specs.Names.{Class, covers, has_name, has_attribute_name}
-use Rattle.rng_core.specs.Patterns.{Pattern, Definition, attribute, one_or_more, choice, group, interleave}
-use Rattle.rng_core.specs.Unmentioned.{covers_others_in, covers_others}
-use Rattle.rng_core.specs.Matching.{Split, no_attribute, to_first, to_second, InOrder, then_second, element_of_first, element_to_first, element_to_second, Matches, by_empty, by_text, by_data, by_value, by_list, by_attribute, by_blank_attribute, by_first, by_second, by_group, by_interleave, by_one, by_more, by_element}
-use Rattle.rng_core.specs.Validity.{Valid}
-use Rattle.rng_kept.specs.Language.{Language}
-use Rattle.rng_kept.specs.Events.{IsAmong, first, later, IsText, AreText, IsDistinct, distinct_enter, distinct_attribute}
-use Rattle.rng_kept.specs.Moves.{Move, take, adds_event, attributes_of}
+use Rattle.rng_core.specs.Patterns.{Pattern, Definition, Language}
+use Rattle.rng_core.specs.Unmentioned.{covers_others_in}
+use Rattle.rng_core.specs.Matching.{Split, no_attribute, to_first, to_second, then_second, element_of_first, element_to_first, element_to_second, Matches, by_empty, by_text, by_data, by_value, by_list, by_attribute, by_blank_attribute, by_first, by_second, by_group, by_interleave, by_one, by_more, by_element}
+use Rattle.rng_kept.specs.Events.{IsAmong, IsDistinct, distinct_enter}
+use Rattle.rng_kept.specs.Moves.{Move, take, attributes_of}
 use Rattle.rng_kept.specs.KeptLists.{IsEndOf, CanMove}
-use Rattle.rng_kept.specs.Mentioned.{class_mentions, class_mentions_ns, IsClassOf, IsAttributesOf, itself, of_one_or_more, of_first_choice, of_second_choice, of_first_of_group, of_second_of_group, of_first_of_interleave, of_second_of_interleave, of_elements, of_attributes, AreUnmentionedAlike}
+use Rattle.rng_kept.specs.Mentioned.{class_mentions, IsClassOf, IsAttributesOf, itself, of_one_or_more, of_first_choice, of_second_choice, of_first_of_group, of_second_of_group, of_first_of_interleave, of_second_of_interleave, of_elements, of_attributes, AreUnmentionedAlike}
 use Rattle.rng_kept.specs.Residuals.{Outer, document, inside, Way, among, in_tag, Residual, TakesChildren, strictly, loosely, voidly, TakesOuter, at_document, at_inside, TakesWay, among_children, in_start_tag, Takes, by_this, by_later}
 use Rattle.rng_kept.specs.Live.{AreLive}
-use Rattle.rng_kept.specs.Lively.{Given, Within, IsLively, lively_in_tag, AreLively}
+use Rattle.rng_kept.specs.Lively.{IsLively, lively_in_tag, AreLively}
 use Rattle.rng_kept.specs.Standing.{Stands}
-use Rattle.rng_residual.specs.Unmentioned.{AreAdmittedAlike, UnmentionedNamesAlike}
+use Rattle.rng_residual.specs.Unmentioned.{UnmentionedNamesAlike}
 use Rattle.rng_residual.proofs.Smart.{and_true, by_test}
 use Rattle.rng_residual.proofs.Nulls.{true_and}
 use Rattle.rng_residual.proofs.Sole.{same_name_is, same_itself}
 use Rattle.rng_residual.proofs.Mentioned.{covers-unmentioned, covers-other_namespace}
-use Rattle.rng_residual.proofs.Entering.{Entered, entered}
+use Rattle.rng_residual.proofs.Entering.{entered}
 use Rattle.rng_residual.proofs.Ends.{not_enter, no_attribute_outside, given as given_first}
 use Rattle.rng_residual.proofs.Attributes.{attribute_is}
 use Rattle.rng_residual.proofs.Alive.{lively_first}
 use Rattle.rng_residual.proofs.Merging.{takes_one}
-use Rattle.rng_residual.proofs.Distinct.{enter_distinct, attribute_distinct, text_of_writable, attributes_apart, distinct_attributes_on, named}
+use Rattle.rng_residual.proofs.Distinct.{enter_distinct, text_of_writable, attributes_apart, distinct_attributes_on, named}
 use Rattle.rng_residual.proofs.Standing.{kept_distinct, lively_all, end_before, end_behind, valid_distinct}
 
 -- ---- classes
@@ -45,9 +43,9 @@ of_one_namespace c n m e f same = covers-unmentioned c n e ∙ (ap (covers_other
 alike : {g : List Definition} {n m : Name} → AreUnmentionedAlike g n m → (i : ℕ) (d : Definition) (c : Class) → slice_get g i ≡ Some d → IsClassOf c d → AreInAlike c n m
 alike {n = n} {m = m} u i d c e k = record {
   same = ⊎_elim
-    (λ same. of_one_namespace c n m (u.first i d c e k) (u.second i d c e k) same)
-    (λ other. covers-other_namespace c n (other.0 i d c e k) ∙ sym (covers-other_namespace c m (other.1 i d c e k)))
-    u.namespaces;
+      (λ same. of_one_namespace c n m (u.first i d c e k) (u.second i d c e k) same)
+      (λ other. covers-other_namespace c n (other.0 i d c e k) ∙ sym (covers-other_namespace c m (other.1 i d c e k)))
+      u.namespaces;
 }
 
 -- ---- an element by another name
@@ -195,9 +193,9 @@ module _ (n m : Name) where
           taken = by_this (in_start_tag (attribute_is m v ∷ swap_all one.rest) k rest refl (record { children = w.children; weakly = w.weakly; matched = subst (λ y. Matches g p y w.children) first whole }) t);
           writable = λ y. swap_written one.rest (TagEnd ∷ z) (subst (λ x. AreWritable x) one.events y);
           distinct = λ y.
-            let d = attributes_apart a l z (named w.matched).0 (subst (λ x. IsDistinct l x) e y) in
-            subst (λ x. IsDistinct l (attributes_flat x (TagEnd ∷ z))) first
-            (distinct_attributes_on (swap_all a) l (swap_proper d.proper) (λ x q r. away d.apart x (swap_has a q) r) d.rest);
+              let d = attributes_apart a l z (named w.matched).0 (subst (λ x. IsDistinct l x) e y) in
+              subst (λ x. IsDistinct l (attributes_flat x (TagEnd ∷ z))) first
+              (distinct_attributes_on (swap_all a) l (swap_proper d.proper) (λ x q r. away d.apart x (swap_has a q) r) d.rest);
         }
       where
         away : ((x : Name) → HasAttribute x a → IsAmong x l → ⊥) → (x : Name) → HasAttribute (swapped x) a → IsAmong x l → ⊥

@@ -19,7 +19,7 @@ use Rattle.rng_kept.specs.Lively.{Given, Within, IsLivelyOutside, lively_documen
 use Rattle.rng_residual.proofs.Smart.{by_test, is_not_allowed-is, split_none, split_none_is}
 use Rattle.rng_residual.proofs.Entering.{IsNamed, AreNamed, one_named, named_first, opens_named}
 use Rattle.rng_residual.specs.Solid.{PassNoBlank}
-use Rattle.rng_kept.specs.Strings.{Tests, string_tests, after}
+use Rattle.rng_kept.specs.Strings.{string_tests, after}
 use Rattle.rng_kept.specs.Content.{is_dead_outer, among_of, loose_after, outer_after, chars_way, chars, may_leave, leave_outer, leave_way, leave}
 use Rattle.rng_residual.proofs.Moving.{is_flat_outer, IsFlat}
 use Rattle.rng_residual.proofs.Ends.{IsCleanTag}

@@ -135,7 +135,7 @@ module _ {g : List Definition} {f b : Bool} where
 -- ---- leaves are those of a sound grammar
 
 pub sound_value_is : {count : ℕ} {type : Datatype} {text : List ℕ} → IsSoundPattern count (literal type text) → Accepts type text × IsTrue (is_of_chars text)
-sound_value_is (sound_value a c) = (a, c)
+sound_value_is (sound_value made a c) = (a, c)
 
 pub clean_sound_data : {g : List Definition} {f b : Bool} {type : Datatype} {excepts : List Except} → Clean g f b (typed type excepts) → IsSoundLeaf (typed type excepts)
 clean_sound_data (clean_data {count = n} z s) = record { count = n; sound = z; flat = refl }

@@ -5,7 +5,7 @@ use Rattle.std.proofs.lemmas.Bool.Decides.{Decides-and}
 use Rattle.rng_types.specs.Types.{Accepts, SameValue, TakesAway}
 use Rattle.rng_types.specs.declared.datatype.Datatype.{Datatype}
 use Rattle.rng_types.specs.declared.datatype.Except.{Except}
-use Rattle.rng_residual.proofs.TypesDeciding.{accepts_decided, same_value_decided, left_decided}
+use Rattle.rng_types.proofs.Deciding.{accepts_decided, same_value_decided, left_decided}
 use Rattle.rng_kept.specs.Strings.{is_data, is_value}
 
 pub is_data-Decides : (type : Datatype) (excepts : List Except) (text : List ℕ) →

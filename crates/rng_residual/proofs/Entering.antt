@@ -8,7 +8,7 @@ use Rattle.rng_core.specs.Names.{has_name}
 use Rattle.rng_core.specs.Patterns.{Pattern, Definition, not_allowed, empty, any_text, typed, literal, listed, attribute, ref, one_or_more, choice, group, interleave}
 use Rattle.rng_core.specs.Matching.{Matches, by_element, by_first, by_second}
 use Rattle.rng_kept.specs.SmallPatterns.{choice_of, star}
-use Rattle.rng_kept.specs.Openings.{Opening, opening, added, joined, then_group, then_interleave, under_interleave, open_definition, opens}
+use Rattle.rng_kept.specs.Openings.{Opening, added, joined, then_group, then_interleave, under_interleave, open_definition, opens}
 use Rattle.rng_residual.specs.Openings.{Opened, opened_first, opened_later}
 use Rattle.rng_kept.specs.Residuals.{Outer, document, inside, Residual, MatchesWeakly, TakesChildren, strictly, loosely, voidly, TakesOuter, at_document, at_inside, TakesWay, in_start_tag, Takes, by_this, by_later}
 use Rattle.rng_kept.specs.Entering.{content_in, content_of, rest_at, has_number, others, tag_at_top, tag_of_both, tag_of_loose, enter_outer}

@@ -12,7 +12,7 @@ use Rattle.rng_kept.specs.Clean.{Clean, clean_ref, Fine}
 use Rattle.rng_kept.specs.Live.{IsStart, one_ref, a_choice, AreLive}
 use Rattle.rng_residual.proofs.Smart.{by_test, and_true, split_none}
 use Rattle.rng_kept.specs.Standing.{known_from}
-use Rattle.rng_residual.specs.Moves.{KnownFramesBegin}
+use Rattle.rng_residual.specs.Moves.{KnownIsTold, KnownFramesBegin}
 use Rattle.rng_residual.proofs.Cleaning.{fine, fine_none, fine_choice}
 use Rattle.rng_residual.proofs.Keeping.{some_choice}
 use Rattle.rng_residual.proofs.Samples.{sample}
@@ -98,13 +98,34 @@ known_some (x ∷ ds) n i (suc k) d e h =
     (λ _. some_choice (ref i) (known_from ds n (i + 1)) refl)
     (λ _. known_some ds n (i + 1) k d e h)
 
+-- a definition of these that has the name
+record Found (ds : List Definition) (n : Name) : Type 0 where
+  number : ℕ
+  definition : Definition
+  is : slice_get ds number ≡ Some definition
+  named : IsTrue (has_name definition.class n)
+
 start_of : {p : Pattern} → IsStartOrNone p → is_not_allowed p ≡ false → IsStart p
 start_of none_there e = cc
 start_of (some_there h) e = h
 
+found_at : (ds : List Definition) (n : Name) (i : ℕ) → is_not_allowed (known_from ds n i) ≡ false → Found ds n
+found_at [] n i e = cc
+found_at (d ∷ ds) n i e = go (has_name d.class n) refl (λ f. found_at ds n (i + 1) f) e
+  where
+    go : (b : Bool) → has_name d.class n ≡ b → (is_not_allowed (known_from ds n (i + 1)) ≡ false → Found ds n) → is_not_allowed (if b then choice_of (ref i) (known_from ds n (i + 1)) else known_from ds n (i + 1)) ≡ false → Found (d ∷ ds) n
+    go true h more e = record { number = 0; definition = d; is = refl; named = h }
+    go false h more e = let w = more e in record { number = suc w.number; definition = w.definition; is = w.is; named = w.named }
+
+pub known_is_told : KnownIsTold
+known_is_told g n = (
+  λ e. let w = found_at g.definitions n 0 e in record { number = w.number; definition = w.definition; is = w.is; named = w.named },
+  λ k. known_some g.definitions n 0 k.number k.definition k.is k.named,
+)
+
 pub known_frames_begin : KnownFramesBegin
-known_frames_begin g n live i d e h =
-    let some = known_some g.definitions n 0 i d e h in
+known_frames_begin g n live k =
+    let some = known_some g.definitions n 0 k.number k.definition k.is k.named in
     let all : StandsAt g.definitions g.definitions 0 = record { at = λ j d e. let k : j ≡ 0 + j = omega arith in subst (λ m. slice_get g.definitions m ≡ Some d) k e } in
     record {
       start = start_of (known_start g.definitions n 0) some;

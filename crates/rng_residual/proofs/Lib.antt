@@ -1,4 +1,3 @@
-pub mod TypesDeciding
 pub mod Mentioned
 pub mod Sole
 pub mod Smart
@@ -33,3 +32,4 @@ pub mod Known
 pub mod Members
 pub mod Required
 pub mod Alike
+pub mod Restricted

@@ -27,16 +27,18 @@ use Rattle.rng_kept.specs.Lists.{has_no_list}
 use Rattle.rng_kept.specs.Clean.{TakesString}
 use Rattle.rng_residual.proofs.Smart.{and_true, or_true, shuffle_none}
 use Rattle.rng_residual.proofs.Nulls.{nullable_in, nullable_out, true_and, true_or_left, true_or_right}
-use Rattle.rng_kept.specs.Answers.{is_accepted}
-use Rattle.rng_residual.specs.Solid.{IsSoundLeaf, TestsIn, TestsSolid}
+use Rattle.rng_types.specs.Answers.{is_accepted}
+use Rattle.rng_residual.specs.Solid.{IsSoundLeaf, TestsIn, TestsSolid, TestsAreSolid}
 use Rattle.rng_kept.specs.SolidStrings.{has_words, solid_tests}
-use Rattle.rng_residual.proofs.TypesDeciding.{accepts_decided}
+use Rattle.rng_types.proofs.Deciding.{accepts_decided}
 use Rattle.rng_residual.proofs.Cleaning.{sound_value_is}
 use Rattle.rng_residual.proofs.Others.{a_solid_text}
-use Rattle.rng_kept.specs.WellMade.{is_well_made}
-use Rattle.rng_kept.specs.Members.{is_one_token, IsMember, HasMember}
-use Rattle.rng_kept.specs.MemberTest.{has_member, MembersExist, TextsGiveMembers}
-use Rattle.rng_kept.specs.OneToken.{IsOneTokenOf, IsOneTokenAnswer, one_token_of, OneTokensExist}
+use Rattle.rng_types.specs.WellMade.{is_well_made}
+use Rattle.rng_types.specs.Members.{is_one_token, IsMember, HasMember}
+use Rattle.rng_types.specs.MemberTest.{has_member}
+use Rattle.rng_types.proofs.Exist.{members_exist, texts_give_members}
+use Rattle.rng_types.specs.OneToken.{IsOneTokenOf, IsOneTokenAnswer, one_token_of}
+use Rattle.rng_types.proofs.Token.{one_tokens_exist}
 
 -- ---- which children are tokens
 
@@ -104,8 +106,8 @@ part_of {g = g} {p = p} {c = c} m f = ⊎_elim (λ e. inr (nullable_in (subst (�
 list_sound : {count : ℕ} {p : Pattern} → IsSoundPattern count (listed p) → IsSoundPattern count p
 list_sound (sound_list s) = s
 
-data_sound : {count : ℕ} {type : Datatype} {excepts : List Except} → IsSoundPattern count (typed type excepts) → length excepts ≤ 128
-data_sound (sound_data few each) = few
+data_sound : {count : ℕ} {type : Datatype} {excepts : List Except} → IsSoundPattern count (typed type excepts) → IsTrue (is_well_made type) × (length excepts ≤ 128)
+data_sound (sound_data made few each) = (made, few)
 
 choice_sound : {count : ℕ} {p q : Pattern} → IsSoundPattern count (choice p q) → IsSoundPattern count p × IsSoundPattern count q
 choice_sound (sound_choice s r) = (s, r)
@@ -136,29 +138,28 @@ token_given None a h = cc
 token_given (Some text) a h = record { text = text; of_chars = a.0; is = a.1 }
 
 -- the test whether there is a member finds each text, and gives one of characters that XML allows
-module _ (members : MembersExist) (texts : TextsGiveMembers) (made : (type : Datatype) → IsTrue (is_well_made type)) where
-  member_in : {count : ℕ} (type : Datatype) (excepts more : List Except) (one : Bool) (text : List ℕ) → IsSoundPattern count (typed type excepts) → length more ≤ length excepts + 1 →
-      IsTrue (is_utf8 text) → IsMember type more one text → has_member type more one ≡ true
-  member_in type excepts more one text s l u is =
-      let few : length excepts ≤ 128 = data_sound s in
-      let most : length more ≤ 129 = omega (arith, few, l) in
-      (members type more one (made type) most).1 (texts type more one text (made type) most u is)
+member_in : {count : ℕ} (type : Datatype) (excepts more : List Except) (one : Bool) (text : List ℕ) → IsSoundPattern count (typed type excepts) → length more ≤ length excepts + 1 →
+    IsTrue (is_utf8 text) → IsMember type more one text → has_member type more one ≡ true
+member_in type excepts more one text s l u is =
+    let made = data_sound s in
+    let most : length more ≤ 129 = omega (arith, made.1, l) in
+    (members_exist type more one made.0 most).1 (texts_give_members type more one text made.0 most u is)
 
-  member_out : {count : ℕ} (type : Datatype) (excepts more : List Except) (one : Bool) → IsSoundPattern count (typed type excepts) → length more ≤ length excepts + 1 →
-      has_member type more one ≡ true → HasMember type more one
-  member_out type excepts more one s l h =
-      let few : length excepts ≤ 128 = data_sound s in
-      let most : length more ≤ 129 = omega (arith, few, l) in
-      (members type more one (made type) most).0 h
+member_out : {count : ℕ} (type : Datatype) (excepts more : List Except) (one : Bool) → IsSoundPattern count (typed type excepts) → length more ≤ length excepts + 1 →
+    has_member type more one ≡ true → HasMember type more one
+member_out type excepts more one s l h =
+    let made = data_sound s in
+    let most : length more ≤ 129 = omega (arith, made.1, l) in
+    (members_exist type more one made.0 most).0 h
 
 -- ---- words that are matched are found
 
-module _ {g : List Definition} (members : MembersExist) (texts : TextsGiveMembers) (tokens : OneTokensExist) (made : (type : Datatype) → IsTrue (is_well_made type)) where
+module _ {g : List Definition} where
   words_found_in : {count : ℕ} {p : Pattern} {c : Children} → IsSoundPattern count p → has_no_list p ≡ true → AreTokens c → (c ≡ nil → ⊥) → Matches g p [] c → has_words p ≡ true
   words_found_in z f a some by_empty = absurd (some refl)
   words_found_in z f a some (by_text s) = refl
-  words_found_in z f (one_token {t = t} k u a) some (by_data {type = type} {excepts = es} b d) = member_in members texts made type es es true t z (omega arith) u (record { accepted = b; left = d; token = λ _. k })
-  words_found_in z f (one_token {t = t} k u a) some (by_value {type = type} {wanted = w} b d) = let v = sound_value_is z in token_told (one_token_of type w) (tokens type w v.0 v.1) t u (record { token = k; accepted = b; same = d })
+  words_found_in z f (one_token {t = t} k u a) some (by_data {type = type} {excepts = es} b d) = member_in type es es true t z (omega arith) u (record { accepted = b; left = d; token = λ _. k })
+  words_found_in z f (one_token {t = t} k u a) some (by_value {type = type} {wanted = w} b d) = let v = sound_value_is z in token_told (one_token_of type w) (one_tokens_exist type w v.0 v.1) t u (record { token = k; accepted = b; same = d })
   words_found_in z f a some (by_list m) = cc
   words_found_in z f a some (by_first {p = p} {q = q} m) = true_or_left (has_words p) (has_words q) (words_found_in (choice_sound z).0 (and_true _ _ f).0 a some m)
   words_found_in z f a some (by_second {p = p} {q = q} m) = true_or_right (has_words p) (has_words q) (words_found_in (choice_sound z).1 (and_true _ _ f).1 a some m)
@@ -342,14 +343,14 @@ letter_bare : is_bare (120 ∷ []) ≡ true
 unfolding is_space
 letter_bare = refl
 
-module _ {g : List Definition} (members : MembersExist) (texts : TextsGiveMembers) (tokens : OneTokensExist) (made : (type : Datatype) → IsTrue (is_well_made type)) where
+module _ {g : List Definition} where
   words_found_out : {count : ℕ} {p : Pattern} → IsSoundPattern count p → has_words p ≡ true → SomeWords g p
   words_found_out sound_text h = one_word (120 ∷ []) (true_and (is_some_text (120 ∷ [])) (is_bare (120 ∷ [])) refl letter_bare) a_solid_text.0 (by_text (one_string no_string))
-  words_found_out {count = n} (sound_data {type = t} {excepts = e} l s) h =
-      let w = member_out members texts made {count = n} t e e true (sound_data l s) (omega arith) h in
+  words_found_out {count = n} (sound_data {type = t} {excepts = e} made l s) h =
+      let w = member_out {count = n} t e e true (sound_data made l s) (omega arith) h in
       one_word w.text (w.member.token refl) w.characters (by_data w.member.accepted w.member.left)
-  words_found_out (sound_value {type = t} {text = v} a c) h =
-      let w = token_given (one_token_of t v) (tokens t v a c) h in
+  words_found_out (sound_value {type = t} {text = v} made a c) h =
+      let w = token_given (one_token_of t v) (one_tokens_exist t v a c) h in
       one_word w.text w.is.token w.of_chars (by_value w.is.accepted w.is.same)
   words_found_out (sound_one_or_more s) h = let w = words_found_out s h in record { words = w.words; good = w.good; some = w.some; matched = by_one w.matched }
   words_found_out (sound_choice {p = p} {q = q} s r) h =
@@ -381,7 +382,7 @@ module _ {g : List Definition} (members : MembersExist) (texts : TextsGiveMember
 
   list_passes : {count : ℕ} (t : List ℕ) (p : Pattern) → IsSoundPattern count p → IsTrue (is_utf8 t) → is_blank t ≡ false → has_no_list p ≡ true → Matches g p [] (strings (words t)) → has_words p ≡ true
   list_passes t p z u b f m =
-      words_found_in members texts tokens made z f (tokens_of (words t) (words-are_bare t) (words_text (words t) t refl (IsUtf8-from_is_utf8 t u))) (λ e. some (words t) refl e) m
+      words_found_in z f (tokens_of (words t) (words-are_bare t) (words_text (words t) t refl (IsUtf8-from_is_utf8 t u))) (λ e. some (words t) refl e) m
     where
       some : (ws : List (List ℕ)) → words t ≡ ws → strings ws ≡ nil → ⊥
       some [] i e = true≢false (sym (blank-no_words t i) ∙ b)
@@ -392,7 +393,7 @@ module _ {g : List Definition} (members : MembersExist) (texts : TextsGiveMember
     where
       of_data : {count : ℕ} {type : Datatype} {es : List Except} → IsSoundPattern count (typed type es) → Matches g (typed type es) [] (string t nil) → has_member type (BuiltinToken [] ∷ es) false ≡ true
       of_data z (by_data {type = type} {excepts = es} a d) =
-          member_in members texts made type es (BuiltinToken [] ∷ es) false t z (omega arith) u
+          member_in type es (BuiltinToken [] ∷ es) false t z (omega arith) u
           (record { accepted = a; left = (not_nothing t b, d); token = λ e. absurd (true≢false (sym e)) })
 
       of_value : {type : Datatype} {v : List ℕ} → Matches g (literal type v) [] (string t nil) → not (is_blank v && is_accepted type v) ≡ true
@@ -410,7 +411,7 @@ module _ {g : List Definition} (members : MembersExist) (texts : TextsGiveMember
 
   data_found : (count : ℕ) (type : Datatype) (es : List Except) → IsSoundPattern count (typed type es) → has_member type (BuiltinToken [] ∷ es) false ≡ true → TakesString g false (typed type es)
   data_found count type es z h =
-      let w = member_out members texts made type es (BuiltinToken [] ∷ es) false z (omega arith) h in
+      let w = member_out type es (BuiltinToken [] ∷ es) false z (omega arith) h in
       solid_string w.text w.characters (not_blank_of w.text (λ e. w.member.left.0 (ap (join_with_byte 32) e))) (by_data w.member.accepted w.member.left.1)
 
   list_found : (count : ℕ) (p : Pattern) → IsSoundPattern count p → has_no_list p ≡ true → has_words p ≡ true → TakesString g false (listed p)
@@ -425,3 +426,6 @@ module _ {g : List Definition} (members : MembersExist) (texts : TextsGiveMember
     all = record { passes = λ t u b. passes_all t u b };
     none_else = record { data_out = λ count type es z h. data_found count type es z h; value_out = λ count type v z h. value_found type v (sound_value_is z).0 h; list_out = λ count p s f h. list_found count p s f h };
   }
+
+pub tests_are_solid : TestsAreSolid
+tests_are_solid g = solid

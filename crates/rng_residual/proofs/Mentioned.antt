@@ -1,6 +1,6 @@
 -- Names that a class doesn't mention are in it alike.
-use Rattle.std.specs.Prelude.{◌≡◌, ℕ, Bool, not, ◌&&◌, ◌||◌, false, List}
-use Rattle.std.proofs.Common.{refl, sym, ap, ◌∙◌, subst, inl, inr}
+use Rattle.std.specs.Prelude.{◌≡◌, Bool, not, ◌&&◌, false}
+use Rattle.std.proofs.Common.{refl}
 use Rattle.std.proofs.lemmas.Bool.{or_parts, and_left}
 use Rattle.nx_base.specs.declared.name.Name.{Name}
 use Rattle.rng_core.specs.Names.{Class, any_name, ns_name, the_name, either, without, covers}

@@ -5,7 +5,7 @@ use Rattle.std.specs.Str.{is_utf8}
 use Rattle.nx_base.specs.declared.name.Name.{Name}
 use Rattle.nx_base.specs.Characters.{is_blank}
 use Rattle.nx_base.specs.Trees.{Attribute, Children, nil, string, element, without_blanks, HasAttribute, Event, Enter, Att, TagEnd, Chars, Leave, attributes_flat, children_flat}
-use Rattle.rng_core.specs.Patterns.{Pattern, Definition, not_allowed}
+use Rattle.rng_core.specs.Patterns.{Pattern, Definition, not_allowed, Language}
 use Rattle.rng_core.specs.Matching.{Matches}
 use Rattle.rng_core.specs.Validity.{Valid, Viable}
 use Rattle.rng_kept.specs.SmallPatterns.{is_not_allowed}
@@ -15,15 +15,14 @@ use Rattle.rng_kept.specs.Merging.{stepped, answered}
 use Rattle.rng_kept.specs.Events.{IsAmong, IsText, AreText, IsDistinct, distinct_attribute, distinct_enter, distinct_chars, distinct_leave}
 use Rattle.rng_kept.specs.Clean.{Clean, Fine}
 use Rattle.rng_kept.specs.Lively.{Within, IsLivelyOutside, lively_document, lively_inside, IsLively, lively_among, lively_in_tag, AreLively, none_lively}
-use Rattle.rng_kept.specs.Language.{Language}
 use Rattle.rng_kept.specs.Moves.{Move, take, skip_to, any_value, any_string, missing_attributes, missing_content, Adds, adds_skipped, adds_value, adds_string, adds_attributes, adds_content, attributes_after, attributes_of, IsTextMove, AreTextMoves}
 use Rattle.rng_kept.specs.KeptLists.{Asks, Kept, IsEndOf}
 use Rattle.rng_kept.specs.Live.{IsFrame, AreLive}
 use Rattle.rng_kept.specs.Standing.{Stands, StandsBehind}
 use Rattle.rng_residual.proofs.Smart.{and_true, never_no, is_not_allowed-is}
-use Rattle.rng_kept.specs.Strings.{Tests, after_by}
 use Rattle.rng_kept.specs.SolidStrings.{solid_tests, after_solid}
-use Rattle.rng_residual.specs.Solid.{TestsSolid, TestsAreSolid}
+use Rattle.rng_residual.specs.Solid.{TestsSolid}
+use Rattle.rng_residual.proofs.Members.{tests_are_solid}
 use Rattle.rng_kept.specs.Content.{among_of, leave_skip_way, leave_skip, outer_after_any, any_string_way, chars_any}
 use Rattle.rng_kept.specs.Tags.{children_of, any_value_way, attribute_any, missing_way, tag_end_missing}
 use Rattle.rng_kept.specs.Entering.{skip_way, enter_skip}
@@ -32,7 +31,7 @@ use Rattle.rng_residual.specs.Moves.{MovesStand}
 use Rattle.rng_residual.proofs.Strings.{OneString, by_in}
 use Rattle.rng_residual.proofs.Attributes.{attribute_is}
 use Rattle.rng_residual.proofs.Solid.{behind_children}
-use Rattle.rng_residual.proofs.Cleaning.{fine_keeps, tests_of_fine, fine, flat_clean, flat_fine, fine_after, fine_attribute}
+use Rattle.rng_residual.proofs.Cleaning.{fine_keeps, tests_of_fine, fine, flat_clean, fine_after, fine_attribute}
 use Rattle.rng_residual.proofs.Repair.{repair, distinct_right, distinct_apart2}
 use Rattle.rng_residual.proofs.Fresh.{attributes_can_be_written as attributes_written}
 use Rattle.rng_residual.proofs.Moving.{among_in, among_out, spoken, not_chars}
@@ -407,8 +406,8 @@ module _ {g : Language} {p : Pattern} {h : List Move} {x : Residual} (live : Are
   pub content_stands : StandsBehind g p h missing_content (answered (leave_skip x))
   content_stands = way_stands live z e missing_content tt leave_skip_way content_moves
 
-pub moves_stand : TestsAreSolid → MovesStand
-moves_stand solid g live p h x e = let z = solid g.definitions in record {
+pub moves_stand : MovesStand
+moves_stand g live p h x e = let z = tests_are_solid g.definitions in record {
   event = λ f t new. event_stands live z p h x e f t new;
   skip = λ n. skip_stands live z e n;
   value = λ n f. value_stands live z e n f;

@@ -6,13 +6,12 @@ use Rattle.nx_base.specs.declared.name.Name.{Name}
 use Rattle.nx_base.specs.Characters.{is_of_chars}
 use Rattle.nx_base.specs.Trees.{Attribute, Children, nil, HasAttribute, here, further, Event, TagEnd, Leave, attributes_flat, children_flat, AreWritable}
 use Rattle.rng_core.specs.Names.{Class, has_attribute_name}
-use Rattle.rng_core.specs.Patterns.{Pattern, Definition, attribute}
+use Rattle.rng_core.specs.Patterns.{Pattern, Definition, attribute, Language}
 use Rattle.rng_core.specs.Matching.{Matches, by_empty, by_text, by_data, by_value, by_list, by_attribute, by_blank_attribute, by_first, by_second, by_group, by_interleave, by_one, by_more, by_element, as_they_stand}
 use Rattle.rng_core.specs.Validity.{Valid}
 use Rattle.rng_kept.specs.Residuals.{Outer, Way, among, in_tag, Residual, TakesWay, among_children, in_start_tag, Takes, by_this, by_later}
 use Rattle.rng_kept.specs.Clean.{Clean, clean_empty, clean_text, clean_data, clean_value, clean_list, clean_attribute, clean_ref, clean_one_or_more, clean_choice, clean_group, clean_interleave}
 use Rattle.rng_kept.specs.Lively.{IsLively, lively_in_tag, AreLively}
-use Rattle.rng_kept.specs.Language.{Language}
 use Rattle.rng_kept.specs.Moves.{Move, attributes_of}
 use Rattle.rng_kept.specs.Events.{AreText}
 use Rattle.rng_residual.proofs.Fresh.{IsFresh, fresh_leave}
@@ -40,8 +39,8 @@ use Rattle.rng_residual.proofs.MoveStands.{attributes_text, no_tag_outside}
 module _ {g : List Definition} (n : Name) where
   -- a needed name is there
   pub needed : {p : Pattern} {a : List Attribute} {c : Children} → Matches g p a c → needs n p ≡ true → HasAttribute n a
-  needed (by_attribute {class = k} {a = x} h m) e = here ((only_is_exact k n).0 e x.name h)
-  needed (by_blank_attribute {class = k} {a = x} h b m) e = here ((only_is_exact k n).0 e x.name h)
+  needed (by_attribute {class = k} {a = x} h m) e = here ((only_is_exact k n x.name h).0 e)
+  needed (by_blank_attribute {class = k} {a = x} h b m) e = here ((only_is_exact k n x.name h).0 e)
   needed (by_first {p = p} {q = q} m) e = needed m (and_true (needs n p) (needs n q) e).0
   needed (by_second {p = p} {q = q} m) e = needed m (and_true (needs n p) (needs n q) e).1
   needed (by_group {p = p} {q = q} s o m k) e = ⊎_elim (λ f. has_left s (needed m f)) (λ f. has_right s (needed k f)) (or_true (needs n p) (needs n q) e)
@@ -85,7 +84,7 @@ plain {g = g} {p = p} n c =
 module _ {g : List Definition} (n : Name) where
   lacking_attribute : {c : Class} {p : Pattern} (a : Attribute) → has_only c n ≡ false → IsTrue (is_of_chars a.value) → Matches g (attribute c p) (a ∷ []) nil → Lacking g (attribute c p) n
   lacking_attribute {c = c} {p = p} a e o m =
-      let w = (only_is_exact c n).1 e in
+      let w = (only_is_exact c n a.name (class_has m)).1 e in
       record { given = attribute_is w.name a.value ∷ []; children = nil; chars = (o, tt); written = none_written; matched = renamed w.name w.has m; lacks = λ h. go w.name w.other h }
     where
       go : (k : Name) → (k ≡ n → ⊥) → HasAttribute n (attribute_is k a.value ∷ []) → ⊥

@@ -7,7 +7,7 @@ use Rattle.nx_base.specs.Trees.{Attribute, Children, nil, string, element, witho
 use Rattle.rng_core.specs.Patterns.{Pattern, Definition, not_allowed, empty, any_text, typed, literal, listed, attribute, ref, one_or_more, choice, group, interleave}
 use Rattle.rng_core.specs.Matching.{InOrder, then_second, string_of_first, element_of_first}
 use Rattle.rng_kept.specs.SmallPatterns.{is_not_allowed, group_of, star}
-use Rattle.rng_kept.specs.Openings.{Opening, joined, then_group, then_interleave, under_interleave, open_definition}
+use Rattle.rng_kept.specs.Openings.{Opening, then_group, then_interleave, under_interleave}
 use Rattle.rng_residual.specs.Openings.{Opened, opened_first, opened_later}
 use Rattle.rng_kept.specs.Residuals.{Outer, document, inside, Way, among, in_tag, Residual, TakesChildren, strictly, loosely, voidly, TakesOuter, at_document, at_inside, TakesWay, among_children, in_start_tag, Takes, by_this, by_later}
 use Rattle.rng_kept.specs.Entering.{rest_at, has_number, others, tag_of_both, tag_of_loose, skip_outer, skip_way, enter_skip}

@@ -1,6 +1,6 @@
 -- Classes that have one name alone, of those that an attribute can have.
-use Rattle.std.specs.Prelude.{◌≡◌, ℕ, Bool, true, false, not, ◌&&◌, ◌||◌, List, [], ◌∷◌, codes}
-use Rattle.std.proofs.Common.{refl, sym, ap, ◌∙◌, subst, inl, inr}
+use Rattle.std.specs.Prelude.{◌≡◌, ℕ, Bool, true, false, not, ◌&&◌, ◌||◌, List, [], codes}
+use Rattle.std.proofs.Common.{refl, sym, ◌∙◌, subst, inl, inr}
 use Rattle.std.proofs.lemmas.Bool.{false≢true, cases_Bool, and_parts, and_from, or_left, or_right, or_cases, or_parts, not_from_false, not-true}
 use Rattle.std.proofs.lemmas.Slice.Eq.{bytes_eq-Decides}
 use Rattle.std.specs.Str.{bytes_eq}
@@ -8,7 +8,7 @@ use Rattle.nx_base.specs.declared.name.Name.{Name}
 use Rattle.nx_base.specs.Names.{is_namespace, is_xml_name, is_attribute_name, same_name}
 use Rattle.rng_core.specs.Names.{Class, any_name, ns_name, the_name, either, without, covers, has_name, has_attribute_name, Overlap}
 use Rattle.rng_core.specs.Unmentioned.{covers_others_in, covers_others, share_others_in, meets_at, overlaps}
-use Rattle.rng_core.proofs.Overlaps.{overlap_is_there, same_bytes, same_fields, both_or}
+use Rattle.rng_core.proofs.Overlaps.{overlap_is_there, same_bytes, same_fields}
 use Rattle.rng_kept.specs.Mentioned.{class_mentions, class_mentions_ns}
 use Rattle.rng_kept.specs.Required.{other_at, has_only}
 use Rattle.rng_residual.proofs.Mentioned.{covers-unmentioned, covers-other_namespace}
@@ -38,10 +38,10 @@ meets_any any_name c n h = absurd (false≢true h)
 meets_any (ns_name ns) c n h = with_any c n ns h
 meets_any (the_name m) c n h = elim (or_cases (has_attribute_name c m && not (same_name m n)) _ h) [
   | inl e ↦
-    let w = and_parts (has_attribute_name c m) (not (same_name m n)) e in
-    let v = and_parts (is_attribute_name m) (covers c m) w.0 in
-    let x = (and_parts (is_xml_name m) _ v.0).0 in
-    or_left _ _ (and_from _ _ (and_from _ _ x (and_from _ _ v.1 (is_other m n v.0 (not-true _ w.1)))) (and_from _ _ x refl))
+      let w = and_parts (has_attribute_name c m) (not (same_name m n)) e in
+      let v = and_parts (is_attribute_name m) (covers c m) w.0 in
+      let x = (and_parts (is_xml_name m) _ v.0).0 in
+      or_left _ _ (and_from _ _ (and_from _ _ x (and_from _ _ v.1 (is_other m n v.0 (not-true _ w.1)))) (and_from _ _ x refl))
   | inr e ↦ or_right (has_name (rest_of c n) m && has_name any_name m) _ (with_any c n m.ns e)
 ]
 meets_any (either x y) c n h = elim (or_cases (other_at x c n) (other_at y c n) h) [
@@ -61,8 +61,8 @@ meets : (c : Class) (n : Name) → (covers_others c || other_at c c n) ≡ true 
 meets c n h = elim (or_cases (covers_others c) (other_at c c n) h) [
   | inl e ↦ or_left _ _ (others_of c n e)
   | inr e ↦
-    let found : meets_at (rest_of c n) (rest_of c n) any_name ≡ true = or_left (meets_at c (rest_of c n) any_name) _ (meets_any c c n e) in
-    or_right (covers_others (rest_of c n) && covers_others any_name) _ (or_left _ _ found)
+      let found : meets_at (rest_of c n) (rest_of c n) any_name ≡ true = or_left (meets_at c (rest_of c n) any_name) _ (meets_any c c n e) in
+      or_right (covers_others (rest_of c n) && covers_others any_name) _ (or_left _ _ found)
 ]
 
 -- a name differs from itself nowhere
@@ -123,15 +123,30 @@ found c n m h f =
       ]
     ]
 
-pub only_is_exact : OnlyIsExact
-only_is_exact c n = (λ h m k. alone h m k, λ h. other_of c n (overlap_is_there (rest_of c n) any_name (meets c n (not_false _ h))))
-  where
-    not_false : (b : Bool) → not b ≡ false → b ≡ true
-    not_false true h = refl
-    not_false false h = sym h
+-- of two names of a class one differs from a third that isn't in it
+other_than : (c : Class) (n m : Name) → has_attribute_name c m ≡ true → has_attribute_name c n ≡ false → OtherName c n
+other_than c n m h f = record { name = m; has = h; other = λ e. false≢true (sym f ∙ subst (λ k. has_attribute_name c k ≡ true) e h) }
 
-    alone : has_only c n ≡ true → (m : Name) → has_attribute_name c m ≡ true → m ≡ n
-    alone h m k = elim (cases_Bool (same_name m n)) [
+not_false : (b : Bool) → not b ≡ false → b ≡ true
+not_false true h = refl
+not_false false h = sym h
+
+alone : (c : Class) (n m : Name) → has_attribute_name c m ≡ true → has_only c n ≡ true → m ≡ n
+alone c n m k h =
+    let w = and_parts (has_attribute_name c n) (not (covers_others c || other_at c c n)) h in
+    elim (cases_Bool (same_name m n)) [
       | inl e ↦ same_name_is m n e
-      | inr e ↦ absurd (false≢true (sym (not-true _ h) ∙ found c n m k e))
+      | inr e ↦ absurd (false≢true (sym (not-true _ w.1) ∙ found c n m k e))
     ]
+
+another : (c : Class) (n m : Name) → has_attribute_name c m ≡ true → has_only c n ≡ false → OtherName c n
+another c n m k h = elim (cases_Bool (has_attribute_name c n)) [
+  | inl e ↦ other_of c n (overlap_is_there (rest_of c n) any_name (meets c n (not_false (covers_others c || other_at c c n) (sym (both e) ∙ h))))
+  | inr e ↦ other_than c n m k e
+]
+  where
+    both : has_attribute_name c n ≡ true → has_only c n ≡ not (covers_others c || other_at c c n)
+    both e = rw e refl
+
+pub only_is_exact : OnlyIsExact
+only_is_exact c n m k = (λ h. alone c n m k h, λ h. another c n m k h)

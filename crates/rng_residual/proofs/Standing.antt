@@ -1,22 +1,21 @@
 -- A residual stands for the kept lists, event by event.
-use Rattle.std.proofs.Common.{◌≡◌, List, [], ◌∷◌, ◌++◌, refl, ap, sym, subst, ◌∙◌, append_assoc, append-nil}
+use Rattle.std.proofs.Common.{◌≡◌, List, [], ◌∷◌, ◌++◌, refl, ap, sym, subst, ◌∙◌, append_assoc, append-nil, Some, None}
 use Rattle.nx_base.specs.declared.name.Name.{Name}
 use Rattle.nx_base.specs.Trees.{Attribute, Children, nil, element, alone, Event, Enter, Att, TagEnd, Chars, Leave, attributes_flat, children_flat}
-use Rattle.rng_core.specs.Patterns.{Pattern, Definition}
+use Rattle.rng_core.specs.Patterns.{Pattern, Definition, Language}
 use Rattle.rng_core.specs.Matching.{Matches, by_element, by_first, by_second}
 use Rattle.rng_core.specs.Validity.{Valid, Viable}
 use Rattle.rng_kept.specs.Residuals.{Residual, document, TakesOuter, at_document, among_children, Takes, by_this, by_later}
 use Rattle.rng_kept.specs.Lively.{lively_among, lively_document, AreLively, none_lively, one_lively, Lively, lively}
-use Rattle.rng_kept.specs.Language.{Language}
 use Rattle.rng_kept.specs.Moves.{Move, take, skip_to, any_value, any_string, missing_attributes, missing_content, Adds, adds_event, adds_skipped, adds_value, adds_string, adds_attributes, adds_content, attributes_after, attributes_of, AreTextMoves}
 use Rattle.rng_kept.specs.KeptLists.{Kept, IsEndOf}
 use Rattle.rng_kept.specs.Events.{IsText, AreText, IsDistinct, distinct_end, distinct_attribute, distinct_enter, distinct_tag_end, distinct_chars, distinct_leave}
 use Rattle.rng_kept.specs.Live.{IsStart, one_ref, a_choice, IsFrame, AreLive}
 use Rattle.rng_kept.specs.Standing.{Stands, StandsBehind, first_residual}
 use Rattle.rng_kept.specs.Merging.{answered}
-use Rattle.rng_residual.specs.Solid.{TestsSolid, TestsAreSolid}
-use Rattle.rng_kept.specs.Strings.{Tests}
-use Rattle.rng_residual.specs.Moves.{behind_event, IsNew, FramesStand, FrontsAreViable, StandingGoesOn}
+use Rattle.rng_residual.specs.Solid.{TestsSolid}
+use Rattle.rng_residual.proofs.Members.{tests_are_solid}
+use Rattle.rng_residual.specs.Moves.{behind_event, IsNew, FramesStand, FrontsAreViable, StandingGoesOn, AnswersTellMoves, RestsAreTaken}
 use Rattle.rng_residual.specs.Merging.{MergedTakeTheSame}
 use Rattle.rng_residual.proofs.Merging.{with_way_in, with_way_out}
 use Rattle.rng_residual.proofs.Moving.{chars_in, chars_out, leave_in, leave_out}
@@ -242,8 +241,8 @@ writable_end {g = g} {p = p} live z frame k s t u v =
 pub frames_stand : FramesStand
 frames_stand g p f = stands_first f
 
-pub fronts_are_viable : TestsAreSolid → FrontsAreViable
-fronts_are_viable solid g live p f k s t u v = writable_end live (solid g.definitions) f k s t u v
+pub fronts_are_viable : FrontsAreViable
+fronts_are_viable g live p f k s t u v = writable_end live (tests_are_solid g.definitions) f k s t u v
 
 pub standing_goes_on : StandingGoesOn
 standing_goes_on g p h x live e =
@@ -253,3 +252,25 @@ standing_goes_on g p h x live e =
 
 pub merged_take_the_same : MergedTakeTheSame
 merged_take_the_same g s x w = (λ h. with_way_out x w h, λ h. with_way_in x w h)
+
+pub answers_tell_moves : AnswersTellMoves
+answers_tell_moves g p h m None live none = (
+  λ c. absurd (none c.viable.rest (record { kept = c.kept; is_kept = c.is_kept; is_rest = c.viable.is_rest })),
+  λ e. cc,
+)
+answers_tell_moves g p h m (Some x) live stands = (
+  λ c. refl,
+  λ e.
+      let w = standing_goes_on g p (m ∷ h) x live stands in
+      record { kept = w.is_rest_of.kept; is_kept = w.is_rest_of.is_kept; viable = record { rest = w.rest; is_rest = w.is_rest_of.is_rest } },
+)
+
+pub rests_are_taken : RestsAreTaken
+rests_are_taken g p h x e s w = (
+  λ r.
+      let o : IsEndOf g p h s = record { kept = r.kept; is_kept = r.is_kept; valid = r.is_rest.valid } in
+      (e.complete s (text_of_writable s w) o, kept_distinct g p h r.kept s r.is_kept (valid_distinct (r.kept ++ s) r.is_rest.valid)),
+  λ t d.
+      let o = e.sound s (text_of_writable s w) d t in
+      record { kept = o.kept; is_kept = o.is_kept; is_rest = record { writable = w; valid = o.valid } },
+)

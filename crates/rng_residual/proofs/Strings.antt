@@ -9,8 +9,8 @@ use Rattle.rng_core.specs.Patterns.{Pattern, Definition, not_allowed, empty, any
 use Rattle.rng_core.specs.Matching.{no_attribute, then_second, string_of_first, string_to_first, string_to_second, AreStrings, one_string, Matches, by_first, by_second, by_group, by_empty, by_text, by_one, by_more, by_interleave, by_data, by_value, by_list}
 use Rattle.rng_kept.specs.SmallPatterns.{group_of, interleave_of, star}
 use Rattle.rng_kept.specs.Nullable.{nullable}
-use Rattle.rng_kept.specs.Lists.{lists_are, has_no_list, has_flat_lists}
-use Rattle.rng_residual.proofs.Smart.{or_same, seq_same, mix_same, or_sides, never_no, nothing_inv, order_all, and_true}
+use Rattle.rng_kept.specs.Lists.{has_no_list, has_flat_lists}
+use Rattle.rng_residual.proofs.Smart.{or_same, seq_same, mix_same, or_sides, never_no, nothing_inv, order_all}
 use Rattle.rng_residual.proofs.Nulls.{nullable_in, nullable_out, star_in, star_none, star_out, group_parts, interleave_parts, go_on}
 use Rattle.rng_residual.specs.Solid.{TestsIn}
 use Rattle.rng_kept.specs.Strings.{is_data, is_value, Tests, after_by, word_tests, after_word, after_words, string_tests, after}

@@ -9,7 +9,8 @@ use Rattle.rng_kept.specs.Attributes.{after_attribute}
 
 abbrev pub DerivesStrings : Type 0
 DerivesStrings = (g : List Definition) (p : Pattern) (t : List ℕ) (c : Children) →
-    (has_flat_lists p ≡ true → Matches g p [] (string t c) → Matches g (after t p) [] c) × (Matches g (after t p) [] c → Matches g p [] (string t c))
+    (has_flat_lists p ≡ true → Matches g p [] (string t c) → Matches g (after t p) [] c)
+    × (Matches g (after t p) [] c → Matches g p [] (string t c))
 
 abbrev pub DerivesAttributes : Type 0
 DerivesAttributes = (g : List Definition) (p : Pattern) (x : Attribute) (a : List Attribute) (c : Children) →

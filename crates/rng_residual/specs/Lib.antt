@@ -5,3 +5,4 @@ pub mod Merging
 pub mod Moves
 pub mod Required
 pub mod Unmentioned
+pub mod Restricted

@@ -1,21 +1,20 @@
 -- The residuals that a matcher's calls answer with stand for the lists that are kept behind the calls' moves.
-use Rattle.std.specs.Prelude.{◌≡◌, ℕ, List, [], ◌∷◌, ◌++◌, Some, slice_get, IsTrue}
+use Rattle.std.specs.Prelude.{◌≡◌, List, [], ◌++◌, false, Option, IsSome}
 use Rattle.nx_base.specs.declared.name.Name.{Name}
-use Rattle.nx_base.specs.Trees.{Event, Enter, Att, TagEnd, Chars, Leave}
-use Rattle.rng_core.specs.Names.{has_name}
-use Rattle.rng_core.specs.Patterns.{Pattern, Definition}
+use Rattle.nx_base.specs.Trees.{Event, Enter, Att, TagEnd, Chars, Leave, AreWritable}
+use Rattle.rng_core.specs.Patterns.{Pattern, Definition, Language}
 use Rattle.rng_core.specs.Validity.{Valid, Viable}
-use Rattle.rng_kept.specs.Language.{Language}
-use Rattle.rng_kept.specs.Events.{IsAmong, IsText, AreText}
+use Rattle.rng_kept.specs.Events.{IsAmong, IsText, AreText, IsDistinct}
 use Rattle.rng_kept.specs.Moves.{Move, take, skip_to, any_value, any_string, missing_attributes, missing_content, attributes_of}
-use Rattle.rng_kept.specs.KeptLists.{IsRestOf}
-use Rattle.rng_kept.specs.Residuals.{Residual}
+use Rattle.rng_kept.specs.KeptLists.{IsRestOf, CanMove}
+use Rattle.rng_kept.specs.SmallPatterns.{is_not_allowed}
+use Rattle.rng_kept.specs.Residuals.{Residual, Takes}
 use Rattle.rng_kept.specs.Merging.{answered}
 use Rattle.rng_kept.specs.Entering.{enter, enter_skip}
 use Rattle.rng_kept.specs.Content.{chars, chars_any, leave, leave_skip}
 use Rattle.rng_kept.specs.Tags.{attribute_of, attribute_any, tag_end, tag_end_missing}
 use Rattle.rng_kept.specs.Live.{IsFrame, AreLive}
-use Rattle.rng_kept.specs.Standing.{Stands, StandsBehind, first_residual, known_from}
+use Rattle.rng_kept.specs.Standing.{Stands, StandsBehind, first_residual, known, IsKnown}
 
 -- what is left behind an event that the text itself goes on with
 abbrev pub behind_event : List Definition → Event → Residual → Residual
@@ -50,10 +49,14 @@ pub record MovesOf (g : Language) (p : Pattern) (h : List Move) (x : Residual) :
 abbrev pub MovesStand : Type 0
 MovesStand = (g : Language) → AreLive g.definitions → (p : Pattern) (h : List Move) (x : Residual) → Stands g p h x → MovesOf g p h x
 
--- where a definition has the name, those that have it begin a frame
+-- the choice of the definitions with a name is notAllowed exactly where there is none
+abbrev pub KnownIsTold : Type 0
+KnownIsTold = (g : Language) (n : Name) →
+    (is_not_allowed (known g n) ≡ false → IsKnown g n) × (IsKnown g n → is_not_allowed (known g n) ≡ false)
+
+-- otherwise they begin a frame
 abbrev pub KnownFramesBegin : Type 0
-KnownFramesBegin = (g : Language) (n : Name) → AreLive g.definitions → (i : ℕ) (d : Definition) → slice_get g.definitions i ≡ Some d
-    → IsTrue (has_name d.class n) → IsFrame g (known_from g.definitions n 0)
+KnownFramesBegin = (g : Language) (n : Name) → AreLive g.definitions → IsKnown g n → IsFrame g (known g n)
 
 -- what text begins and text makes valid can also be made valid by what can be written
 abbrev pub FrontsAreViable : Type 0
@@ -68,3 +71,15 @@ pub record GoesOn (g : Language) (p : Pattern) (h : List Move) : Type 0 where
 -- what stands for kept lists goes on
 abbrev pub StandingGoesOn : Type 0
 StandingGoesOn = (g : Language) (p : Pattern) (h : List Move) (x : Residual) → AreLive g.definitions → Stands g p h x → GoesOn g p h
+
+-- an answer that stands behind a move is given exactly where the move can be made
+abbrev pub AnswersTellMoves : Type 0
+AnswersTellMoves = (g : Language) (p : Pattern) (h : List Move) (m : Move) (answer : Option Residual) → AreLive g.definitions
+    → StandsBehind g p h m answer → (CanMove g p h m → IsSome answer) × (IsSome answer → CanMove g p h m)
+
+-- of the lists that can be written and in which no tag repeats an attribute, what stands for moves takes exactly the rests of the
+-- lists that they keep; and none that repeats an attribute is such a rest
+abbrev pub RestsAreTaken : Type 0
+RestsAreTaken = (g : Language) (p : Pattern) (h : List Move) (x : Residual) → Stands g p h x → (s : List Event) → AreWritable s
+    → (IsRestOf g p h s → Takes g.definitions x s × IsDistinct (attributes_of h) s)
+    × (Takes g.definitions x s → IsDistinct (attributes_of h) s → IsRestOf g p h s)

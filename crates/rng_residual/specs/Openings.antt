@@ -14,4 +14,5 @@ pub data Opened (g : List Definition) (n : Name) (a : List Attribute) (k : Child
 
 abbrev pub OpensExactly : Type 0
 OpensExactly = (g : List Definition) (n : Name) (a : List Attribute) (k r : Children) (p : Pattern) →
-    (Matches g p [] (element n a k r) → Opened g n a k (opens g n p) r) × (Opened g n a k (opens g n p) r → Matches g p [] (element n a k r))
+    (Matches g p [] (element n a k r) → Opened g n a k (opens g n p) r)
+    × (Opened g n a k (opens g n p) r → Matches g p [] (element n a k r))

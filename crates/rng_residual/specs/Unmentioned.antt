@@ -4,8 +4,7 @@ use Rattle.std.specs.Str.{is_utf8}
 use Rattle.nx_base.specs.declared.name.Name.{Name}
 use Rattle.nx_base.specs.Names.{is_xml_name, is_attribute_name}
 use Rattle.nx_base.specs.Trees.{Enter, Att}
-use Rattle.rng_core.specs.Patterns.{Pattern}
-use Rattle.rng_kept.specs.Language.{Language}
+use Rattle.rng_core.specs.Patterns.{Pattern, Language}
 use Rattle.rng_kept.specs.Events.{IsAmong}
 use Rattle.rng_kept.specs.Moves.{Move, take, attributes_of}
 use Rattle.rng_kept.specs.KeptLists.{CanMove}

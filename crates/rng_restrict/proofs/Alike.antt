@@ -10,6 +10,7 @@ use Rattle.std.proofs.lemmas.List.Folds.{list_any-append}
 use Rattle.std.proofs.lemmas.List.Sorted.{list_any-IsPermutation}
 use Rattle.rng_core.specs.Names.{Class}
 use Rattle.rng_core.specs.Patterns.{Definition}
+use Rattle.rng_core.specs.declared.name_class.Bearer.TheVariants.{Element}
 use Rattle.rng_restrict.specs.Finding.{any_share, share_name, class_at, classes_at, PassAlike}
 use Rattle.rng_restrict.proofs.Sides.{both_any}
 
@@ -74,11 +75,11 @@ both_added old a b middle new first second test =
     ∙ sym (list_any-append test (old ++ a) b) ∙ ap (list_any test) (append_assoc old a b)
 
 -- lists of the same classes share a name with the same
-share_alike : (cs ds es fs : List Class) → PassAlike cs es → PassAlike ds fs → any_share cs ds ≡ any_share es fs
+share_alike : (cs ds es fs : List Class) → PassAlike cs es → PassAlike ds fs → any_share Element cs ds ≡ any_share Element es fs
 unfolding any_share PassAlike
 share_alike cs ds es fs first second =
-    both_any (λ c. list_any (λ d. share_name c d) ds) (λ c. list_any (λ d. share_name c d) fs) cs (λ c. second (λ d. share_name c d))
-    ∙ first (λ c. list_any (λ d. share_name c d) fs)
+    both_any (λ c. list_any (λ d. share_name Element c d) ds) (λ c. list_any (λ d. share_name Element c d) fs) cs (λ c. second (λ d. share_name Element c d))
+    ∙ first (λ c. list_any (λ d. share_name Element c d) fs)
 
 -- the numbers of a side, each once, have the classes of the side
 side_alike : (defs : List Definition) (begun numbers once : List ℕ) (a : List Class) → begun ≡ [] → PassAlike (classes_at defs numbers) (classes_at defs begun ++ a) → PassAlike once numbers → PassAlike (classes_at defs once) a
@@ -101,15 +102,15 @@ pub sides_once : (defs : List Definition) (old begun begun_too numbers others on
     (second ≡ other) × PassAlike (classes_at defs others) (classes_at defs begun_too ++ b) →
     PassAlike once numbers → PassAlike others_once others →
     known ≡ (first || second) →
-    fault ≡ (known || any_share (classes_at defs once) (classes_at defs others_once)) →
+    fault ≡ (known || any_share Element (classes_at defs once) (classes_at defs others_once)) →
     middle ≡ old ++ once → new ≡ middle ++ others_once →
-    (fault ≡ (any_share a b || (one || other))) × PassAlike (classes_at defs new) (classes_at defs old ++ (a ++ b))
+    (fault ≡ (any_share Element a b || (one || other))) × PassAlike (classes_at defs new) (classes_at defs old ++ (a ++ b))
 sides_once defs old begun begun_too numbers others once others_once middle new a b first second known fault one other none none_too in_one in_other each each_other is_known is_fault is_middle is_new =
     let one_side : PassAlike (classes_at defs once) a = side_alike defs begun numbers once a none in_one.1 each in
     let other_side : PassAlike (classes_at defs others_once) b = side_alike defs begun_too others others_once b none_too in_other.1 each_other in
-    let share : any_share (classes_at defs once) (classes_at defs others_once) ≡ any_share a b = share_alike (classes_at defs once) (classes_at defs others_once) a b one_side other_side in
+    let share : any_share Element (classes_at defs once) (classes_at defs others_once) ≡ any_share Element a b = share_alike (classes_at defs once) (classes_at defs others_once) a b one_side other_side in
     let either : known ≡ (one || other) = is_known ∙ ap (λ (t : Bool). t || second) in_one.0 ∙ ap (λ (t : Bool). one || t) in_other.0 in (
-      is_fault ∙ ap (λ (t : Bool). known || t) share ∙ ap (λ (t : Bool). t || any_share a b) either ∙ or_comm (one || other) (any_share a b),
+      is_fault ∙ ap (λ (t : Bool). known || t) share ∙ ap (λ (t : Bool). t || any_share Element a b) either ∙ or_comm (one || other) (any_share Element a b),
       both_added (classes_at defs old) a b (classes_at defs middle) (classes_at defs new) (added_alike defs old once middle a is_middle one_side) (added_alike defs middle others_once new b is_new other_side),
     )
 

@@ -3,34 +3,37 @@ use Rattle.std.specs.Prelude.{◌≡◌, true, ◌||◌, List, [], ◌∷◌, �
 use Rattle.std.specs.List.{list_any}
 use Rattle.std.proofs.Common.{refl, inl, inr}
 use Rattle.std.proofs.lemmas.Bool.{false≢true, or_left, or_right, or_cases}
-use Rattle.rng_core.specs.Names.{Class, any_name, ns_name, the_name, either, without, Overlap}
+use Rattle.rng_core.specs.Names.{Class, any_name, ns_name, the_name, either, without}
 use Rattle.rng_core.specs.Patterns.{Pattern, not_allowed, empty, any_text, typed, literal, listed, attribute, ref, one_or_more, choice, group, interleave}
-use Rattle.rng_core.proofs.Overlaps.{overlap_is_found, overlap_is_there}
+use Rattle.rng_core.specs.declared.name_class.Bearer.{Bearer}
+use Rattle.rng_core.specs.declared.name_class.Bearer.TheVariants.{Attribute}
+use Rattle.rng_core.specs.Unmentioned.{OverlapAs}
+use Rattle.rng_core.proofs.Borne.{overlap_found, overlap_there}
 use Rattle.rng_restrict.specs.Standing.{Stands, StandsOnce, once_itself, once_in_list, once_in_attribute, once_in_first_choice, once_in_second_choice, once_in_first_of_group, once_in_second_of_group, once_in_first_of_interleave, once_in_second_of_interleave, Occurs, as_itself, below_one_or_more, below_first_choice, below_second_choice, below_first_of_group, below_second_of_group, below_first_of_interleave, below_second_of_interleave}
 use Rattle.rng_restrict.specs.Attributes.{HasAttributeOverlap, in_group, in_interleave, HasWildcard, any_name_stands, ns_name_stands, in_first, in_second, in_all, in_taken, HasWildcardOnce, wildcard_once}
 use Rattle.rng_restrict.specs.Finding.{has_part, share_name, any_share, attribute_classes, is_attribute_overlap, is_wildcard, has_wildcard_once}
 use Rattle.rng_restrict.proofs.Members.{IsIn, here, further, in_left, in_right, in_either, any_passes, passes_any}
 use Rattle.rng_restrict.proofs.PartsFound.{part_found, part_is_found}
 
--- one class of each list, with a name in common
-pub record Shared (cs ds : List Class) : Type 0 where
+-- one class of each list, with a name of such a bearer in common
+pub record Shared (bearer : Bearer) (cs ds : List Class) : Type 0 where
   pub first : Class
   pub second : Class
   pub is_first : IsIn first cs
   pub is_second : IsIn second ds
-  pub overlap : Overlap first second
+  pub overlap : OverlapAs bearer first second
 
-pub share_found : (cs ds : List Class) → any_share cs ds ≡ true → Shared cs ds
+pub share_found : (bearer : Bearer) (cs ds : List Class) → any_share bearer cs ds ≡ true → Shared bearer cs ds
 unfolding any_share share_name
-share_found cs ds found =
-    let p = any_passes (λ c. list_any (λ d. share_name c d) ds) cs found in
-    let q = any_passes (λ d. share_name p.item d) ds p.passed in
-    record { first = p.item; second = q.item; is_first = p.member; is_second = q.member; overlap = overlap_is_there p.item q.item q.passed }
+share_found bearer cs ds found =
+    let p = any_passes (λ c. list_any (λ d. share_name bearer c d) ds) cs found in
+    let q = any_passes (λ d. share_name bearer p.item d) ds p.passed in
+    record { first = p.item; second = q.item; is_first = p.member; is_second = q.member; overlap = overlap_there bearer p.item q.item q.passed }
 
-pub share_is_found : (cs ds : List Class) {c d : Class} → IsIn c cs → IsIn d ds → Overlap c d → any_share cs ds ≡ true
+pub share_is_found : (bearer : Bearer) (cs ds : List Class) {c d : Class} → IsIn c cs → IsIn d ds → OverlapAs bearer c d → any_share bearer cs ds ≡ true
 unfolding any_share share_name
-share_is_found cs ds {c = c} {d = d} m n o =
-    passes_any (λ x. list_any (λ y. share_name x y) ds) m (passes_any (λ y. share_name c y) n (overlap_is_found c d o))
+share_is_found bearer cs ds {c = c} {d = d} m n o =
+    passes_any (λ x. list_any (λ y. share_name bearer x y) ds) m (passes_any (λ y. share_name bearer c y) n (overlap_found bearer c d o))
 
 -- an attribute with the class occurs in the pattern
 record Occurring (p : Pattern) (class : Class) : Type 0 where
@@ -76,10 +79,10 @@ class_is_found (below_second_of_interleave {p = p} o) = in_right (attribute_clas
 
 overlap_in : (p q : Pattern) → Stands q p → is_attribute_overlap q ≡ true → HasAttributeOverlap p
 overlap_in p (group a b) s is =
-    let r = share_found (attribute_classes a) (attribute_classes b) is in
+    let r = share_found Attribute (attribute_classes a) (attribute_classes b) is in
     in_group s (class_found a r.is_first).occurs (class_found b r.is_second).occurs r.overlap
 overlap_in p (interleave a b) s is =
-    let r = share_found (attribute_classes a) (attribute_classes b) is in
+    let r = share_found Attribute (attribute_classes a) (attribute_classes b) is in
     in_interleave s (class_found a r.is_first).occurs (class_found b r.is_second).occurs r.overlap
 overlap_in p q s is = absurd (false≢true is)
 
@@ -88,9 +91,9 @@ attribute_overlap_found p found = let r = part_found is_attribute_overlap p foun
 
 pub attribute_overlap_is_found : (p : Pattern) → HasAttributeOverlap p → has_part is_attribute_overlap p ≡ true
 attribute_overlap_is_found p (in_group {a = a} {b = b} s m n o) =
-    part_is_found is_attribute_overlap s (share_is_found (attribute_classes a) (attribute_classes b) (class_is_found m) (class_is_found n) o)
+    part_is_found is_attribute_overlap s (share_is_found Attribute (attribute_classes a) (attribute_classes b) (class_is_found m) (class_is_found n) o)
 attribute_overlap_is_found p (in_interleave {a = a} {b = b} s m n o) =
-    part_is_found is_attribute_overlap s (share_is_found (attribute_classes a) (attribute_classes b) (class_is_found m) (class_is_found n) o)
+    part_is_found is_attribute_overlap s (share_is_found Attribute (attribute_classes a) (attribute_classes b) (class_is_found m) (class_is_found n) o)
 
 wildcard_found : (c : Class) → is_wildcard c ≡ true → HasWildcard c
 wildcard_found any_name is = any_name_stands

@@ -6,6 +6,7 @@ use Rattle.rng_core.specs.Names.{Class, Overlap}
 use Rattle.rng_core.specs.Patterns.{Pattern, Definition, not_allowed, empty, any_text, typed, literal, listed, attribute, ref, one_or_more, choice, group, interleave}
 use Rattle.rng_restrict.specs.Standing.{Stands, Occurs, as_itself, below_one_or_more, below_first_choice, below_second_choice, below_first_of_group, below_second_of_group, below_first_of_interleave, below_second_of_interleave}
 use Rattle.rng_restrict.specs.Interleaves.{HasInterleaveOverlap, elements_overlap}
+use Rattle.rng_core.specs.declared.name_class.Bearer.TheVariants.{Element}
 use Rattle.rng_restrict.specs.Finding.{has_part, class_at, element_classes, is_element_overlap}
 use Rattle.rng_restrict.proofs.Members.{IsIn, here, further, in_left, in_right, in_either}
 use Rattle.rng_restrict.proofs.PartsFound.{part_found, part_is_found}
@@ -68,7 +69,7 @@ renamed one other o = rw (one, other) o
 
 overlap_in : (defs : List Definition) (p q : Pattern) → Stands q p → is_element_overlap defs q ≡ true → HasInterleaveOverlap defs p
 overlap_in defs p (interleave a b) s is =
-    let r = share_found (element_classes defs a) (element_classes defs b) is in
+    let r = share_found Element (element_classes defs a) (element_classes defs b) is in
     let m = class_found defs a r.is_first in
     let n = class_found defs b r.is_second in
     elements_overlap s m.occurs m.there n.occurs n.there (renamed m.named n.named r.overlap)
@@ -79,4 +80,4 @@ element_overlap_found defs p found = let r = part_found (is_element_overlap defs
 
 pub element_overlap_is_found : (defs : List Definition) (p : Pattern) → HasInterleaveOverlap defs p → has_part (is_element_overlap defs) p ≡ true
 element_overlap_is_found defs p (elements_overlap {a = a} {b = b} s m there n here_too o) =
-    part_is_found (is_element_overlap defs) s (share_is_found (element_classes defs a) (element_classes defs b) (class_is_found defs m there) (class_is_found defs n here_too) o)
+    part_is_found (is_element_overlap defs) s (share_is_found Element (element_classes defs a) (element_classes defs b) (class_is_found defs m there) (class_is_found defs n here_too) o)

@@ -2,7 +2,9 @@
 use Rattle.std.specs.Prelude.{◌≡◌, ℕ, Bool, true, false, not, ◌||◌, ◌&&◌, ◌==◌, nat_lt, if◌then◌else◌, List, [], ◌∷◌, ◌++◌, Option, Some, None, slice_get, slice_range, drop, length, get_or}
 use Rattle.std.specs.List.{list_any, sum_by}
 use Rattle.rng_core.specs.Names.{Class, any_name, ns_name, the_name, either, without}
-use Rattle.rng_core.specs.Unmentioned.{overlaps}
+use Rattle.rng_core.specs.declared.name_class.Bearer.{Bearer}
+use Rattle.rng_core.specs.declared.name_class.Bearer.TheVariants.{Element, Attribute}
+use Rattle.rng_core.specs.Unmentioned.{borne, overlaps}
 use Rattle.rng_core.specs.Patterns.{Pattern, Definition, not_allowed, empty, any_text, typed, literal, listed, attribute, ref, one_or_more, choice, group, interleave}
 use Rattle.rng_restrict.specs.declared.content.Content.{Content}
 use Rattle.rng_restrict.specs.declared.content.Content.TheVariants.{Empty, Complex, Simple}
@@ -137,15 +139,15 @@ is_mixture p = has_no_type (content_of p)
 
 -- Overlaps
 
-unfoldable pub share_name : Class → Class → Bool
-share_name c d = overlaps c d
+unfoldable pub share_name : Bearer → Class → Class → Bool
+share_name bearer c d = overlaps (borne bearer c) d
 
-unfoldable pub any_share : List Class → List Class → Bool
-any_share cs ds = list_any (λ c. list_any (λ d. share_name c d) ds) cs
+unfoldable pub any_share : Bearer → List Class → List Class → Bool
+any_share bearer cs ds = list_any (λ c. list_any (λ d. share_name bearer c d) ds) cs
 
--- the same of the classes from a place to another and those behind
+-- the same of attributes whose classes stand from a place to another, and those behind
 unfoldable pub sides_share : ℕ → ℕ → List Class → Bool
-sides_share before between cs = any_share (slice_range cs before between) (drop between cs)
+sides_share before between cs = any_share Attribute (slice_range cs before between) (drop between cs)
 
 -- the classes of the attributes that occur in a pattern
 abbrev pub attribute_classes : Pattern → List Class
@@ -163,8 +165,8 @@ attribute_classes (group p q) = attribute_classes p ++ attribute_classes q
 attribute_classes (interleave p q) = attribute_classes p ++ attribute_classes q
 
 abbrev pub is_attribute_overlap : Pattern → Bool
-is_attribute_overlap (group p q) = any_share (attribute_classes p) (attribute_classes q)
-is_attribute_overlap (interleave p q) = any_share (attribute_classes p) (attribute_classes q)
+is_attribute_overlap (group p q) = any_share Attribute (attribute_classes p) (attribute_classes q)
+is_attribute_overlap (interleave p q) = any_share Attribute (attribute_classes p) (attribute_classes q)
 is_attribute_overlap p = false
 
 -- the class of the definition of that number
@@ -197,7 +199,7 @@ unfoldable pub PassAlike : {A : Type 0} → List A → List A → Type 0
 PassAlike {A = A} xs ys = (test : A → Bool) → list_any test xs ≡ list_any test ys
 
 abbrev pub is_element_overlap : List Definition → Pattern → Bool
-is_element_overlap defs (interleave p q) = any_share (element_classes defs p) (element_classes defs q)
+is_element_overlap defs (interleave p q) = any_share Element (element_classes defs p) (element_classes defs q)
 is_element_overlap defs p = false
 
 -- Wildcards

@@ -101,6 +101,15 @@ fn refuses_attributes_that_overlap(rt: HostRuntime) -> Result<(), Fail> {
     Ok(())
 }
 
+// element a { attribute xmlns { text }, attribute xmlns { text } }
+#[test]
+fn allows_what_no_attribute_is_named(rt: HostRuntime) -> Result<(), Fail> {
+    let second = text_attribute(rt.alloc(), "xmlns")?;
+    let content = group_of(rt.alloc(), text_attribute(rt.alloc(), "xmlns")?, second)?;
+    assert_eq!(rt; judged(rt.alloc(), content)?, None);
+    Ok(())
+}
+
 // element a { attribute x { text } | attribute x { text } }
 #[test]
 fn allows_a_choice_of_attributes(rt: HostRuntime) -> Result<(), Fail> {

@@ -7,6 +7,7 @@ use Rattle.std.proofs.lemmas.List.{length-set, get_or-set_same, get_or-set_other
 use Rattle.std.proofs.lemmas.Option.{same_Some, slice_get_within, slice_get-get_or, get_or_from_slice_get}
 use Rattle.rnc_parse.specs.declared.surface.TypeName.{TypeName}
 use Rattle.rnc_parse.specs.declared.surface.Param.{Param}
+use Rattle.rng_types.proofs.Made.{named_are_well_made}
 use Rattle.rng_core.specs.Names.{Class}
 use Rattle.rng_core.specs.Patterns.{Pattern, Definition}
 use Rattle.rng_core.specs.Patterns as pattern
@@ -73,7 +74,7 @@ module _ (cells : List Cell) (types : List (Option NodeType)) (shapes : List Sha
       let also : q ≡ pattern.literal known.node_type.datatype literal.text = literal.is ∙ ap (λ (t : NodeType). pattern.literal t.datatype literal.text) (sym same) in
       so_typed _ (form.value (record { type = literal.type; text = literal.text })) q (pattern.literal known.node_type.datatype literal.text)
       (form_is n (shape.Value i) is ∙ ap (λ o. form.value (value_in o)) literal.is_cell) also
-      (record { typed = typed_value known.named; sound = sound_value known.may_write.accepted known.may_write.of_chars })
+      (record { typed = typed_value known.named; sound = sound_value (named_are_well_made _ _ _ _ known.named) known.may_write.accepted known.may_write.of_chars })
 
   type_typed : (n i : ℕ) (q : Pattern) → IsShape shapes n (shape.Typed i) → IsTyped types i q → IsTypedSound (form_at cells taken shapes n) q
   type_typed n i q is of_type =
@@ -83,7 +84,7 @@ module _ (cells : List Cell) (types : List (Option NodeType)) (shapes : List Sha
       let also : q ≡ pattern.typed known.node_type.datatype known.node_type.excepts = of_type.is ∙ ap (λ (t : NodeType). pattern.typed t.datatype t.excepts) (sym same) in
       so_typed _ (form.typed cell_is.0 cell_is.1 (taken i)) q (pattern.typed known.node_type.datatype known.node_type.excepts)
       (form_is n (shape.Typed i) is ∙ ap (λ o. form.typed (type_in o) (params_in o) (taken i)) cell_is.3) also
-      (record { typed = typed_type known.named known.takes; sound = sound_data known.few known.sound })
+      (record { typed = typed_type known.named known.takes; sound = sound_data (named_are_well_made _ _ _ _ known.named) known.few known.sound })
 
   attribute_typed : (n i part : ℕ) (value q : Pattern) → IsShape shapes n (shape.Attribute i part) → IsTypedSound (form_at cells taken shapes part) value → IsAttribute cells i value q → IsTypedSound (form_at cells taken shapes n) q
   attribute_typed n i part value q is h of_class =

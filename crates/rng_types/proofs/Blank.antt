@@ -13,7 +13,7 @@ use Rattle.rng_types.specs.declared.kind.Form.{Form}
 use Rattle.rng_types.specs.declared.kind.Form.TheVariants.{Any, One, Several}
 use Rattle.rng_types.proofs.Collapsed.{words-collapsed, words-blank, blank-no_words, no_word_fits}
 
-space-case : (b : Bool) (c : ℕ) → is_space c ≡ b → is_space (if b then 32 else c) ≡ b
+pub space-case : (b : Bool) (c : ℕ) → is_space c ≡ b → is_space (if b then 32 else c) ≡ b
 unfolding is_space
 space-case true c space = refl
 space-case false c other = other

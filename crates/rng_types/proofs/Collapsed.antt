@@ -53,17 +53,17 @@ words-are_bare text = filter-bare (slice_split is_space text) (split-bare text)
 bare-each : (word : List ℕ) → is_bare word ≡ true → All (λ c. is_space c ≡ false) word
 bare-each word bare k d h = not-true _ (AllPass-from_list_all (λ c. not (is_space c)) word bare k d h)
 
-space_is_space : is_space 32 ≡ true
+pub space_is_space : is_space 32 ≡ true
 unfolding is_space
 space_is_space = refl
 
-word-alone : (word : List ℕ) → IsBareWord word → words word ≡ word ∷ []
+pub word-alone : (word : List ℕ) → IsBareWord word → words word ≡ word ∷ []
 word-alone word is = ap (filter is_some_text) (slice_split_none is_space word (bare-each word is.bare)) ∙ rw is.some refl
 
-word-first : (word rest : List ℕ) → IsBareWord word → words (word ++ 32 ∷ rest) ≡ word ∷ words rest
+pub word-first : (word rest : List ℕ) → IsBareWord word → words (word ++ 32 ∷ rest) ≡ word ∷ words rest
 word-first word rest is = ap (filter is_some_text) (slice_split_at is_space word 32 rest (bare-each word is.bare) space_is_space) ∙ rw is.some refl
 
-words-joined : (ws : List (List ℕ)) → AllByRecursion IsBareWord ws → words (join_with_byte 32 ws) ≡ ws
+pub words-joined : (ws : List (List ℕ)) → AllByRecursion IsBareWord ws → words (join_with_byte 32 ws) ≡ ws
 words-joined [] all = refl
 words-joined (x ∷ []) all = word-alone x all.0
 words-joined (x ∷ y ∷ more) all = word-first x (join_with_byte 32 (y ∷ more)) all.0 ∙ ap (λ (ws : List (List ℕ)). x ∷ ws) (words-joined (y ∷ more) all.1)

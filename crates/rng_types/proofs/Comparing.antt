@@ -73,7 +73,7 @@ ranks_magnitude wa fa wb fb dwa dfa dwb dfb =
     rw (left, right) both
 
 -- the parts of a decimal literal are digits
-decimal_all : (text : List ℕ) → is_decimal text ≡ true → list_all is_ascii_digit (whole_part text ++ fraction_part text) ≡ true
+pub decimal_all : (text : List ℕ) → is_decimal text ≡ true → list_all is_ascii_digit (whole_part text ++ fraction_part text) ≡ true
 decimal_all text decimal = (and_parts (not (length (whole_part text ++ fraction_part text) == 0)) (list_all is_ascii_digit (whole_part text ++ fraction_part text)) decimal).1
 
 pub Digits-whole : (text : List ℕ) → is_decimal text ≡ true → Digits (whole_part text)
@@ -110,7 +110,7 @@ zeros_write_zero : {cs : List ℕ} → Digits cs → list_all is_zero cs ≡ (va
 zeros_write_zero no_digit = refl
 zeros_write_zero (more_digits {c = c} {cs = cs} low high more) = zeros-case (is_zero c) c cs refl low (zeros_write_zero more)
 
-list_all-append : (p : ℕ → Bool) (xs ys : List ℕ) → list_all p (xs ++ ys) ≡ (list_all p xs && list_all p ys)
+pub list_all-append : (p : ℕ → Bool) (xs ys : List ℕ) → list_all p (xs ++ ys) ≡ (list_all p xs && list_all p ys)
 list_all-append p [] ys = refl
 list_all-append p (x ∷ xs) ys = and-assoc (p x) (list_all p xs) (list_all p ys) (list_all p (xs ++ ys)) (list_all-append p xs ys)
 
@@ -188,7 +188,7 @@ compare_greater a b above below =
     rw (not_below x.negative x.digits (10 ^ y.places) above, second.0) (int_cmp_is _ _ Greater (below_first _ _ second.1))
 
 -- an integer's literal is a decimal's
-point_after_digits : {cs : List ℕ} → Digits cs → position_or_len is_point cs ≡ length cs
+pub point_after_digits : {cs : List ℕ} → Digits cs → position_or_len is_point cs ≡ length cs
 point_after_digits no_digit = refl
 point_after_digits (more_digits {c = c} {cs = cs} low high more) =
     let other : (c == 46) ≡ false = ne_eqb c 46 (λ same. absurd (omega (arith, same))) in

@@ -23,7 +23,7 @@ abbrev pub spaced : List ℕ → ℕ
 spaced word = length (chars word) + 1
 
 -- each word of a text is text
-utf8-each : (ws : List (List ℕ)) (text : List ℕ) → IsUtf8 text → words text ≡ ws → AllByRecursion IsUtf8 ws
+pub utf8-each : (ws : List (List ℕ)) (text : List ℕ) → IsUtf8 text → words text ≡ ws → AllByRecursion IsUtf8 ws
 utf8-each [] text utf8 is = tt
 utf8-each (word ∷ more) text utf8 is =
     let rest : List ℕ = drop (prefix_len is_space text) text in

@@ -1,4 +1,4 @@
--- The forms of names, over the characters of a text.
+-- Tokens of characters of names, over the characters of a text.
 use Rattle.std.specs.Prelude.{◌≡◌, ℕ, true, false, ◌==◌, not, List, [], ◌∷◌, ◌++◌, length, encode_utf8}
 use Rattle.std.proofs.Common.{refl, sym, ap, ◌∙◌, arith}
 use Rattle.std.proofs.lemmas.Bool.Decides.{nat_tests}
@@ -20,20 +20,3 @@ is_nm_token-filled bs utf8 filled = rw (length_from_no_chars bs (chars bs) (enco
 pub is_nm_token-empty : (bs : List ℕ) → (length bs == 0) ≡ true → is_nm_token (chars bs) ≡ false
 is_nm_token-empty [] empty = rw chars-nil refl
 is_nm_token-empty (b ∷ bs) empty = absurd (grind (arith, nat_tests))
-
--- a character that begins a name may stand in one
-start_is_name_char : (c : ℕ) → is_name_start c ≡ true → is_name_char c ≡ true
-unfolding is_name_char
-start_is_name_char c start = rw start refl
-
-name_from_start : (c : ℕ) (cs : List ℕ) → is_name_start c ≡ true → is_name (c ∷ cs) ≡ is_nm_token (c ∷ cs)
-name_from_start c cs start =
-    let filled : (length (c ∷ cs) == 0) ≡ false = grind (arith, nat_tests) in
-    rw (start, filled, start_is_name_char c start) refl
-
--- a Name is a token of such characters whose first one can begin it
-pub is_name-start : (bs rest : List ℕ) (c : ℕ) → IsUtf8 bs → bs ≡ encode_utf8 c ++ rest → is_name_start c ≡ true → is_nm_token (chars bs) ≡ is_name (chars bs)
-is_name-start bs rest c utf8 begins start = rw (chars_past_char bs rest c utf8 begins) (sym (name_from_start c (chars rest) start))
-
-pub is_name-no_start : (bs rest : List ℕ) (c : ℕ) → IsUtf8 bs → bs ≡ encode_utf8 c ++ rest → is_name_start c ≡ false → false ≡ is_name (chars bs)
-is_name-no_start bs rest c utf8 begins start = rw (chars_past_char bs rest c utf8 begins, start) refl

@@ -15,11 +15,11 @@ use Rattle.rng_types.specs.declared.kind.Word.{Word}
 use Rattle.rng_types.specs.declared.kind.Word.TheVariants.{Name, NcName, NmToken, Language, Boolean, Decimal, Integer}
 
 -- a test of all fails where one element fails
-all-stops : (p : ℕ → Bool) (xs ys : List ℕ) (c : ℕ) → p c ≡ false → list_all p (xs ++ c ∷ ys) ≡ false
+pub all-stops : (p : ℕ → Bool) (xs ys : List ℕ) (c : ℕ) → p c ≡ false → list_all p (xs ++ c ∷ ys) ≡ false
 all-stops p [] ys c fails = and_left (p c) (list_all p ys) fails
 all-stops p (x ∷ xs) ys c fails = and_right (p x) (list_all p (xs ++ c ∷ ys)) (all-stops p xs ys c fails)
 
-chars-space : (rest : List ℕ) → chars (32 ∷ rest) ≡ 32 ∷ chars rest
+pub chars-space : (rest : List ℕ) → chars (32 ∷ rest) ≡ 32 ∷ chars rest
 unfolding chars
 chars-space [] = refl
 chars-space (b ∷ bs) = refl

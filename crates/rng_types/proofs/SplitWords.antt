@@ -112,3 +112,15 @@ cut_before_space text = elim (cases_lt (position_or_len is_space text) (length t
   | inl inside ↦ IsCharBoundary-before_ascii text (position_or_len is_space text) inside (space_is_ascii _ (passes_at_first is_space text 0 inside))
   | inr all ↦ subst (IsCharBoundary text) (le_antisymm all (prefix_len-le-length (λ c. not (is_space c)) text)) (IsCharBoundary-end text)
 ]
+
+-- the same of slices' ranges
+rest_is_drop : (n : ℕ) (xs : List ℕ) → take (length xs - n) (drop n xs) ≡ drop n xs
+rest_is_drop n xs = ap (λ k. take k (drop n xs)) (sym (length-drop n xs)) ∙ take-length (drop n xs)
+
+pub words-found_in : (text rest : List ℕ) (from n : ℕ) → rest ≡ take (length text - from) (drop from text) → from ≡ prefix_len is_space text → (from ≡ length text → ⊥) → n ≡ position_or_len is_space rest →
+    words text ≡ take n rest ∷ words (take (length rest - n) (drop n rest))
+words-found_in text rest from n is_rest from_is some n_is =
+    let at : rest ≡ drop (prefix_len is_space text) text = is_rest ∙ rest_is_drop from text ∙ ap (λ k. drop k text) from_is in
+    words-found text rest at (λ all. some (from_is ∙ all))
+    ∙ ap (λ k. take k rest ∷ words (drop k rest)) (sym n_is)
+    ∙ ap (λ (t : List ℕ). take n rest ∷ words t) (sym (rest_is_drop n rest))

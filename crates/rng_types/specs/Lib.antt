@@ -6,3 +6,12 @@ pub mod Types
 pub mod Table
 pub mod Rows
 pub mod Naming
+pub mod Answers
+pub mod Members
+pub mod WellMade
+pub mod Offsets
+pub mod NumberMembers
+pub mod TextMembers
+pub mod MemberTest
+pub mod OneToken
+pub mod Equality

@@ -2,13 +2,14 @@
 
 ghost use Rattle.std.specs.Prelude.{◌≡◌, ◌↔◌, IsTrue};
 ghost use Rattle.rng_types.specs.Types.{Accepts, SameValue, has_few_digits, seen_by};
+ghost use Rattle.rng_types.specs.Answers.{is_accepted, is_same_value};
 
-use crate::copying::copy_each;
 use crate::facet::Facets;
 use crate::kind::Form;
 use crate::meeting::all_are_met;
+use nx_base::equal::{Equal, EqualAll, same_each};
 use nx_base::memory::NoMemory;
-use nx_base::sequence::{Bytes, Sequence, TryCopy, TryCopyAll};
+use nx_base::sequence::{Bytes, Sequence, TryCopy, TryCopyAll, copy_each};
 use std::alloc::Global;
 
 /// A type of a schema, with its params.
@@ -21,7 +22,8 @@ pub struct Datatype {
 impl Datatype {
     /// Whether a text is of the type.
     pub fn accepts(&self, text: &str) -> bool
-        ensures { IsTrue result ↔ Accepts self.now text.now }
+        ensures decides { IsTrue result ↔ Accepts self.now text.now }
+        ensures value { result ≡ is_accepted self.now text.now }
     {
         self.form.has(text) && all_are_met(self.facets.as_slice(), self.form, text)
     }
@@ -30,7 +32,8 @@ impl Datatype {
     pub fn same(&self, a: &str, b: &str) -> bool
         requires first { Accepts self.now a.now }
         requires second { Accepts self.now b.now }
-        ensures { IsTrue result ↔ SameValue self.now a.now b.now }
+        ensures decides { IsTrue result ↔ SameValue self.now a.now b.now }
+        ensures value { result ≡ is_same_value self.now a.now b.now }
     {
         self.form.same(a, b)
     }
@@ -46,6 +49,18 @@ impl Datatype {
             Form::Any(_) => true,
             Form::Several(_) => true,
         }
+    }
+}
+
+impl Equal for Datatype {
+    fn equals(&self, other: &Datatype) -> bool {
+        self.form == other.form && self.facets.equals(&other.facets)
+    }
+}
+
+impl EqualAll for Datatype {
+    fn all_equal(a: &[Datatype], b: &[Datatype]) -> bool {
+        same_each(a, b)
     }
 }
 
@@ -84,6 +99,23 @@ pub enum Except {
 
 /// A list of excepts.
 pub type Excepts = Sequence<Except>;
+
+impl Equal for Except {
+    fn equals(&self, other: &Except) -> bool {
+        match (self, other) {
+            (Except::Own(literal), Except::Own(other)) => literal.equals(other),
+            (Except::BuiltinString(text), Except::BuiltinString(other)) => text.equals(other),
+            (Except::BuiltinToken(text), Except::BuiltinToken(other)) => text.equals(other),
+            _ => false,
+        }
+    }
+}
+
+impl EqualAll for Except {
+    fn all_equal(a: &[Except], b: &[Except]) -> bool {
+        same_each(a, b)
+    }
+}
 
 impl TryCopy for Except {
     fn copy(&self) -> Result<Except, NoMemory> {

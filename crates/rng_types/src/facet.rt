@@ -1,8 +1,8 @@
 //! Facets, by which a schema narrows a type (XML Schema Part 2, section 4.3).
 
-use crate::copying::copy_each;
+use nx_base::equal::{Equal, EqualAll, same_each};
 use nx_base::memory::NoMemory;
-use nx_base::sequence::{Bytes, Sequence, TryCopy, TryCopyAll};
+use nx_base::sequence::{Bytes, Sequence, TryCopy, TryCopyAll, copy_each};
 use std::alloc::Global;
 
 /// How a length or a number is to compare with its limit.
@@ -26,6 +26,26 @@ pub enum Facet {
 
 /// A list of facets.
 pub type Facets = Sequence<Facet>;
+
+impl Equal for Facet {
+    fn equals(&self, other: &Facet) -> bool {
+        match (self, other) {
+            (Facet::Length(relation, limit), Facet::Length(other, end)) => {
+                relation == other && limit == end
+            }
+            (Facet::Bound(relation, literal), Facet::Bound(other, end)) => {
+                relation == other && literal.equals(end)
+            }
+            _ => false,
+        }
+    }
+}
+
+impl EqualAll for Facet {
+    fn all_equal(a: &[Facet], b: &[Facet]) -> bool {
+        same_each(a, b)
+    }
+}
 
 impl TryCopy for Facet {
     fn copy(&self) -> Result<Facet, NoMemory> {

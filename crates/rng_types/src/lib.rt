@@ -5,18 +5,24 @@
 //! row. Nothing here knows of patterns: `rng_core` stands above.
 #![tactic(auto)]
 
-mod copying;
+mod bounds;
 pub mod datatype;
+mod excepts;
 pub mod facet;
 pub mod fault;
 mod few_digits;
 mod form;
+mod integers;
 pub mod kind;
 pub mod laws;
 mod length;
+mod length_range;
 mod meeting;
+mod members;
 mod naming;
 mod number;
+mod offset;
+mod one_token;
 mod relation;
 mod sameness;
 pub mod spaces;

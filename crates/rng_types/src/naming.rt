@@ -8,6 +8,7 @@ ghost use Rattle.rng_types.specs.declared.kind.Form.TheVariants.{One};
 ghost use Rattle.rng_types.specs.declared.kind.Takes.TheVariants.{Bounds};
 ghost use Rattle.rng_types.specs.declared.facet.Relation.{Relation};
 ghost use Rattle.rng_types.specs.Rows.{row_of};
+ghost use Rattle.rng_types.specs.WellMade.{is_well_made};
 ghost use Rattle.rng_types.specs.Naming.{length_relation as length_relation_of, bound_relation as bound_relation_of, param_relation, is_length as is_length_text, is_bound as is_bound_text, facet_with, facet_of, is_taken, is_literal, range_end, range_of, type_of, IsUnlessMemory};
 
 use crate::datatype::{Datatype, Param};
@@ -123,7 +124,7 @@ fn is_value(takes: Takes, form: Form, value: &[u8]) -> bool
 }
 
 /// A copy of bytes.
-fn bytes_of(alloc: Global, bytes: &[u8]) -> Result<Bytes, NoMemory>
+pub(crate) fn bytes_of(alloc: Global, bytes: &[u8]) -> Result<Bytes, NoMemory>
     ensures { IfOk result (λ copied. copied ≡ bytes.now) }
 {
     Ok(Bytes::from_vec(Vec::from_slice(alloc, bytes)?))
@@ -267,7 +268,8 @@ impl Datatype {
         name: &str,
         params: &[Param],
     ) -> Result<Datatype, TypeFault>
-        ensures { IsUnlessMemory result (type_of library.now name.now params.now) }
+        ensures value { IsUnlessMemory result (type_of library.now name.now params.now) }
+        ensures made { IfOk result (λ type. IsTrue (is_well_made type)) }
     {
         let Some(row) = type_named(library, name) else {
             return Err(TypeFault::UnknownType);

@@ -9,7 +9,7 @@ ghost use Rattle.rng_types.specs.Numbers.{is_negative as is_negative_text, unsig
 use std::cmp::Ordering;
 
 /// Whether the sign is `-`.
-fn is_negative(text: &[u8]) -> bool
+pub(crate) fn is_negative(text: &[u8]) -> bool
     ensures { result ≡ is_negative_text text.now }
 {
     match text.first() {
@@ -19,7 +19,7 @@ fn is_negative(text: &[u8]) -> bool
 }
 
 /// What stands behind the sign, if there is one.
-fn unsigned(text: &[u8]) -> &[u8]
+pub(crate) fn unsigned(text: &[u8]) -> &[u8]
     ensures { result.now ≡ unsigned_text text.now }
 {
     match text.split_first() {

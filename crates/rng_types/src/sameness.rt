@@ -8,19 +8,19 @@ ghost use Rattle.rng_types.specs.Types.{SameWord, SameOfForm};
 use crate::form::only_word;
 use crate::kind::{Form, Whitespace, Word};
 use crate::number::compare;
-use crate::spaces::first_word;
+use crate::spaces::first_word_of;
 use crate::word::is_true;
 use nx_base::character::is_space;
 use std::cmp::Ordering;
 
 /// Whether two texts have the same words.
-fn same_words(a: &str, b: &str) -> bool
+fn same_words(a: &[u8], b: &[u8]) -> bool
     ensures { IsTrue result ↔ (words a.now ≡ words b.now) }
 {
     let mut left = a;
     let mut other = b;
-    while let Some((word, rest)) = first_word(left) {
-        match first_word(other) {
+    while let Some((word, rest)) = first_word_of(left) {
+        match first_word_of(other) {
             Some((second, behind)) => {
                 if word != second {
                     return false;
@@ -31,7 +31,7 @@ fn same_words(a: &str, b: &str) -> bool
             None => return false,
         }
     }
-    first_word(other).is_none()
+    first_word_of(other).is_none()
 }
 
 /// A byte, or a space for white space.
@@ -69,7 +69,7 @@ fn same_replaced(a: &[u8], b: &[u8]) -> bool
 }
 
 /// Whether two texts are the same after collapsing.
-fn same_collapsed(a: &str, b: &str) -> bool
+pub(crate) fn same_collapsed(a: &[u8], b: &[u8]) -> bool
     ensures { IsTrue result ↔ (collapsed a.now ≡ collapsed b.now) }
 {
     same_words(a, b)
@@ -83,7 +83,7 @@ impl Whitespace {
         match self {
             Whitespace::Preserve => a == b,
             Whitespace::Replace => same_replaced(a.as_bytes(), b.as_bytes()),
-            Whitespace::Collapse => same_collapsed(a, b),
+            Whitespace::Collapse => same_collapsed(a.as_bytes(), b.as_bytes()),
         }
     }
 }
@@ -129,7 +129,7 @@ impl Form {
         match self {
             Form::Any(whitespace) => whitespace.same(a, b),
             Form::One(word) => same_only_words(word, a, b),
-            Form::Several(_) => same_collapsed(a, b),
+            Form::Several(_) => same_collapsed(a.as_bytes(), b.as_bytes()),
         }
     }
 }

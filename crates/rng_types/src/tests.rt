@@ -1,4 +1,10 @@
-use crate::datatype::{Datatype, Param};
+//! Literals, params and members of types, in tables.
+
+ghost use Rattle.std.specs.Prelude.{◌≡◌, IsTrue};
+ghost use Rattle.std.specs.List.{list_all};
+ghost use Rattle.rng_types.specs.WellMade.{is_well_made, is_sound_except};
+
+use crate::datatype::{Datatype, Except, Param};
 use crate::fault::TypeFault;
 use nx_base::sequence::{Bytes, TryCopy};
 use std::alloc::Global;
@@ -139,5 +145,158 @@ fn counts_digits(rt: HostRuntime) -> Result<(), Fail> {
             (literal, expected)
         );
     }
+    Ok(())
+}
+
+// Whether an except of the type's own values is of the type.
+fn is_sound(datatype: &Datatype, except: &Except) -> bool
+    ensures { result ≡ is_sound_except datatype.now except.now }
+{
+    match except {
+        Except::Own(literal) => match str::from_utf8(literal.as_slice()) {
+            Ok(text) => datatype.accepts(text),
+            Err(_) => false,
+        },
+        Except::BuiltinString(_) => true,
+        Except::BuiltinToken(_) => true,
+    }
+}
+
+fn are_sound(datatype: &Datatype, excepts: &[Except]) -> bool
+    ensures { result ≡ list_all (is_sound_except datatype.now) excepts.now }
+{
+    excepts.iter().all(|except| is_sound(datatype, except))
+}
+
+// An except of each number from the first to the last.
+fn push_owns(alloc: Global, excepts: &mut Vec<Except>, range: &str) -> Result<(), Fail> {
+    let (first, last) = range.split_once(" ").unwrap_or((range, range));
+    for number in first.parse::<u8>()?..=last.parse::<u8>()? {
+        let literal = format!(in alloc; "{number}")?;
+        excepts.push(Except::Own(bytes(alloc, literal.as_str())?))?;
+    }
+    Ok(())
+}
+
+fn push_item(
+    alloc: Global,
+    params: &mut Vec<Param>,
+    excepts: &mut Vec<Except>,
+    item: &str,
+) -> Result<(), Fail> {
+    let (name, value) = item.split_once("=").unwrap_or((item, ""));
+    match name {
+        "owns" => push_owns(alloc, excepts, value)?,
+        "own" => excepts.push(Except::Own(bytes(alloc, value)?))?,
+        "string" => excepts.push(Except::BuiltinString(bytes(alloc, value)?))?,
+        "token" => excepts.push(Except::BuiltinToken(bytes(alloc, value)?))?,
+        _ => params.push(Param {
+            name: bytes(alloc, name)?,
+            value: bytes(alloc, value)?,
+        })?,
+    }
+    Ok(())
+}
+
+fn answer(datatype: &Datatype, excepts: &[Except]) -> &'static str
+    requires made { IsTrue (is_well_made datatype.now) }
+    requires sound { IsTrue (list_all (is_sound_except datatype.now) excepts.now) }
+{
+    match (
+        datatype.has_member(excepts, false),
+        datatype.has_member(excepts, true),
+    ) {
+        (Ok(true), Ok(true)) => "one",
+        (Ok(true), Ok(false)) => "some",
+        (Ok(false), Ok(false)) => "none",
+        (Err(TypeFault::TooManyExcepts), Err(TypeFault::TooManyExcepts)) => "many",
+        _ => "wrong",
+    }
+}
+
+// What is told of a type with params and excepts.
+fn told(alloc: Global, row: &str) -> Result<&'static str, Fail> {
+    let (name, items) = row.split_once("|").unwrap_or((row, ""));
+    let mut params = Vec::new(alloc);
+    let mut excepts = Vec::new(alloc);
+    for item in items.split("|") {
+        if !item.is_empty() {
+            push_item(alloc, &mut params, &mut excepts, item)?;
+        }
+    }
+    let datatype = Datatype::named(alloc, XSD, name, params.as_slice())?;
+    if !are_sound(&datatype, excepts.as_slice()) {
+        return Ok("unsound");
+    }
+    Ok(answer(&datatype, excepts.as_slice()))
+}
+
+// What is told, a type, and its params and excepts, each with its name before `=`. It is `none` where there is no member,
+// `some` where there is one, `one` where there is one of one token, and `many` beside too many excepts. `owns` is an except
+// of each number from one to another.
+const MEMBERS: &str = "\
+some|string|length=0
+one|string|minLength=999999999
+none|string|length=2|length=3
+none|string|length=0|string=
+none|string|length=0|token=
+one|string|minLength=1|owns=0 128
+many|string|maxLength=3|owns=0 129
+none|normalizedString|minLength=3|maxLength=2
+none|normalizedString|maxLength=0|string=
+some|token|length=0|string=
+none|token|length=0|own= |string=
+none|token|maxLength=0|token=
+one|anyURI|
+none|NCName|length=0
+one|Name|maxLength=1|own=a|string=b|token=c
+one|NMTOKEN|length=1|owns=0 9
+none|ID|minLength=2|maxLength=1
+some|NMTOKENS|minLength=2
+none|NMTOKENS|maxLength=0
+one|IDREFS|length=1|own=a
+none|IDREFS|length=1|length=2
+one|language|
+one|language|own=en|string=en|token=en
+none|boolean|own=true|own=false
+one|boolean|own=1|string=0
+some|boolean|own=true|string=0|string=false
+none|boolean|own=true|token=0|token=false
+some|boolean|string=true|string=1|string=0|string=false
+none|boolean|token=true|token=1|token=0|token=false
+one|decimal|minInclusive=1.50|maxInclusive=1.5|string=1.5|token=1.5
+none|decimal|minInclusive=1.50|maxInclusive=1.5|own=01.5
+none|decimal|minExclusive=1.5|maxInclusive=1.5
+one|decimal|minExclusive=1.5|maxExclusive=1.51|own=1.505
+one|decimal|minInclusive=0|owns=0 128
+none|int|minInclusive=5|maxInclusive=4
+none|int|minInclusive=2147483648
+one|integer|minInclusive=-123456789012345678901234567890|maxInclusive=-123456789012345678901234567890
+none|integer|minExclusive=-1|maxExclusive=1|own=-0
+one|integer|maxInclusive=0|own=0
+one|byte|minInclusive=0|owns=0 126
+none|byte|minInclusive=0|owns=0 127
+none|byte|minInclusive=0|owns=0 127|own=0
+many|byte|minInclusive=0|owns=0 127|own=0|own=1
+one|unsignedByte|minExclusive=126|owns=128 255
+none|unsignedByte|minExclusive=126|owns=127 255";
+
+#[test]
+fn tells_members(rt: HostRuntime) -> Result<(), Fail> {
+    for row in MEMBERS.split("\n") {
+        let (want, named) = row.split_once("|").unwrap_or(("no row", row));
+        assert_eq!(rt; (row, told(rt.alloc(), named)?), (row, want));
+    }
+    Ok(())
+}
+
+#[test]
+fn reads_one_token(rt: HostRuntime) -> Result<(), Fail> {
+    let token = Datatype::named(rt.alloc(), "", "token", &[])?;
+    let string = Datatype::named(rt.alloc(), "", "string", &[])?;
+    let read = token.as_one_token(rt.alloc(), " a ")?;
+    assert!(rt; read.is_some_and(|text| text.as_slice() == b"a".as_slice()));
+    assert!(rt; string.as_one_token(rt.alloc(), " a ")?.is_none());
+    assert!(rt; token.as_one_token(rt.alloc(), "a b")?.is_none());
     Ok(())
 }

@@ -5,12 +5,12 @@ ghost use Rattle.std.specs.Char.{is_ascii_alphabetic, is_ascii_alphanumeric};
 ghost use Rattle.std.specs.List.{list_all, slice_split, position_or_len};
 ghost use Rattle.std.specs.Str.{chars};
 ghost use Rattle.rng_types.specs.Spaces.{is_some_text};
-ghost use Rattle.nx_base.specs.Characters.{is_of_chars, is_name, is_nc_name};
+ghost use Rattle.nx_base.specs.Characters.{is_of_chars};
 ghost use Rattle.rng_types.specs.Words.{is_nm_token, is_subtag, is_language as is_language_text, is_true as is_true_text, is_false as is_false_text, is_word};
 
 use crate::kind::Word;
 use crate::number::{is_decimal, is_integer};
-use nx_base::character::{is_char, is_name_char, is_name_start};
+use nx_base::character::{is_char, is_name, is_name_char, is_nc_name};
 
 /// Whether bytes are UTF-8 of characters that XML allows (XML 1.0, section 2.2).
 pub fn is_of_chars(bytes: &[u8]) -> bool
@@ -27,23 +27,6 @@ pub fn is_nm_token(text: &str) -> bool
     ensures { result ≡ is_nm_token (chars text.now) }
 {
     !text.is_empty() && text.chars().all(is_name_char)
-}
-
-/// Whether a text is a Name (XML 1.0, section 2.3).
-pub fn is_name(text: &str) -> bool
-    ensures { result ≡ is_name (chars text.now) }
-{
-    match text.chars().next() {
-        Some(first) => is_name_start(first) && is_nm_token(text),
-        None => false,
-    }
-}
-
-/// Whether a text is a Name without a colon (Namespaces in XML 1.0, section 3).
-pub fn is_nc_name(text: &str) -> bool
-    ensures { result ≡ is_nc_name (chars text.now) }
-{
-    is_name(text) && text.chars().all(|c| c != ':')
 }
 
 /// Whether there are one to eight bytes.

@@ -6,4 +6,4 @@ use Rattle.rng_core.specs.Unmentioned.{parts_meet}
 use Rattle.rng_core.proofs.overlap.+overlaps.Given as goal
 
 abbrev pub invariant-loop-left : goal.invariant-loop-left
-invariant-loop-left l = (parts_meet (class_of l.left) (class_of l.b) ≡ parts_meet (class_of l.a) (class_of l.b)) × (size-NameClass l.left ≤ size-NameClass l.a)
+invariant-loop-left l = (parts_meet l.bearer (class_of l.left) (class_of l.b) ≡ parts_meet l.bearer (class_of l.a) (class_of l.b)) × (size-NameClass l.left ≤ size-NameClass l.a)
