@@ -8,7 +8,7 @@ use Rattle.nx_base.specs.Names.{is_namespace, is_xml_name, is_attribute_name, sa
 use Rattle.rng_core.specs.declared.name_class.Bearer.{Bearer}
 use Rattle.rng_core.specs.declared.name_class.Bearer.TheVariants.{Element, Attribute}
 use Rattle.rng_core.specs.Names.{Class, any_name, ns_name, the_name, either, without, covers, has_name, has_attribute_name, AttributeOverlap}
-use Rattle.rng_core.specs.Unmentioned.{xmlns_name, OverlapAs, covers_others_in, covers_others, share_others_in, meets_at, overlaps, meets_part, borne, meets_as, tries, parts_meet}
+use Rattle.rng_core.specs.Unmentioned.{xmlns_name, OverlapAs, covers_others_in, covers_others, share_others_in, meets_at, overlaps, borne, meets_as, tries, parts_meet}
 use Rattle.rng_core.proofs.Overlaps.{overlap_is_found, overlap_is_there, same_fields, same_bytes, both_or}
 use Rattle.rng_core.proofs.Parts.{alike, same_to_itself, part_is_met, elements_are_met}
 

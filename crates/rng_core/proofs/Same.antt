@@ -1,10 +1,9 @@
 -- The answers whether classes and patterns are put together alike are right.
-use Rattle.std.specs.Prelude.{◌≡◌, ℕ, Bool, true, false, ◌&&◌, ◌==◌, List, IsTrue, ◌↔◌}
+use Rattle.std.specs.Prelude.{◌≡◌, Bool, true, false, List, IsTrue, ◌↔◌}
 use Rattle.std.proofs.Common.{refl, sym, ap, ◌∙◌, subst}
 use Rattle.std.proofs.lemmas.Bool.{and_parts, and_from, false≢true}
 use Rattle.std.proofs.lemmas.Bool.Decides.{Decides-eqb}
 use Rattle.std.specs.Str.{bytes_eq}
-use Rattle.std.specs.Cmp.Lexicographic.{bytes_decides}
 use Rattle.nx_base.specs.declared.name.Name.{Name}
 use Rattle.nx_base.specs.Names.{same_name}
 use Rattle.rng_types.specs.Equality.{same_datatype, same_excepts}

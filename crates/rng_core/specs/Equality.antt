@@ -1,5 +1,5 @@
 -- Whether two classes, or two patterns, are put together alike, as answers.
-use Rattle.std.specs.Prelude.{◌≡◌, ℕ, Bool, true, false, ◌&&◌, ◌==◌, List, IsTrue, ◌↔◌}
+use Rattle.std.specs.Prelude.{◌≡◌, Bool, true, false, ◌&&◌, ◌==◌, IsTrue, ◌↔◌}
 use Rattle.std.specs.Str.{bytes_eq}
 use Rattle.nx_base.specs.Names.{same_name}
 use Rattle.rng_types.specs.Equality.{same_datatype, same_excepts}

@@ -7,3 +7,4 @@ pub mod Matching
 pub mod Validity
 pub mod Soundness
 pub mod Equality
+pub mod Weights

@@ -1,11 +1,11 @@
 -- Grammars whose references, literals, excepts and texts are in order.
 use Rattle.std.specs.Prelude.{ℕ, ◌<◌, ◌≤◌, ◌^◌, List, length, IsTrue}
-use Rattle.std.specs.List.{AllByRecursion}
+use Rattle.std.specs.List.{list_all, AllByRecursion}
 use Rattle.std.specs.Str.{is_utf8}
 use Rattle.nx_base.specs.Characters.{is_of_chars}
 use Rattle.nx_base.specs.declared.name.Name.{Name}
 use Rattle.rng_types.specs.Types.{Accepts}
-use Rattle.rng_types.specs.WellMade.{is_well_made}
+use Rattle.rng_types.specs.WellMade.{is_well_made, is_sound_except}
 use Rattle.rng_types.specs.declared.datatype.Datatype.{Datatype}
 use Rattle.rng_types.specs.declared.datatype.Except.{Except}
 use Rattle.rng_types.specs.declared.datatype.Except.TheVariants.{Own, BuiltinString, BuiltinToken}
@@ -34,9 +34,10 @@ pub data IsSoundPattern (count : ℕ) : Pattern → Type 0 where
   sound_not_allowed : IsSoundPattern count not_allowed
   sound_empty : IsSoundPattern count empty
   sound_text : IsSoundPattern count any_text
-  sound_data : {type : Datatype} {excepts : List Except} → IsTrue (is_well_made type) → length excepts ≤ 128 → AllByRecursion (IsSoundExcept type) excepts →
-      IsSoundPattern count (typed type excepts)
-  sound_value : {type : Datatype} {text : List ℕ} → IsTrue (is_well_made type) → Accepts type text → IsTrue (is_of_chars text) → IsSoundPattern count (literal type text)
+  sound_data : {type : Datatype} {excepts : List Except} → IsTrue (is_well_made type) → length excepts ≤ 128 →
+      AllByRecursion (IsSoundExcept type) excepts → IsSoundPattern count (typed type excepts)
+  sound_value : {type : Datatype} {text : List ℕ} → IsTrue (is_well_made type) → Accepts type text → IsTrue (is_of_chars text) →
+      IsSoundPattern count (literal type text)
   sound_list : {p : Pattern} → IsSoundPattern count p → IsSoundPattern count (listed p)
   sound_attribute : {class : Class} {p : Pattern} → IsSoundClass class → IsSoundPattern count p → IsSoundPattern count (attribute class p)
   sound_ref : {i : ℕ} → i < count → IsSoundPattern count (ref i)
@@ -58,3 +59,8 @@ pub record IsSoundGrammar (start : Pattern) (defs : List Definition) : Type 0 wh
 
 abbrev pub IsSound : Grammar → Type 0
 IsSound grammar = IsSoundGrammar (pattern_of grammar.start) (definitions_of grammar)
+
+-- the excepts of a sound pattern are sound as the members of a type ask for
+abbrev pub SoundExceptsSuit : Type 0
+SoundExceptsSuit = (type : Datatype) (excepts : List Except) → AllByRecursion (IsSoundExcept type) excepts →
+    IsTrue (list_all (is_sound_except type) excepts)

@@ -9,7 +9,7 @@ ghost use Rattle.std.specs.Prelude.{◌≡◌, ◌↔◌, IsTrue};
 ghost use Rattle.rng_types.specs.Equality.{same_datatype as same_types, same_excepts as same_lists};
 ghost use Rattle.rng_core.specs.Patterns.{typed, literal, ref};
 ghost use Rattle.rng_core.specs.Meaning.{class_of, pattern_of};
-ghost use Rattle.rng_core.specs.Equality.{same_class, same_pattern, EqualityIsDecided};
+ghost use Rattle.rng_core.specs.Equality.{same_class, same_pattern};
 
 use crate::grammar::Pat;
 use crate::name_class::{NameClass, same_name};
@@ -180,8 +180,3 @@ impl Pat {
         alike_patterns(self, other)
     }
 }
-
-/// Law: the answers whether two classes, or two patterns, are the same are right. Nothing here runs.
-pub fn equality_is_decided()
-    ensures { EqualityIsDecided }
-{}

@@ -1,12 +1,17 @@
 //! Patterns, definitions and grammars.
 
+ghost use Rattle.std.specs.Prelude.{◌≡◌, ◌<◌, ◌≤◌, IfSome};
+ghost use Rattle.rng_core.specs.Patterns.{choice};
+ghost use Rattle.rng_core.specs.Meaning.{pattern_of};
+ghost use Rattle.rng_core.specs.Weights.{weight, waits};
+
 use crate::name_class::NameClass;
 use nx_base::sequence::{Bytes, Sequence};
 use rng_types::datatype::{Datatype, Excepts};
 
-/// A pattern of the simple form. Simplification bounds a path in it at 8,000 nodes. What walks over a pattern calls itself
-/// once for each node of a path, for which 2 MB of stack suffice; its destruction goes down the first sides in a loop, since
-/// particles nest to the left.
+/// A pattern of the simple form. Simplification bounds a path in it at 8,000 nodes. It is let go in a loop, whatever its
+/// shape. What walks over a pattern calls itself for each second side of a path at least: for a path of second sides alone,
+/// which a schema can have, the 8 MB of stack that a program's first thread has suffice.
 pub enum Pat {
     /// Nothing at all matches.
     NotAllowed,
@@ -34,23 +39,68 @@ pub enum Pat {
     Interleave(Box<Pat>, Box<Pat>),
 }
 
+impl Pat {
+    /// What is let go next of what was put aside, and what is left of that: of a choice its second side, and else the parts.
+    fn put_aside_last(self) -> Option<(Pat, Pat)>
+        ensures { IfSome result (λ next. weight (pattern_of next.0) (pattern_of next.1) ≤ waits (pattern_of self)) }
+    {
+        match self {
+            Pat::NotAllowed => None,
+            Pat::Empty => None,
+            Pat::Text => None,
+            Pat::Typed(_, _) => None,
+            Pat::Value(_, _) => None,
+            Pat::Ref(_) => None,
+            Pat::List(body) => Some((Box::into_inner(body), Pat::Empty)),
+            Pat::Attribute(_, body) => Some((Box::into_inner(body), Pat::Empty)),
+            Pat::OneOrMore(body) => Some((Box::into_inner(body), Pat::Empty)),
+            Pat::Choice(before, second) => Some((Box::into_inner(second), Box::into_inner(before))),
+            Pat::Group(before, second) => Some((Box::into_inner(second), Box::into_inner(before))),
+            Pat::Interleave(before, second) => Some((
+                Box::into_inner(second),
+                Box::into_inner(before),
+            )),
+        }
+    }
+
+    /// The first of two sides, where the second one is put aside: the box of the first holds what was put aside before.
+    fn put_aside(mut first: Box<Pat>, second: Box<Pat>, aside: Pat) -> (Pat, Pat)
+        ensures next { pattern_of result.0 ≡ pattern_of first.value }
+        ensures aside { pattern_of result.1 ≡ choice (pattern_of aside) (pattern_of second.value) }
+    {
+        let next = Box::replace(&mut first, aside);
+        (next, Pat::Choice(first, second))
+    }
+
+    /// What of a pattern is let go next, and what is put aside until then. The node itself is let go.
+    fn let_go(self, aside: Pat) -> Option<(Pat, Pat)>
+        ensures { IfSome result (λ next. weight (pattern_of next.0) (pattern_of next.1) < weight (pattern_of self) (pattern_of aside)) }
+    {
+        match self {
+            Pat::NotAllowed => aside.put_aside_last(),
+            Pat::Empty => aside.put_aside_last(),
+            Pat::Text => aside.put_aside_last(),
+            Pat::Typed(_, _) => aside.put_aside_last(),
+            Pat::Value(_, _) => aside.put_aside_last(),
+            Pat::Ref(_) => aside.put_aside_last(),
+            Pat::List(body) => Some((Box::into_inner(body), aside)),
+            Pat::Attribute(_, body) => Some((Box::into_inner(body), aside)),
+            Pat::OneOrMore(body) => Some((Box::into_inner(body), aside)),
+            Pat::Choice(first, second) => Some(Pat::put_aside(first, second, aside)),
+            Pat::Group(first, second) => Some(Pat::put_aside(first, second, aside)),
+            Pat::Interleave(first, second) => Some(Pat::put_aside(first, second, aside)),
+        }
+    }
+}
+
+// A pattern is let go in a loop, whatever its shape: second sides that are still to be let go hang in the boxes of first
+// sides that are empty by then.
 impl Drop for Pat {
     fn drop(mut self) {
-        loop {
-            match self {
-                Pat::NotAllowed => return,
-                Pat::Empty => return,
-                Pat::Text => return,
-                Pat::Typed(_, _) => return,
-                Pat::Value(_, _) => return,
-                Pat::Ref(_) => return,
-                Pat::List(body) => self = Box::into_inner(body),
-                Pat::Attribute(_, body) => self = Box::into_inner(body),
-                Pat::OneOrMore(body) => self = Box::into_inner(body),
-                Pat::Choice(first, _) => self = Box::into_inner(first),
-                Pat::Group(first, _) => self = Box::into_inner(first),
-                Pat::Interleave(first, _) => self = Box::into_inner(first),
-            }
+        let mut aside = Pat::Empty;
+        while let Some((next, rest)) = self.let_go(aside) {
+            self = next;
+            aside = rest;
         }
     }
 }

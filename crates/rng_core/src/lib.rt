@@ -8,6 +8,7 @@ pub mod building;
 mod copying;
 pub mod equality;
 pub mod grammar;
+pub mod law;
 pub mod name_class;
 pub mod overlap;
 #[cfg(test)]

@@ -144,14 +144,14 @@ fn copies_patterns(rt: HostRuntime) -> Result<(), Fail> {
     Ok(())
 }
 
-// A path of so many nodes, to the left and to the right.
-fn deep(alloc: Global, count: u32) -> Result<Pat, Fail> {
+// A path of so many nodes, by first sides or by second sides.
+fn deep(alloc: Global, count: u32, second: bool) -> Result<Pat, Fail> {
     let mut pattern = Pat::Text;
-    for i in 0..count {
-        pattern = if i % 2 == 0 {
-            group_of(alloc, pattern, Pat::Text)?
-        } else {
+    for _ in 0..count {
+        pattern = if second {
             choice_of(alloc, Pat::Empty, pattern)?
+        } else {
+            group_of(alloc, pattern, Pat::Text)?
         };
     }
     Ok(pattern)
@@ -159,9 +159,18 @@ fn deep(alloc: Global, count: u32) -> Result<Pat, Fail> {
 
 #[test]
 fn copies_deep_patterns(rt: HostRuntime) -> Result<(), Fail> {
-    let pattern = deep(rt.alloc(), 8_000)?;
-    let copied = pattern.copy(rt.alloc())?;
-    assert!(rt; pattern.same(&copied));
-    assert!(rt; !pattern.same(&deep(rt.alloc(), 7_998)?));
+    for second in [false, true] {
+        let pattern = deep(rt.alloc(), 7_999, second)?;
+        let copied = pattern.copy(rt.alloc())?;
+        assert!(rt; pattern.same(&copied));
+        assert!(rt; !pattern.same(&deep(rt.alloc(), 7_998, second)?));
+    }
+    Ok(())
+}
+
+#[test]
+fn long_patterns_are_let_go(rt: HostRuntime) -> Result<(), Fail> {
+    let pattern = deep(rt.alloc(), 300_000, true)?;
+    assert!(rt; matches!(&pattern, Pat::Choice(_, _)));
     Ok(())
 }

@@ -57,7 +57,9 @@ abbrev pub SameValueIsDecided : Type 0
 SameValueIsDecided = (type : Datatype) (a b : List ℕ) → IsTrue (is_same_value type a b) ↔ SameValue type a b
 
 abbrev pub TakesAwayIsDecided : Type 0
-TakesAwayIsDecided = (type : Datatype) (text : List ℕ) (except : Except) → IsTrue (is_taken_away type text except) ↔ TakesAway type text except
+TakesAwayIsDecided =
+    (type : Datatype) (text : List ℕ) (except : Except) → IsTrue (is_taken_away type text except) ↔ TakesAway type text except
 
 abbrev pub LeftIsDecided : Type 0
-LeftIsDecided = (type : Datatype) (text : List ℕ) (excepts : List Except) → IsTrue (is_left type excepts text) ↔ AllByRecursion (λ except. TakesAway type text except → ⊥) excepts
+LeftIsDecided = (type : Datatype) (text : List ℕ) (excepts : List Except) →
+    IsTrue (is_left type excepts text) ↔ AllByRecursion (λ except. TakesAway type text except → ⊥) excepts

@@ -69,4 +69,6 @@ same_excepts more others = false
 
 -- the answers are right
 abbrev pub EqualityIsDecided : Type 0
-EqualityIsDecided = ((a b : Datatype) → IsTrue (same_datatype a b) ↔ (a ≡ b)) × ((a b : List Except) → IsTrue (same_excepts a b) ↔ (a ≡ b))
+EqualityIsDecided =
+    ((a b : Datatype) → IsTrue (same_datatype a b) ↔ (a ≡ b))
+    × ((a b : List Except) → IsTrue (same_excepts a b) ↔ (a ≡ b))

@@ -43,14 +43,17 @@ most_excepts = 129
 
 -- of well made types, beside no more excepts than that, it is true exactly where there is a member
 abbrev pub MembersExist : Type 0
-MembersExist = (type : Datatype) (excepts : List Except) (one_token : Bool) → IsTrue (is_well_made type) → length excepts ≤ most_excepts →
+MembersExist = (type : Datatype) (excepts : List Except) (one_token : Bool) →
+    IsTrue (is_well_made type) → length excepts ≤ most_excepts →
     IsTrue (has_member type excepts one_token) ↔ HasMember type excepts one_token
 
 -- and a member that is UTF-8, whatever its characters, gives one of characters that XML allows
 abbrev pub TextsGiveMembers : Type 0
-TextsGiveMembers = (type : Datatype) (excepts : List Except) (one_token : Bool) (text : List ℕ) → IsTrue (is_well_made type) → length excepts ≤ most_excepts →
+TextsGiveMembers = (type : Datatype) (excepts : List Except) (one_token : Bool) (text : List ℕ) →
+    IsTrue (is_well_made type) → length excepts ≤ most_excepts →
     IsTrue (is_utf8 text) → IsMember type excepts one_token text → HasMember type excepts one_token
 
 -- the types that names and params stand for are well made
 abbrev pub NamedAreWellMade : Type 0
-NamedAreWellMade = (library name : List ℕ) (params : List Param) (type : Datatype) → type_of library name params ≡ Ok type → IsTrue (is_well_made type)
+NamedAreWellMade = (library name : List ℕ) (params : List Param) (type : Datatype) →
+    type_of library name params ≡ Ok type → IsTrue (is_well_made type)

@@ -48,7 +48,8 @@ pub record Limit : Type 0 where
 
 abbrev pub limit_over : ℕ → Facet → Limit
 limit_over places (Length relation limit) = record { relation = relation; at = pos limit }
-limit_over places (Bound relation limit) = record { relation = relation; at = times (number_of limit) (10 ^ (places - (number_of limit).places)) }
+limit_over places (Bound relation limit) =
+    record { relation = relation; at = times (number_of limit) (10 ^ (places - (number_of limit).places)) }
 
 abbrev pub is_lower : Relation → Bool
 is_lower Exactly = true

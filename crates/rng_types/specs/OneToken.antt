@@ -23,4 +23,5 @@ one_token_of type value = if is_one_token (seen_by type value) then Some (seen_b
 
 -- of a text of the type, of characters that XML allows, that is the answer
 abbrev pub OneTokensExist : Type 0
-OneTokensExist = (type : Datatype) (value : List ℕ) → Accepts type value → IsTrue (is_of_chars value) → IsOneTokenAnswer type value (one_token_of type value)
+OneTokensExist = (type : Datatype) (value : List ℕ) → Accepts type value → IsTrue (is_of_chars value) →
+    IsOneTokenAnswer type value (one_token_of type value)

@@ -60,7 +60,8 @@ is_empty_left Collapse type excepts = is_left_spaced type excepts []
 
 -- texts of each length from 1 on are more than excepts can be
 abbrev pub has_text : Whitespace → Datatype → List Except → Bool → Bool
-has_text whitespace type excepts one_token = has_length type.facets || (not one_token && (allows type.facets 0 && is_empty_left whitespace type excepts))
+has_text whitespace type excepts one_token =
+    has_length type.facets || (not one_token && (allows type.facets 0 && is_empty_left whitespace type excepts))
 
 -- the literals of the truth values
 abbrev pub truths : List (List ℕ)

@@ -1,8 +1,13 @@
-//! Datatypes: which texts a type of a schema accepts, and which two of them have the same value.
+//! Datatypes: which texts a type of a schema accepts, which two of them have the same value, and whether a text is left
+//! beside excepts.
 //!
 //! A type is put together from a treatment of white space, a form, and facets (`kind`, `facet`). The
 //! types that a schema can name are the rows of two tables (`table`), so a further type is a further
 //! row. Nothing here knows of patterns: `rng_core` stands above.
+//!
+//! Whether a member is left (`members`) is told by the form, from lengths and bounds alone: no text is made, and nothing is
+//! searched beyond one number more than there are excepts. Definitions in `specs/`: `Types`, `Facets`, `Words`, `Numbers`
+//! and `Members` say what is meant; `Answers`, `MemberTest` and `Equality` are tests of it, which laws (`laws`) tie to it.
 #![tactic(auto)]
 
 mod bounds;

@@ -124,7 +124,9 @@ impl Datatype {
         requires made { IsTrue (is_well_made self.now) }
         requires sound { IsTrue (list_all (is_sound_except self.now) excepts.now) }
         ensures decides { IfOk result (λ some. IsTrue some ↔ HasMember self.now excepts.now one_token) }
-        ensures value { result ≡ (if nat_le (length excepts.now) most_excepts then Ok (has_some_member self.now excepts.now one_token) else Err TooManyExcepts) }
+        ensures value { result ≡ (if nat_le (length excepts.now) most_excepts
+            then Ok (has_some_member self.now excepts.now one_token)
+            else Err TooManyExcepts) }
     {
         if excepts.len() > MOST_EXCEPTS {
             return Err(TypeFault::TooManyExcepts);

@@ -11,7 +11,8 @@ use crate::number::{is_negative, unsigned};
 fn digit(digits: &[u8], left: usize) -> u32
     requires digits { IsTrue (is_digits digits.now) }
     requires some { 1 ≤ left }
-    ensures value { digits_value 10 (take (length digits.now - (left - 1)) digits.now) ≡ digits_value 10 (take (length digits.now - left) digits.now) * 10 + result }
+    ensures value { digits_value 10 (take (length digits.now - (left - 1)) digits.now)
+        ≡ digits_value 10 (take (length digits.now - left) digits.now) * 10 + result }
     ensures small { result ≤ 9 }
 {
     if left > digits.len() {

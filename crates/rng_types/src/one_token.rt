@@ -34,7 +34,8 @@ fn is_one_token(bytes: &[u8]) -> bool
 
 /// The only word of bytes, if there is one.
 fn lone_word(bytes: &[u8]) -> Option<&[u8]>
-    ensures { MatchOption result (is_one (collapsed bytes.now) ≡ false) (λ word. (is_one (collapsed bytes.now) ≡ true) × (word.now ≡ collapsed bytes.now)) }
+    ensures { MatchOption result (is_one (collapsed bytes.now) ≡ false)
+        (λ word. (is_one (collapsed bytes.now) ≡ true) × (word.now ≡ collapsed bytes.now)) }
 {
     let Some((word, rest)) = first_word_of(bytes) else {
         return None;
@@ -59,7 +60,8 @@ fn whole_token(bytes: &[u8]) -> Option<&[u8]>
 impl Whitespace {
     /// Bytes after this treatment, if they are one token then.
     fn token(self, bytes: &[u8]) -> Option<&[u8]>
-        ensures { MatchOption result (is_one (normalized self bytes.now) ≡ false) (λ word. (is_one (normalized self bytes.now) ≡ true) × (word.now ≡ normalized self bytes.now)) }
+        ensures { MatchOption result (is_one (normalized self bytes.now) ≡ false)
+            (λ word. (is_one (normalized self bytes.now) ≡ true) × (word.now ≡ normalized self bytes.now)) }
     {
         match self {
             Whitespace::Preserve => whole_token(bytes),
@@ -86,7 +88,8 @@ impl Datatype {
     /// A text of one token that has the same value as this one; none where there is no such text. That is so of a text of
     /// the type, of characters that XML allows: of others the answer is what is left of it after the type's white space.
     pub fn as_one_token(&self, alloc: Global, value: &str) -> Result<Option<Bytes>, NoMemory>
-        ensures told { IfOk result (λ found. Accepts self.now value.now → IsTrue (is_of_chars value.now) → IsOneTokenAnswer self.now value.now found) }
+        ensures told { IfOk result (λ found.
+            Accepts self.now value.now → IsTrue (is_of_chars value.now) → IsOneTokenAnswer self.now value.now found) }
         ensures value { IfOk result (λ found. found ≡ one_token_of self.now value.now) }
     {
         match self.form.whitespace().token(value.as_bytes()) {

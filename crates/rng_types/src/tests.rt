@@ -1,7 +1,9 @@
 //! Literals, params and members of types, in tables.
 
-ghost use Rattle.std.specs.Prelude.{◌≡◌, IsTrue};
+ghost use Rattle.std.specs.Prelude.{◌≡◌, ◌&&◌, IsTrue};
 ghost use Rattle.std.specs.List.{list_all};
+ghost use Rattle.std.specs.Str.{is_utf8};
+ghost use Rattle.rng_types.specs.Answers.{is_accepted};
 ghost use Rattle.rng_types.specs.WellMade.{is_well_made, is_sound_except};
 
 use crate::datatype::{Datatype, Except, Param};
@@ -148,15 +150,22 @@ fn counts_digits(rt: HostRuntime) -> Result<(), Fail> {
     Ok(())
 }
 
+// Whether bytes are a text of the type.
+fn is_literal(datatype: &Datatype, literal: &[u8]) -> bool
+    ensures { result ≡ (is_utf8 literal.now && is_accepted datatype.now literal.now) }
+{
+    match str::from_utf8(literal) {
+        Ok(text) => datatype.accepts(text),
+        Err(_) => false,
+    }
+}
+
 // Whether an except of the type's own values is of the type.
 fn is_sound(datatype: &Datatype, except: &Except) -> bool
     ensures { result ≡ is_sound_except datatype.now except.now }
 {
     match except {
-        Except::Own(literal) => match str::from_utf8(literal.as_slice()) {
-            Ok(text) => datatype.accepts(text),
-            Err(_) => false,
-        },
+        Except::Own(literal) => is_literal(datatype, literal.as_slice()),
         Except::BuiltinString(_) => true,
         Except::BuiltinToken(_) => true,
     }
