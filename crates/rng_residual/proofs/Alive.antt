@@ -16,13 +16,13 @@ use Rattle.rng_kept.specs.Merging.{joined_outer, can_join_ways, joined_way, with
 use Rattle.rng_kept.specs.Events.{IsAmong, first, later}
 use Rattle.rng_kept.specs.Clean.{Clean, clean_empty, clean_text, clean_data, clean_value, clean_list, clean_attribute, clean_ref, clean_one_or_more, clean_choice, clean_group, clean_interleave, Fine}
 use Rattle.rng_kept.specs.Lively.{Given, Within, IsLivelyOutside, lively_document, lively_inside, IsLively, lively_among, lively_in_tag, AreLively, none_lively, one_lively}
-use Rattle.rng_residual.proofs.Smart.{by_test, is_not_allowed-is, split_none, split_none_is}
+use Rattle.rng_residual.proofs.SmallPatterns.{by_test, is_not_allowed-is, split_none, split_none_is}
 use Rattle.rng_residual.proofs.Entering.{IsNamed, AreNamed, one_named, named_first, opens_named}
 use Rattle.rng_residual.specs.Solid.{PassNoBlank}
 use Rattle.rng_kept.specs.Strings.{string_tests, after}
 use Rattle.rng_kept.specs.Content.{is_dead_outer, among_of, loose_after, outer_after, chars_way, chars, may_leave, leave_outer, leave_way, leave}
-use Rattle.rng_residual.proofs.Moving.{is_flat_outer, IsFlat}
-use Rattle.rng_residual.proofs.Ends.{IsCleanTag}
+use Rattle.rng_residual.proofs.Content.{is_flat_outer, IsFlat}
+use Rattle.rng_residual.proofs.Tags.{IsCleanTag}
 use Rattle.rng_kept.specs.Attributes.{value_fits, after_attribute, close}
 use Rattle.rng_kept.specs.SolidStrings.{loosen}
 use Rattle.rng_kept.specs.Tags.{tag_of, attribute_way, attribute_of, children_of, tag_end_way, tag_end}
@@ -33,7 +33,7 @@ use Rattle.rng_residual.proofs.Repair.{attribute_named, distinct_join, single, h
 use Rattle.rng_residual.proofs.Splits.{split_assoc, split_back}
 use Rattle.rng_residual.proofs.Perm.{match_perm, to_front}
 use Rattle.rng_residual.proofs.Attributes.{attribute_is, after_attribute_in, after_attribute_out}
-use Rattle.rng_residual.proofs.Nulls.{true_and}
+use Rattle.rng_residual.proofs.Nullable.{true_and}
 
 -- ---- what is lively has flat lists
 

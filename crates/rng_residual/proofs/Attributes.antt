@@ -9,8 +9,8 @@ use Rattle.rng_core.specs.Matching.{Split, no_attribute, to_first, to_second, In
 use Rattle.rng_kept.specs.SmallPatterns.{is_empty, group_of, interleave_of, star}
 use Rattle.rng_kept.specs.Nullable.{nullable}
 use Rattle.rng_kept.specs.Lists.{has_flat_lists}
-use Rattle.rng_residual.proofs.Smart.{or_same, seq_same, mix_same, or_sides, by_test, or_true, and_true, never_no, is_empty-is, nothing_inv, order_all, order_all_is, order_none_is, split_all, split_none, split_all_is, split_none_is, along}
-use Rattle.rng_residual.proofs.Nulls.{nullable_in, nullable_out, star_in, star_none, star_out, true_and, true_or_left, true_or_right}
+use Rattle.rng_residual.proofs.SmallPatterns.{or_same, seq_same, mix_same, or_sides, by_test, or_true, and_true, never_no, is_empty-is, nothing_inv, order_all, order_all_is, order_none_is, split_all, split_none, split_all_is, split_none_is, along}
+use Rattle.rng_residual.proofs.Nullable.{nullable_in, nullable_out, star_in, star_none, star_out, true_and, true_or_left, true_or_right}
 use Rattle.rng_kept.specs.Strings.{after}
 use Rattle.rng_kept.specs.Attributes.{value_fits, around, attribute_by, after_attribute}
 use Rattle.rng_residual.specs.Derivatives.{DerivesAttributes}

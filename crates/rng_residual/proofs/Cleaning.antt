@@ -16,8 +16,8 @@ use Rattle.rng_core.specs.Matching.{Matches, by_value}
 use Rattle.rng_kept.specs.SmallPatterns.{is_not_allowed, choice_of, group_of, interleave_of, star, one_or_more_of}
 use Rattle.rng_kept.specs.Lists.{has_flat_lists}
 use Rattle.rng_kept.specs.Clean.{Clean, clean_empty, clean_text, clean_data, clean_value, clean_list, clean_attribute, clean_ref, clean_one_or_more, clean_choice, clean_group, clean_interleave, Fine}
-use Rattle.rng_residual.proofs.Smart.{by_test, is_not_allowed-is}
-use Rattle.rng_residual.proofs.Nulls.{true_and}
+use Rattle.rng_residual.proofs.SmallPatterns.{by_test, is_not_allowed-is}
+use Rattle.rng_residual.proofs.Nullable.{true_and}
 use Rattle.rng_core.specs.Soundness.{IsSoundPattern, sound_value, sound_list}
 use Rattle.rng_residual.specs.Solid.{IsSoundLeaf, TestsIn, PassNoBlank}
 use Rattle.rng_kept.specs.Strings.{Tests, after_by, after}

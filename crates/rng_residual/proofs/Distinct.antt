@@ -11,7 +11,7 @@ use Rattle.rng_core.specs.Patterns.{Pattern, Definition}
 use Rattle.rng_core.specs.Matching.{Split, no_attribute, to_first, to_second, InOrder, then_second, string_of_first, element_of_first, Shuffle, no_child, string_to_first, string_to_second, element_to_first, element_to_second, AreStrings, no_string, one_string, Matches, by_empty, by_text, by_data, by_value, by_list, by_attribute, by_blank_attribute, by_first, by_second, by_group, by_interleave, by_one, by_more, by_element, Weakly, as_they_stand, with_blanks_left_out, as_one_empty_string}
 use Rattle.rng_kept.specs.Events.{IsAmong, first, later, IsDistinct, distinct_end, distinct_attribute, distinct_enter, distinct_tag_end, distinct_chars, distinct_leave, IsText, AreText}
 use Rattle.rng_residual.proofs.Fresh.{IsFresh, fresh_end, fresh_attribute, fresh_enter, fresh_tag_end, fresh_chars, fresh_leave}
-use Rattle.rng_residual.proofs.Smart.{and_true}
+use Rattle.rng_residual.proofs.SmallPatterns.{and_true}
 
 -- ---- names that documents can have, in what is matched
 

@@ -12,7 +12,7 @@ use Rattle.rng_kept.specs.Openings.{Opening, added, joined, then_group, then_int
 use Rattle.rng_residual.specs.Openings.{Opened, opened_first, opened_later}
 use Rattle.rng_kept.specs.Residuals.{Outer, document, inside, Residual, MatchesWeakly, TakesChildren, strictly, loosely, voidly, TakesOuter, at_document, at_inside, TakesWay, in_start_tag, Takes, by_this, by_later}
 use Rattle.rng_kept.specs.Entering.{content_in, content_of, rest_at, has_number, others, tag_at_top, tag_of_both, tag_of_loose, enter_outer}
-use Rattle.rng_residual.proofs.Smart.{or_same, by_test, never_no, or_true}
+use Rattle.rng_residual.proofs.SmallPatterns.{or_same, by_test, never_no, or_true}
 use Rattle.rng_residual.proofs.Openings.{opens_in, opens_out, num_same}
 
 -- ---- the numbers of openings name definitions that have the name

@@ -4,7 +4,7 @@ use Rattle.std.specs.Prelude.{IsTrue, if◌then◌else◌}
 use Rattle.nx_base.specs.Characters.{is_blank, is_of_chars}
 use Rattle.nx_base.specs.Trees.{Attribute, Children, nil, string, element, without_blanks, AreChildren, no_children, string_first, element_first, Event, Enter, TagEnd, Chars, Leave, attributes_flat, children_flat}
 use Rattle.rng_core.specs.Matching.{Split, to_first, InOrder, then_second, string_of_first, element_of_first, Shuffle, string_to_first, element_to_first}
-use Rattle.rng_residual.proofs.Smart.{split_none, shuffle_none}
+use Rattle.rng_residual.proofs.SmallPatterns.{split_none, shuffle_none}
 use Rattle.rng_residual.proofs.Solid.{AreSolid, solid_nil, solid_string, solid_element}
 use Rattle.rng_residual.proofs.Fresh.{CanBeWritten, children_written}
 

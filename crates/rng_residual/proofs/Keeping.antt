@@ -7,8 +7,8 @@ use Rattle.rng_core.specs.Patterns.{Pattern, not_allowed, empty, any_text, typed
 use Rattle.rng_kept.specs.SmallPatterns.{is_not_allowed, is_empty, is_side, with_side, choice_of, group_of, interleave_of, star}
 use Rattle.rng_kept.specs.Nullable.{nullable}
 use Rattle.rng_kept.specs.Lists.{lists_are}
-use Rattle.rng_residual.proofs.Smart.{by_test, and_true}
-use Rattle.rng_residual.proofs.Nulls.{true_and}
+use Rattle.rng_residual.proofs.SmallPatterns.{by_test, and_true}
+use Rattle.rng_residual.proofs.Nullable.{true_and}
 use Rattle.rng_kept.specs.Strings.{Tests, after_by}
 use Rattle.rng_kept.specs.Attributes.{around, attribute_by}
 

@@ -10,7 +10,7 @@ use Rattle.rng_core.specs.Matching.{by_element, as_they_stand}
 use Rattle.rng_kept.specs.SmallPatterns.{is_not_allowed, choice_of, is_side}
 use Rattle.rng_kept.specs.Clean.{Clean, clean_ref, Fine}
 use Rattle.rng_kept.specs.Live.{IsStart, one_ref, a_choice, AreLive}
-use Rattle.rng_residual.proofs.Smart.{by_test, and_true, split_none}
+use Rattle.rng_residual.proofs.SmallPatterns.{by_test, and_true, split_none}
 use Rattle.rng_kept.specs.Standing.{known_from}
 use Rattle.rng_residual.specs.Moves.{KnownIsTold, KnownFramesBegin}
 use Rattle.rng_residual.proofs.Cleaning.{fine, fine_none, fine_choice}

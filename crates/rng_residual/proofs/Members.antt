@@ -25,14 +25,14 @@ use Rattle.rng_core.specs.Matching.{no_attribute, InOrder, then_second, string_o
 use Rattle.rng_kept.specs.Nullable.{nullable}
 use Rattle.rng_kept.specs.Lists.{has_no_list}
 use Rattle.rng_kept.specs.Clean.{TakesString}
-use Rattle.rng_residual.proofs.Smart.{and_true, or_true, shuffle_none}
-use Rattle.rng_residual.proofs.Nulls.{nullable_in, nullable_out, true_and, true_or_left, true_or_right}
+use Rattle.rng_residual.proofs.SmallPatterns.{and_true, or_true, shuffle_none}
+use Rattle.rng_residual.proofs.Nullable.{nullable_in, nullable_out, true_and, true_or_left, true_or_right}
 use Rattle.rng_types.specs.Answers.{is_accepted}
 use Rattle.rng_residual.specs.Solid.{IsSoundLeaf, TestsIn, TestsSolid, TestsAreSolid}
 use Rattle.rng_kept.specs.SolidStrings.{has_words, solid_tests}
 use Rattle.rng_types.proofs.Deciding.{accepts_decided}
 use Rattle.rng_residual.proofs.Cleaning.{sound_value_is}
-use Rattle.rng_residual.proofs.Others.{a_solid_text}
+use Rattle.rng_residual.proofs.AnyMoves.{a_solid_text}
 use Rattle.rng_types.specs.WellMade.{is_well_made}
 use Rattle.rng_types.specs.Members.{is_one_token, IsMember, HasMember}
 use Rattle.rng_types.specs.MemberTest.{has_member}

@@ -19,7 +19,7 @@ use Rattle.rng_kept.specs.Moves.{Move, take, skip_to, any_value, any_string, mis
 use Rattle.rng_kept.specs.KeptLists.{Asks, Kept, IsEndOf}
 use Rattle.rng_kept.specs.Live.{IsFrame, AreLive}
 use Rattle.rng_kept.specs.Standing.{Stands, StandsBehind}
-use Rattle.rng_residual.proofs.Smart.{and_true, never_no, is_not_allowed-is}
+use Rattle.rng_residual.proofs.SmallPatterns.{and_true, never_no, is_not_allowed-is}
 use Rattle.rng_kept.specs.SolidStrings.{solid_tests, after_solid}
 use Rattle.rng_residual.specs.Solid.{TestsSolid}
 use Rattle.rng_residual.proofs.Members.{tests_are_solid}
@@ -34,15 +34,15 @@ use Rattle.rng_residual.proofs.Solid.{behind_children}
 use Rattle.rng_residual.proofs.Cleaning.{fine_keeps, tests_of_fine, fine, flat_clean, fine_after, fine_attribute}
 use Rattle.rng_residual.proofs.Repair.{repair, distinct_right, distinct_apart2}
 use Rattle.rng_residual.proofs.Fresh.{attributes_can_be_written as attributes_written}
-use Rattle.rng_residual.proofs.Moving.{among_in, among_out, spoken, not_chars}
-use Rattle.rng_residual.proofs.Ends.{children_of_in, children_of_out, tag_in, tag_out, no_attribute_outside, given, ended, outer_of}
+use Rattle.rng_residual.proofs.Content.{among_in, among_out, spoken, not_chars}
+use Rattle.rng_residual.proofs.Tags.{children_of_in, children_of_out, tag_in, tag_out, no_attribute_outside, given, ended, outer_of}
 use Rattle.rng_residual.proofs.Merging.{Taking, SomeWay, this_way, later_way, some_taking, stepped_in, stepped_out_all}
 use Rattle.rng_residual.proofs.Alive.{lively_stepped, lively_among_of, lively_tag_of, one_within, end_children}
 use Rattle.rng_residual.proofs.Distinct.{distinct_children, distinct_attributes_on, text_of_writable, attributes_append, children_append}
 use Rattle.rng_residual.proofs.Standing.{answer_stands, lively_all, writable_end, adds_is, event_stands}
 use Rattle.rng_residual.proofs.Events.{attributes_unique}
 use Rattle.rng_residual.proofs.SkipMoves.{ways_lively, skip_way_in, skip_way_out, skip_way_lively, leave_skip_way_in, leave_skip_way_out, leave_skip_way_lively}
-use Rattle.rng_residual.proofs.Others.{IsSolid, any_attribute_in, any_attribute_out, any_string_out, drop_in, drop_out, drop_clean}
+use Rattle.rng_residual.proofs.AnyMoves.{IsSolid, any_attribute_in, any_attribute_out, any_string_out, drop_in, drop_out, drop_clean}
 
 -- ---- kept lists are text
 

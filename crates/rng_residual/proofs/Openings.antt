@@ -10,8 +10,8 @@ use Rattle.rng_kept.specs.Nullable.{nullable}
 use Rattle.rng_kept.specs.SmallPatterns.{star}
 use Rattle.rng_kept.specs.Openings.{Opening, opening, added, joined, then_group, then_interleave, under_interleave, open_definition, opens}
 use Rattle.rng_residual.specs.Openings.{Opened, opened_first, opened_later, OpensExactly}
-use Rattle.rng_residual.proofs.Smart.{or_same, seq_same, mix_same, by_test, nothing_inv, order_all, or_sides}
-use Rattle.rng_residual.proofs.Nulls.{nullable_in, nullable_out, star_in, star_none, star_out, group_parts, interleave_parts, go_on}
+use Rattle.rng_residual.proofs.SmallPatterns.{or_same, seq_same, mix_same, by_test, nothing_inv, order_all, or_sides}
+use Rattle.rng_residual.proofs.Nullable.{nullable_in, nullable_out, star_in, star_none, star_out, group_parts, interleave_parts, go_on}
 use Rattle.std.proofs.lemmas.Bool.Decides.{nat_tests}
 
 pub num_same : (i j : ℕ) → (i == j) ≡ true → i ≡ j

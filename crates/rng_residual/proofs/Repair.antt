@@ -9,8 +9,8 @@ use Rattle.nx_base.specs.Trees.{Attribute, Children, nil, string, element, HasAt
 use Rattle.rng_core.specs.Names.{Class, covers, has_attribute_name}
 use Rattle.rng_core.specs.Patterns.{Pattern, Definition, empty, any_text, typed, literal, listed, ref, one_or_more, group, interleave}
 use Rattle.rng_core.specs.Matching.{Split, no_attribute, to_first, to_second, InOrder, then_second, string_of_first, element_of_first, Matches, by_empty, by_text, by_data, by_value, by_list, by_attribute, by_blank_attribute, by_first, by_second, by_group, by_interleave, by_one, by_more, by_element}
-use Rattle.rng_residual.proofs.Smart.{and_true, split_all, split_none as nothing_of}
-use Rattle.rng_residual.proofs.Nulls.{true_or_left, true_or_right}
+use Rattle.rng_residual.proofs.SmallPatterns.{and_true, split_all, split_none as nothing_of}
+use Rattle.rng_residual.proofs.Nullable.{true_or_left, true_or_right}
 use Rattle.rng_kept.specs.Apart.{mentions, is_attribute_free, is_loose, IsApart, apart_free, apart_attribute, apart_one_or_more, apart_choice, apart_group, apart_interleave}
 
 -- values of characters that XML allows

@@ -17,12 +17,12 @@ use Rattle.rng_kept.specs.Events.{AreText}
 use Rattle.rng_residual.proofs.Fresh.{IsFresh, fresh_leave}
 use Rattle.rng_kept.specs.KeptLists.{IsEndOf, IsRequired}
 use Rattle.rng_kept.specs.Standing.{Stands}
-use Rattle.rng_residual.proofs.Smart.{and_true, or_true}
-use Rattle.rng_residual.proofs.Nulls.{true_and}
+use Rattle.rng_residual.proofs.SmallPatterns.{and_true, or_true}
+use Rattle.rng_residual.proofs.Nullable.{true_and}
 use Rattle.rng_kept.specs.Live.{AreLive}
 use Rattle.rng_residual.specs.Required.{RequiredIsExact}
 use Rattle.rng_kept.specs.Required.{has_only, needs, way_needs, is_required}
-use Rattle.rng_residual.proofs.Sole.{only_is_exact}
+use Rattle.rng_residual.proofs.SoleNames.{only_is_exact}
 use Rattle.rng_residual.proofs.Keeping.{or_false}
 use Rattle.rng_residual.proofs.Attributes.{attribute_is}
 use Rattle.rng_residual.proofs.Repair.{HaveChars, chars_join, has_left, has_right, has_side, repair, distinct_right, distinct_apart2}

@@ -7,8 +7,8 @@ use Rattle.rng_restrict.specs.Standing.{Stands, itself, in_attribute, in_one_or_
 use Rattle.rng_restrict.specs.Attributes.{HasAttributeOverlap, in_group, in_interleave}
 use Rattle.rng_restrict.specs.Paths.{HasPath, attribute_below_attribute, ref_below_attribute, attribute_below_repeated_group, attribute_below_repeated_interleave, list_below_list, ref_below_list, attribute_below_list, text_below_list, interleave_below_list}
 use Rattle.rng_kept.specs.Lists.{has_no_list, has_flat_lists}
-use Rattle.rng_residual.proofs.Smart.{or_true}
-use Rattle.rng_residual.proofs.Nulls.{true_and}
+use Rattle.rng_residual.proofs.SmallPatterns.{or_true}
+use Rattle.rng_residual.proofs.Nullable.{true_and}
 use Rattle.rng_kept.specs.Apart.{mentions, is_attribute_free, is_loose, IsApart, apart_free, apart_attribute, apart_one_or_more, apart_choice, apart_group, apart_interleave}
 use Rattle.rng_residual.specs.Restricted.{RestrictedIsApart}
 

@@ -6,7 +6,7 @@ use Rattle.nx_base.specs.Trees.{Attribute, Children, nil, string, element}
 use Rattle.rng_core.specs.Patterns.{Pattern, Definition}
 use Rattle.rng_core.specs.Matching.{Matches, by_empty, by_text, no_string, by_one, by_first, by_group, by_interleave}
 use Rattle.rng_kept.specs.Clean.{Clean, clean_empty, clean_text, clean_data, clean_value, clean_list, clean_attribute, clean_ref, clean_one_or_more, clean_choice, clean_group, clean_interleave}
-use Rattle.rng_residual.proofs.Smart.{and_true}
+use Rattle.rng_residual.proofs.SmallPatterns.{and_true}
 use Rattle.rng_residual.proofs.Cleaning.{sound_value_is, own_text}
 use Rattle.rng_residual.proofs.Repair.{HaveChars, chars_join}
 use Rattle.rng_residual.proofs.Solid.{AreSolid, solid_nil, solid_string, solid_element}

@@ -10,8 +10,8 @@ use Rattle.rng_kept.specs.SmallPatterns.{group_of, star}
 use Rattle.rng_kept.specs.Openings.{then_group, then_interleave, under_interleave}
 use Rattle.rng_residual.specs.Openings.{Opened}
 use Rattle.rng_kept.specs.Clean.{Clean, clean_empty, clean_text, clean_data, clean_value, clean_list, clean_attribute, clean_ref, clean_one_or_more, clean_choice, clean_group, clean_interleave}
-use Rattle.rng_residual.proofs.Smart.{or_same, seq_same, mix_same, or_sides, nothing_inv, order_all}
-use Rattle.rng_residual.proofs.Nulls.{star_in, star_none, star_out, group_parts, interleave_parts, go_on}
+use Rattle.rng_residual.proofs.SmallPatterns.{or_same, seq_same, mix_same, or_sides, nothing_inv, order_all}
+use Rattle.rng_residual.proofs.Nullable.{star_in, star_none, star_out, group_parts, interleave_parts, go_on}
 use Rattle.rng_residual.proofs.Openings.{joined_in, joined_out, group_in, left_in, right_in, group_out, left_out, right_out, open_in, open_out}
 use Rattle.rng_kept.specs.Skipping.{ending, skip_opens}
 use Rattle.rng_residual.proofs.Solid.{AreSolid, solid_nil}

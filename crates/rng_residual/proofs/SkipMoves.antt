@@ -13,7 +13,7 @@ use Rattle.rng_kept.specs.Residuals.{Outer, document, inside, Way, among, in_tag
 use Rattle.rng_kept.specs.Entering.{rest_at, has_number, others, tag_of_both, tag_of_loose, skip_outer, skip_way, enter_skip}
 use Rattle.rng_kept.specs.Clean.{Clean, clean_empty, clean_text, clean_data, clean_value, clean_list, clean_attribute, clean_ref, clean_one_or_more, clean_choice, clean_group, clean_interleave, Fine}
 use Rattle.rng_kept.specs.Lively.{IsLivelyOutside, lively_document, lively_inside, IsLively, lively_among, AreLively, none_lively, one_lively}
-use Rattle.rng_residual.proofs.Smart.{never_no, is_not_allowed-is}
+use Rattle.rng_residual.proofs.SmallPatterns.{never_no, is_not_allowed-is}
 use Rattle.rng_residual.proofs.Entering.{AreNamed, none_named, named_first, joined_named, group_named, left_named, right_named, definition_named, either_takes, first_takes, top_in, both_in, loose_in, element_in, opened_at, top_out}
 use Rattle.rng_kept.specs.Live.{AreLive}
 use Rattle.rng_kept.specs.Skipping.{ending, skip_opens}

@@ -8,7 +8,7 @@ use Rattle.nx_base.specs.Characters.{is_blank}
 use Rattle.nx_base.specs.Trees.{Attribute, Children, nil, string, element, without_blanks, Event, TagEnd, Leave, children_flat, attributes_flat}
 use Rattle.rng_core.specs.Matching.{InOrder, then_second, string_of_first, element_of_first, Shuffle, no_child, string_to_first, string_to_second, element_to_first, element_to_second}
 use Rattle.rng_kept.specs.Events.{IsText, AreText}
-use Rattle.rng_residual.proofs.Smart.{by_test}
+use Rattle.rng_residual.proofs.SmallPatterns.{by_test}
 
 -- the strings among the children themselves
 pub data AreTexts : Children → Type 0 where

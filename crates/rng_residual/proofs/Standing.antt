@@ -18,8 +18,8 @@ use Rattle.rng_residual.proofs.Members.{tests_are_solid}
 use Rattle.rng_residual.specs.Moves.{behind_event, IsNew, FramesStand, FrontsAreViable, StandingGoesOn, AnswersTellMoves, RestsAreTaken}
 use Rattle.rng_residual.specs.Merging.{MergedTakeTheSame}
 use Rattle.rng_residual.proofs.Merging.{with_way_in, with_way_out}
-use Rattle.rng_residual.proofs.Moving.{chars_in, chars_out, leave_in, leave_out}
-use Rattle.rng_residual.proofs.Ends.{attribute_of_in, attribute_of_out, tag_end_in, tag_end_out, enter_in, enter_out}
+use Rattle.rng_residual.proofs.Content.{chars_in, chars_out, leave_in, leave_out}
+use Rattle.rng_residual.proofs.Tags.{attribute_of_in, attribute_of_out, tag_end_in, tag_end_out, enter_in, enter_out}
 use Rattle.rng_residual.proofs.Alive.{flat_ways, clean_ways, enter_lively, attribute_lively, tag_end_lively, chars_lively, leave_lively}
 use Rattle.rng_residual.proofs.Viable.{viable}
 use Rattle.rng_residual.proofs.Fresh.{writable_of}

@@ -10,8 +10,8 @@ use Rattle.rng_core.specs.Matching.{no_attribute, then_second, string_of_first, 
 use Rattle.rng_kept.specs.SmallPatterns.{group_of, interleave_of, star}
 use Rattle.rng_kept.specs.Nullable.{nullable}
 use Rattle.rng_kept.specs.Lists.{has_no_list, has_flat_lists}
-use Rattle.rng_residual.proofs.Smart.{or_same, seq_same, mix_same, or_sides, never_no, nothing_inv, order_all}
-use Rattle.rng_residual.proofs.Nulls.{nullable_in, nullable_out, star_in, star_none, star_out, group_parts, interleave_parts, go_on}
+use Rattle.rng_residual.proofs.SmallPatterns.{or_same, seq_same, mix_same, or_sides, never_no, nothing_inv, order_all}
+use Rattle.rng_residual.proofs.Nullable.{nullable_in, nullable_out, star_in, star_none, star_out, group_parts, interleave_parts, go_on}
 use Rattle.rng_residual.specs.Solid.{TestsIn}
 use Rattle.rng_kept.specs.Strings.{is_data, is_value, Tests, after_by, word_tests, after_word, after_words, string_tests, after}
 use Rattle.rng_residual.specs.Derivatives.{DerivesStrings}

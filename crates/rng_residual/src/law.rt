@@ -58,7 +58,7 @@ pub fn moves_stand()
 {}
 
 /// The names that a residual requires are exactly those of which each list of attributes, behind which the tag may end, has one.
-#[tactic(auto, using(crate::proofs::Sole::only_is_exact))]
+#[tactic(auto, using(crate::proofs::SoleNames::only_is_exact))]
 pub fn required_is_exact()
     ensures only { OnlyIsExact }
     ensures required { RequiredIsExact }

@@ -19,12 +19,12 @@ use Rattle.rng_kept.specs.Live.{AreLive}
 use Rattle.rng_kept.specs.Lively.{IsLively, lively_in_tag, AreLively}
 use Rattle.rng_kept.specs.Standing.{Stands}
 use Rattle.rng_residual.specs.Unmentioned.{UnmentionedNamesAlike}
-use Rattle.rng_residual.proofs.Smart.{and_true, by_test}
-use Rattle.rng_residual.proofs.Nulls.{true_and}
-use Rattle.rng_residual.proofs.Sole.{same_name_is, same_itself}
+use Rattle.rng_residual.proofs.SmallPatterns.{and_true, by_test}
+use Rattle.rng_residual.proofs.Nullable.{true_and}
+use Rattle.rng_residual.proofs.SoleNames.{same_name_is, same_itself}
 use Rattle.rng_residual.proofs.Mentioned.{covers-unmentioned, covers-other_namespace}
 use Rattle.rng_residual.proofs.Entering.{entered}
-use Rattle.rng_residual.proofs.Ends.{not_enter, no_attribute_outside, given as given_first}
+use Rattle.rng_residual.proofs.Tags.{not_enter, no_attribute_outside, given as given_first}
 use Rattle.rng_residual.proofs.Attributes.{attribute_is}
 use Rattle.rng_residual.proofs.Alive.{lively_first}
 use Rattle.rng_residual.proofs.Merging.{takes_one}

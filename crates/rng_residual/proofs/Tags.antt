@@ -12,12 +12,12 @@ use Rattle.rng_kept.specs.Lists.{lists_are, has_no_list, has_flat_lists}
 use Rattle.rng_kept.specs.Residuals.{Outer, document, inside, Way, among, in_tag, Residual, MatchesWeakly, TakesChildren, strictly, loosely, voidly, TakesOuter, at_document, at_inside, TakesWay, among_children, in_start_tag, Takes, by_this}
 use Rattle.rng_kept.specs.Entering.{enter_way, enter}
 use Rattle.rng_kept.specs.Events.{AreText}
-use Rattle.rng_residual.proofs.Smart.{Same, or_same, seq_same, mix_same, or_sides, by_test, and_true, never_no, is_not_allowed-is}
-use Rattle.rng_residual.proofs.Nulls.{nullable_in, nullable_out, group_parts, interleave_parts}
+use Rattle.rng_residual.proofs.SmallPatterns.{Same, or_same, seq_same, mix_same, or_sides, by_test, and_true, never_no, is_not_allowed-is}
+use Rattle.rng_residual.proofs.Nullable.{nullable_in, nullable_out, group_parts, interleave_parts}
 use Rattle.rng_residual.proofs.Entering.{enter_in as enter_outer_in, enter_out as enter_outer_out}
 use Rattle.rng_residual.specs.Solid.{PassSolid}
 use Rattle.rng_kept.specs.Strings.{after}
-use Rattle.rng_residual.proofs.Moving.{IsFlat}
+use Rattle.rng_residual.proofs.Content.{IsFlat}
 use Rattle.rng_kept.specs.Attributes.{after_attribute, close}
 use Rattle.rng_kept.specs.SolidStrings.{solid_tests, loosen}
 use Rattle.rng_kept.specs.Tags.{tag_of, attribute_way, attribute_of, children_of, tag_end_way, tag_end}
@@ -27,7 +27,7 @@ use Rattle.rng_residual.proofs.Keeping.{lists_keep, choice_keeps, group_keeps, i
 use Rattle.rng_residual.proofs.Strings.{after_in, after_out}
 use Rattle.rng_residual.proofs.Attributes.{attribute_is, after_attribute_in, after_attribute_out}
 use Rattle.rng_residual.proofs.Merging.{takes_one, step_in, step_out}
-use Rattle.rng_residual.proofs.Moving.{among_in, among_out, all_hold}
+use Rattle.rng_residual.proofs.Content.{among_in, among_out, all_hold}
 use Rattle.rng_residual.proofs.Solid.{AreTexts, AreSolid, solid_first, solid_front, solid_back, solid_left, solid_right, solid_without_blanks, texts_of}
 
 more_never : {X : Type 0} {g : List Definition} {a : List Attribute} {c : Children} → Matches g (one_or_more not_allowed) a c → X

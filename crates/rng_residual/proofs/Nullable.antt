@@ -5,7 +5,7 @@ use Rattle.rng_core.specs.Patterns.{Pattern, Definition, not_allowed, empty, any
 use Rattle.rng_core.specs.Matching.{no_attribute, InOrder, then_second, Shuffle, no_child, no_string, Matches, by_empty, by_text, by_first, by_second, by_group, by_interleave, by_one, by_more}
 use Rattle.rng_kept.specs.Nullable.{nullable}
 use Rattle.rng_kept.specs.SmallPatterns.{star}
-use Rattle.rng_residual.proofs.Smart.{or_same, or_true, and_true, or_sides, nothing_inv, order_all_is}
+use Rattle.rng_residual.proofs.SmallPatterns.{or_same, or_true, and_true, or_sides, nothing_inv, order_all_is}
 
 pub true_and : (a b : Bool) → a ≡ true → b ≡ true → (a && b) ≡ true
 true_and a b h k = rw (h, k) refl

@@ -10,8 +10,8 @@ use Rattle.rng_kept.specs.SmallPatterns.{is_not_allowed}
 use Rattle.rng_kept.specs.Nullable.{nullable}
 use Rattle.rng_kept.specs.Lists.{has_flat_lists}
 use Rattle.rng_kept.specs.Residuals.{Outer, document, inside, Way, among, in_tag, Residual, TakesChildren, strictly, loosely, voidly, TakesOuter, at_document, at_inside, TakesWay, among_children, in_start_tag, Takes, by_this}
-use Rattle.rng_residual.proofs.Smart.{by_test, or_true, and_true, never_no, is_not_allowed-is}
-use Rattle.rng_residual.proofs.Nulls.{nullable_in, nullable_out, true_or_left, true_or_right}
+use Rattle.rng_residual.proofs.SmallPatterns.{by_test, or_true, and_true, never_no, is_not_allowed-is}
+use Rattle.rng_residual.proofs.Nullable.{nullable_in, nullable_out, true_or_left, true_or_right}
 use Rattle.rng_kept.specs.Strings.{after}
 use Rattle.rng_kept.specs.Content.{is_dead_outer, among_of, loose_after, outer_after, chars_way, chars, may_leave, leave_outer, leave_way, leave}
 use Rattle.rng_residual.proofs.Strings.{after_in, after_out}

@@ -14,14 +14,14 @@ use Rattle.rng_kept.specs.SmallPatterns.{group_of, interleave_of, star, one_or_m
 use Rattle.rng_kept.specs.Nullable.{nullable}
 use Rattle.rng_kept.specs.Lists.{has_flat_lists}
 use Rattle.rng_kept.specs.Clean.{TakesString, Clean, clean_empty, clean_text, clean_data, clean_value, clean_list, clean_attribute, clean_ref, clean_one_or_more, clean_choice, clean_group, clean_interleave}
-use Rattle.rng_residual.proofs.Smart.{or_same, seq_same, mix_same, or_sides, and_true, never_no, nothing_inv}
-use Rattle.rng_residual.proofs.Nulls.{nullable_out, star_out, group_parts, interleave_parts, go_on}
+use Rattle.rng_residual.proofs.SmallPatterns.{or_same, seq_same, mix_same, or_sides, and_true, never_no, nothing_inv}
+use Rattle.rng_residual.proofs.Nullable.{nullable_out, star_out, group_parts, interleave_parts, go_on}
 use Rattle.rng_kept.specs.SolidStrings.{solid_tests, after_solid}
 use Rattle.rng_residual.specs.Solid.{PassNoBlank}
 use Rattle.rng_kept.specs.Attributes.{after_any_attribute, drop}
 use Rattle.rng_residual.proofs.Strings.{when_true, OneString, one_of, leaf_alone}
 use Rattle.rng_residual.proofs.Attributes.{attribute_is, FitsIn, OneAttribute, attribute_in, attribute_map, attribute_alone, around_out, star_more, part_star, parts_of_group, parts_of_interleave}
-use Rattle.rng_residual.proofs.Ends.{more_same}
+use Rattle.rng_residual.proofs.Tags.{more_same}
 use Rattle.rng_residual.proofs.Cleaning.{sound_value_is, own_text, some_clean, clean_choice_of, clean_group_of, clean_interleave_of}
 use Rattle.rng_residual.proofs.Repair.{HaveChars, chars_join}
 use Rattle.rng_residual.proofs.Joining.{app, app_split}
