@@ -1,0 +1,33 @@
+-- What is left behind events, computed.
+use Rattle.std.proofs.Common.{refl}
+use Rattle.std.specs.Str.{chars, is_utf8}
+use lib.Utf8.{encode}
+use Rattle.nx_base.specs.Characters.{is_char, is_space, is_name_start, is_name_char}
+use Rattle.rng_kept.specs.Examples.{LeavesResiduals, ShufflesChildren}
+
+pub leaves_residuals : LeavesResiduals
+unfolding is_char is_space is_name_start is_name_char chars is_utf8 encode
+leaves_residuals = record {
+  no_para = refl;
+  no_skip_to_para = refl;
+  a_doc = refl;
+  no_such_id = refl;
+  some_id = refl;
+  no_end_yet = refl;
+  id_is_required = refl;
+  title_is_not = refl;
+  no_more_is = refl;
+  an_end = refl;
+  no_para_yet = refl;
+  no_leave_yet = refl;
+  no_text = refl;
+  no_text_whatever = refl;
+  a_blank = refl;
+  skip_to_para = refl;
+  skip_to_end = refl;
+  end_without_id = refl;
+}
+
+pub shuffles_children : ShufflesChildren
+unfolding is_char is_space is_name_start is_name_char chars is_utf8 encode
+shuffles_children = record { a_b_a = refl; no_second_b = refl; no_end_without_a = refl }

@@ -1,0 +1,15 @@
+//! Worked examples of the definitions, as laws. Nothing here runs.
+
+ghost use Rattle.rng_kept.specs.Examples.{KeepsLists, NoParagraphAlone, LeavesResiduals, ShufflesChildren};
+
+/// Behind each kind of move a list that it keeps, and a list that can't become valid.
+pub fn moves_keep_lists()
+    ensures kept { KeepsLists }
+    ensures none { NoParagraphAlone }
+{}
+
+/// What is left of a schema behind some events of a document, and which events it doesn't admit.
+pub fn events_leave_residuals()
+    ensures in_order { LeavesResiduals }
+    ensures in_any_order { ShufflesChildren }
+{}

@@ -1,0 +1,75 @@
+-- What matches nothing at all, and what may be repeated.
+use Rattle.std.proofs.Common.{◌≡◌, List, [], Bool, true, false, ◌&&◌, ◌||◌, refl, subst, inl, inr, ◌⊎◌, ⊎_elim}
+use Rattle.nx_base.specs.Trees.{Attribute, Children, nil}
+use Rattle.rng_core.specs.Patterns.{Pattern, Definition, not_allowed, empty, any_text, typed, literal, listed, attribute, ref, one_or_more, choice, group, interleave}
+use Rattle.rng_core.specs.Matching.{no_attribute, InOrder, then_second, Shuffle, no_child, no_string, Matches, by_empty, by_text, by_first, by_second, by_group, by_interleave, by_one, by_more}
+use Rattle.rng_kept.specs.Nullable.{nullable}
+use Rattle.rng_kept.specs.SmallPatterns.{star}
+use Rattle.rng_residual.proofs.SmallPatterns.{or_same, or_true, and_true, or_sides, nothing_inv, order_all_is}
+
+pub true_and : (a b : Bool) → a ≡ true → b ≡ true → (a && b) ≡ true
+true_and a b h k = rw (h, k) refl
+
+pub true_or_left : (a b : Bool) → a ≡ true → (a || b) ≡ true
+true_or_left a b h = rw h refl
+
+pub true_or_right : (a b : Bool) → b ≡ true → (a || b) ≡ true
+true_or_right true b h = refl
+true_or_right false b h = h
+
+pub nullable_in : {g : List Definition} {p : Pattern} → Matches g p [] nil → nullable p ≡ true
+nullable_in by_empty = refl
+nullable_in (by_text s) = refl
+nullable_in (by_first {p = p} {q = q} m) = true_or_left (nullable p) (nullable q) (nullable_in m)
+nullable_in (by_second {p = p} {q = q} m) = true_or_right (nullable p) (nullable q) (nullable_in m)
+nullable_in (by_group {p = p} {q = q} no_attribute then_second m1 m2) = true_and (nullable p) (nullable q) (nullable_in m1) (nullable_in m2)
+nullable_in (by_interleave {p = p} {q = q} no_attribute no_child m1 m2) = true_and (nullable p) (nullable q) (nullable_in m1) (nullable_in m2)
+nullable_in (by_one m) = nullable_in m
+nullable_in (by_more no_attribute then_second m1 m2) = nullable_in m1
+
+pub nullable_out : {g : List Definition} (p : Pattern) → nullable p ≡ true → Matches g p [] nil
+nullable_out empty h = by_empty
+nullable_out any_text h = by_text no_string
+nullable_out (one_or_more p) h = by_one (nullable_out p h)
+nullable_out (choice p q) h = ⊎_elim (λ e. by_first (nullable_out p e)) (λ e. by_second (nullable_out q e)) (or_true (nullable p) (nullable q) h)
+nullable_out (group p q) h = let e = and_true (nullable p) (nullable q) h in by_group no_attribute then_second (nullable_out p e.0) (nullable_out q e.1)
+nullable_out (interleave p q) h = let e = and_true (nullable p) (nullable q) h in by_interleave no_attribute no_child (nullable_out p e.0) (nullable_out q e.1)
+nullable_out not_allowed h = cc
+nullable_out (typed t e) h = cc
+nullable_out (literal t v) h = cc
+nullable_out (listed p) h = cc
+nullable_out (attribute c p) h = cc
+nullable_out (ref i) h = cc
+
+pub star_in : {g : List Definition} {p : Pattern} {a : List Attribute} {c : Children} → Matches g (one_or_more p) a c → Matches g (star p) a c
+star_in {g = g} {p = p} m = (or_same g (one_or_more p) empty).from (by_first m)
+
+pub star_none : {g : List Definition} (p : Pattern) → Matches g (star p) [] nil
+star_none {g = g} p = (or_same g (one_or_more p) empty).from (by_second by_empty)
+
+pub star_out : {g : List Definition} {p : Pattern} {a : List Attribute} {c : Children} → Matches g (star p) a c → Matches g (one_or_more p) a c ⊎ Matches g empty a c
+star_out {g = g} {p = p} m = or_sides ((or_same g (one_or_more p) empty).to m)
+
+pub record InGroup (g : List Definition) (p q : Pattern) (c : Children) : Type 0 where
+  pub c1 : Children
+  pub c2 : Children
+  pub order : InOrder c c1 c2
+  pub left : Matches g p [] c1
+  pub right : Matches g q [] c2
+
+pub group_parts : {g : List Definition} {p q : Pattern} {c : Children} → Matches g (group p q) [] c → InGroup g p q c
+group_parts (by_group {c1 = c1} {c2 = c2} no_attribute o m1 m2) = record { c1 = c1; c2 = c2; order = o; left = m1; right = m2 }
+
+pub record InInterleave (g : List Definition) (p q : Pattern) (c : Children) : Type 0 where
+  pub c1 : Children
+  pub c2 : Children
+  pub shuffle : Shuffle c c1 c2
+  pub left : Matches g p [] c1
+  pub right : Matches g q [] c2
+
+pub interleave_parts : {g : List Definition} {p q : Pattern} {c : Children} → Matches g (interleave p q) [] c → InInterleave g p q c
+interleave_parts (by_interleave {c1 = c1} {c2 = c2} no_attribute o m1 m2) = record { c1 = c1; c2 = c2; shuffle = o; left = m1; right = m2 }
+
+pub go_on : {g : List Definition} {p : Pattern} {c c1 c2 : Children} → InOrder c c1 c2 → Matches g p [] c1 → Matches g (one_or_more p) [] c2 ⊎ Matches g empty [] c2 → Matches g (one_or_more p) [] c
+go_on {p = p} {c = c} {c1 = c1} o m (inl r) = by_more no_attribute o m r
+go_on {p = p} {c = c} {c1 = c1} o m (inr e) = rw (order_all_is (subst (λ v. InOrder c c1 v) (nothing_inv e).1 o)) (by_one m)
