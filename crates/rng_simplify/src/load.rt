@@ -144,7 +144,7 @@ fn file_at<F: Files>(alloc: Global, uri: &Bytes, files: &mut F) -> Result<Surfac
 }
 
 /// The URI that the text denotes in the file of that URI.
-fn joined(alloc: Global, base: &Bytes, text: &Bytes) -> Result<Bytes, SchemaFault>
+fn resolved(alloc: Global, base: &Bytes, text: &Bytes) -> Result<Bytes, SchemaFault>
     requires base_is_text { IsUtf8 base.now }
     requires text_is_text { IsUtf8 text.now }
     ensures { JoinsUri base.now text.now result }
@@ -255,7 +255,7 @@ impl Loader {
         requires text_is_text { IsUtf8 text.now }
         ensures { NextUri (uris_of (reverse self.now.chain.items)) base.now text.now result }
     {
-        let uri = joined(self.alloc, base, text)?;
+        let uri = resolved(self.alloc, base, text)?;
         if uri.as_slice() == base.as_slice() || self.leads_from(&uri) {
             return Err(SchemaFault::Unreadable(Cause::IncludeLoop));
         }

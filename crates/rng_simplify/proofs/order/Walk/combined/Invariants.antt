@@ -1,9 +1,9 @@
--- the walk rests, what was met stays so, and the joins so far were met
+-- the walk rests, what was met stays so, and the combined definitions so far were met
 use Rattle.std.proofs.Common.{map, length, ℕ, ◌+◌, ◌<◌, ◌≡◌, ◌≢◌, [], None}
 use Rattle.rng_simplify.specs.declared.order.Mark.TheVariants.{New}
 use Rattle.rng_simplify.specs.Cells.{cell_of}
 use Rattle.rng_simplify.specs.Walking.{walking_of, mark_at, IsWalk, KeepsMarks}
-use Rattle.rng_simplify.proofs.order.Walk.joins.Given as goal
+use Rattle.rng_simplify.proofs.order.Walk.combined.Given as goal
 
 abbrev pub invariant-loop-j : goal.invariant-loop-j
 invariant-loop-j l = record {

@@ -1,6 +1,6 @@
 use Rattle.std.proofs.Common.{sym, ◌∙◌}
 use Rattle.rng_simplify.proofs.Signs.{signs_added, both_alone_clash, both_ways_clash}
-use Rattle.rng_simplify.proofs.resolve.Join.add.Goals as goal
+use Rattle.rng_simplify.proofs.resolve.Combined.add.Goals as goal
 
 pub returns-then-two_alone : goal.returns-then-two_alone
 returns-then-two_alone c = λ combines signs. both_alone_clash combines c.args.combine c.args.self.now signs (sym c.two_alone.ensures ∙ c.if-two_alone.true)

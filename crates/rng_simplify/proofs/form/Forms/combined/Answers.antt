@@ -1,6 +1,6 @@
 use Rattle.std.proofs.Common.{sym, ap, ◌∙◌, length}
 use Rattle.rng_simplify.proofs.Forming.{first_known, others_known, none_to_join}
-use Rattle.rng_simplify.proofs.form.Forms.join.Goals as goal
+use Rattle.rng_simplify.proofs.form.Forms.combined.Goals as goal
 
 pub of-shape-requires : goal.of-shape-requires
 of-shape-requires c = (first_known _ _ _ _ _ (sym c.as_slice.ensures.value ∙ c.in-Some.ensures.cases.0) c.requires).within

@@ -1,5 +1,5 @@
 use Rattle.rng_simplify.proofs.Good.{nowhere_good, node_judged}
-use Rattle.rng_simplify.proofs.judge.check_at.Goals as goal
+use Rattle.rng_simplify.proofs.class.check_at.Goals as goal
 
 pub returns-in-Nowhere : goal.returns-in-Nowhere
 returns-in-Nowhere c = nowhere_good c.args.whole.now.nodes.items c.args.whole.now.root c.args.found.now c.args.i c.index.result.now c.requires.resolved c.requires.within c.index.ensures c.in-Nowhere.is
