@@ -27,12 +27,18 @@ const SCRIPTS: [&str; 5] = [
 
 /// The schemas, there, too. Each element that is left in a schema has a definition: 12 of manual-inlines.rnc, 12 of
 /// manual-blocks.rnc, each but for the one that is replaced, and 15 of manual.rnc; 10 of config.rnc. The parts of a schema
-/// have no start.
-const SCHEMAS: [&str; 4] = [
+/// have no start. Those below `refused` break a restriction each.
+const SCHEMAS: [&str; 10] = [
     "examples/schemas/manual.rnc",
     "examples/schemas/manual-blocks.rnc",
     "examples/schemas/manual-inlines.rnc",
     "examples/schemas/config.rnc",
+    "examples/schemas/refused/path.rnc",
+    "examples/schemas/refused/mixture.rnc",
+    "examples/schemas/refused/attribute-overlap.rnc",
+    "examples/schemas/refused/wildcard-once.rnc",
+    "examples/schemas/refused/interleave-overlap.rnc",
+    "examples/schemas/refused/text-twice.rnc",
 ];
 
 fn main(rt: HostRuntime) -> io::Result<()> {

@@ -8,7 +8,8 @@ use Rattle.std.proofs.lemmas.Bool.{eqb-true, and_parts}
 use Rattle.std.proofs.lemmas.Bool.Decides.{nat_tests}
 use Rattle.nx_base.specs.Characters.{is_char}
 use Rattle.rnc_lex.specs.declared.escape.First.TheVariants as first
-use Rattle.rnc_lex.specs.Reading.{is_x, char_of, of_char, escaped, behind_backslash, first_letter}
+use Rattle.nx_base.specs.CharacterCodes.{char_of_code}
+use Rattle.rnc_lex.specs.Reading.{is_x, of_char, escaped, behind_backslash, first_letter}
 use Rattle.rnc_lex.proofs.Ascii.{AsciiFront, ascii_none, ascii_at, ascii_then, at_same, head_same, front_same}
 
 -- a choice, and which side it took
@@ -45,10 +46,10 @@ unfolding escaped
 escaped_ends before inside d w more h e =
     let count = prefix_len is_ascii_hexdigit inside in
     let digits = front_same is_ascii_hexdigit hex_low inside h in
-    elim (chosen (nat_lt 0 count && eqb (get_or inside count 0) 125) (of_char (before + count + 1) (char_of (digits_value 16 (take count inside)))) first.BrokenEscape (first.Letter d w more) e) [
+    elim (chosen (nat_lt 0 count && eqb (get_or inside count 0) 125) (of_char (before + count + 1) (char_of_code (digits_value 16 (take count inside)))) first.BrokenEscape (first.Letter d w more) e) [
       | inl (test, k) ↦
           let close = (and_parts (nat_lt 0 count) (eqb (get_or inside count 0) 125) test).1 in
-          let is = denoted more (before + count + 1) (char_of (digits_value 16 (take count inside))) d w k in
+          let is = denoted more (before + count + 1) (char_of_code (digits_value 16 (take count inside))) d w k in
           (count + 1, omega arith, ascii_at 125 inside count (lit< tt) (lit< tt) digits.front close)
       | inr (test, k) ↦ absurd cc
     ]

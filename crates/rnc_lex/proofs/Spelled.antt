@@ -12,7 +12,8 @@ use Rattle.nx_base.specs.Characters.{is_char}
 use Rattle.rnc_lex.specs.declared.escape.First.{First}
 use Rattle.rnc_lex.specs.declared.escape.First.TheVariants as first
 use Rattle.rnc_lex.specs.Letters.{BeginsEscape, IsEscape, StandsFor, itself, line_end, escape}
-use Rattle.rnc_lex.specs.Reading.{is_x, char_of, of_char, escaped, behind_backslash, first_letter}
+use Rattle.nx_base.specs.CharacterCodes.{char_of_code}
+use Rattle.rnc_lex.specs.Reading.{is_x, of_char, escaped, behind_backslash, first_letter}
 use Rattle.rnc_lex.proofs.Escapes.{chosen}
 use Rattle.rnc_lex.proofs.Prefixes.{Pass, prefix_len_is, front_passes, both, take_front}
 
@@ -48,7 +49,7 @@ at_end front rest c = get_or_at front c rest 0 (length front) refl
 nonzero : (n : ℕ) → 0 < n → nat_lt 0 n ≡ true
 nonzero n h = grind (arith, nat_tests)
 
-escaped_is : (before : ℕ) (digits rest : List ℕ) → IsNumeral 16 digits → escaped before (digits ++ 125 ∷ rest) ≡ of_char (before + length digits + 1) (char_of (digits_value 16 digits))
+escaped_is : (before : ℕ) (digits rest : List ℕ) → IsNumeral 16 digits → escaped before (digits ++ 125 ∷ rest) ≡ of_char (before + length digits + 1) (char_of_code (digits_value 16 digits))
 unfolding escaped
 escaped_is before digits rest (some, all) =
     rw (prefix_len_is is_ascii_hexdigit digits (125 ∷ rest) (digits_pass digits all) refl, at_end digits rest 125, nonzero (length digits) some, take_at digits (125 ∷ rest) (length digits) refl) refl
@@ -74,8 +75,8 @@ shape_len xs digits =
     let d = length-append xs (123 ∷ []) in
     omega (arith, a, b, d)
 
-char_is : (c : ℕ) → is_char c ≡ true → char_of c ≡ Some c
-unfolding char_of
+char_is : (c : ℕ) → is_char c ≡ true → char_of_code c ≡ Some c
+unfolding char_of_code
 char_is c h = rw h refl
 
 behind_slash : (cs : List ℕ) → first_letter 92 cs ≡ behind_backslash cs
@@ -87,7 +88,7 @@ escape_shaped : (xs digits rest : List ℕ) (c : ℕ) → 0 < length xs → Pass
 escape_shaped xs digits rest c some all numeral is char =
     behind_slash _ ∙ ap behind_backslash (shaped xs digits rest) ∙ backslash_is xs (digits ++ 125 ∷ rest) some all
     ∙ escaped_is (length xs + 1) digits rest numeral
-    ∙ ap (of_char (length xs + 1 + length digits + 1)) (ap char_of (sym is) ∙ char_is c char)
+    ∙ ap (of_char (length xs + 1 + length digits + 1)) (ap char_of_code (sym is) ∙ char_is c char)
     ∙ ap (λ n. first.Letter c false n) (sym (shape_len xs digits))
 
 -- what is read stands for the letter
@@ -178,8 +179,8 @@ numeral_front inside some =
     let positive : 0 < prefix_len is_ascii_hexdigit inside = grind (arith, nat_tests) in
     (omega (arith, long, positive), pass_digits _ (front_passes is_ascii_hexdigit inside))
 
-denoted_char : (number c : ℕ) → char_of number ≡ Some c → (c ≡ number) × (is_char c ≡ true)
-unfolding char_of
+denoted_char : (number c : ℕ) → char_of_code number ≡ Some c → (c ≡ number) × (is_char c ≡ true)
+unfolding char_of_code
 denoted_char number c e =
     elim (chosen (is_char number) (Some number) None (Some c) e) [
       | inl (test, k) ↦ let is : c ≡ number = cc in (is, ap is_char is ∙ test)
@@ -187,7 +188,7 @@ denoted_char number c e =
     ]
 
 escape_stands : (cs : List ℕ) → opened cs ≡ true → (c : ℕ) → let n = prefix_len is_x cs in let inside = drop (n + 1) cs in let count = prefix_len is_ascii_hexdigit inside in
-    nat_lt 0 count && eqb (get_or inside count 0) 125 ≡ true → char_of (digits_value 16 (take count inside)) ≡ Some c → Means 92 cs (first.Letter c false (n + 1 + count + 1))
+    nat_lt 0 count && eqb (get_or inside count 0) 125 ≡ true → char_of_code (digits_value 16 (take count inside)) ≡ Some c → Means 92 cs (first.Letter c false (n + 1 + count + 1))
 escape_stands cs h c test found =
     let n = prefix_len is_x cs in
     let inside = drop (n + 1) cs in
@@ -219,8 +220,8 @@ backslash_means cs r read e =
     let count = prefix_len is_ascii_hexdigit inside in
     elim (chosen (opened cs) (escaped (n + 1) inside) (first.Letter 92 true 0) r e) [
       | inl (test, k) ↦
-          elim (chosen (nat_lt 0 count && eqb (get_or inside count 0) 125) (of_char (n + 1 + count + 1) (char_of (digits_value 16 (take count inside)))) first.BrokenEscape r k) [
-            | inl (closed, l) ↦ denoted_means cs test (n + 1 + count + 1) (char_of (digits_value 16 (take count inside))) (λ c found. escape_stands cs test c closed found) r read l
+          elim (chosen (nat_lt 0 count && eqb (get_or inside count 0) 125) (of_char (n + 1 + count + 1) (char_of_code (digits_value 16 (take count inside)))) first.BrokenEscape r k) [
+            | inl (closed, l) ↦ denoted_means cs test (n + 1 + count + 1) (char_of_code (digits_value 16 (take count inside))) (λ c found. escape_stands cs test c closed found) r read l
             | inr (open_, l) ↦ subst (Means 92 cs) l (opened_begins cs test, no_escape cs (read ∙ sym l))
           ]
       | inr (test, k) ↦

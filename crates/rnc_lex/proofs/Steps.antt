@@ -3,28 +3,16 @@ use Rattle.std.proofs.Common.{◌≡◌, ℕ, ◌+◌, ◌-◌, ◌*◌, ◌<◌
 use Rattle.std.specs.Option.{option_map}
 use Rattle.std.specs.Str.{encode_utf8_all}
 use Rattle.std.specs.Char.{encode_utf8}
-use Rattle.std.specs.Str.Parse.{digits_value}
-use Rattle.std.proofs.lemmas.Int.Digits.{digits_value_more}
 use Rattle.std.proofs.lemmas.List.{take_more, take_rest, map-append, append-nil, append_assoc}
 use Rattle.std.proofs.lemmas.Str.{encodes-append}
 use Rattle.std.proofs.lemmas.Grind.{common_steps}
 use Rattle.std.proofs.lemmas.Bool.Decides.{nat_tests}
 use Rattle.std.proofs.lemmas.Bool.{cases_lt}
-use Rattle.std.specs.Char.{digit_value}
 use Rattle.nx_base.specs.Characters.{is_char}
 use Rattle.rnc_lex.specs.declared.letter.Letter.{Letter}
 use Rattle.rnc_lex.specs.Tokens.{said, utf8}
-use Rattle.rnc_lex.specs.Reading.{char_of, begins_three, before_three}
-
--- ---- numbers
-
-capped_step : (v d : ℕ) → min (min v 0x110000 * 16 + d) 0x110000 ≡ min (v * 16 + d) 0x110000
-capped_step v d = omega arith
-
-pub number_more : (digits : List ℕ) (i number : ℕ) → i < length digits → number ≡ min (digits_value 16 (take i digits)) 0x110000 → min (number * 16 + digit_value (get_or digits i 0)) 0x110000 ≡ min (digits_value 16 (take (i + 1) digits)) 0x110000
-number_more digits i number lt is =
-    ap (λ n. min (n * 16 + digit_value (get_or digits i 0)) 0x110000) is ∙ capped_step (digits_value 16 (take i digits)) (digit_value (get_or digits i 0))
-    ∙ ap (λ n. min n 0x110000) (sym (digits_value_more 16 digits i lt))
+use Rattle.nx_base.specs.CharacterCodes.{char_of_code}
+use Rattle.rnc_lex.specs.Reading.{begins_three, before_three}
 
 -- ---- texts
 
@@ -86,13 +74,13 @@ three_not_found quote letters i found ge h = sym (h ∙ ap (option_map (λ n. n 
 
 -- ---- Chars
 
-above : (n : ℕ) → 0x110000 ≤ n → char_of n ≡ None
-unfolding is_char char_of
+above : (n : ℕ) → 0x110000 ≤ n → char_of_code n ≡ None
+unfolding is_char char_of_code
 above n h = grind (arith, nat_tests)
 
-pub capped : (n : ℕ) → char_of (min n 0x110000) ≡ char_of n
+pub capped : (n : ℕ) → char_of_code (min n 0x110000) ≡ char_of_code n
 capped n =
     elim (cases_lt n 0x110000) [
-      | inl lt ↦ let e : min n 0x110000 ≡ n = omega arith in ap char_of e
-      | inr ge ↦ let e : min n 0x110000 ≡ 0x110000 = omega arith in ap char_of e ∙ above 0x110000 (omega arith) ∙ sym (above n ge)
+      | inl lt ↦ let e : min n 0x110000 ≡ n = omega arith in ap char_of_code e
+      | inr ge ↦ let e : min n 0x110000 ≡ 0x110000 = omega arith in ap char_of_code e ∙ above 0x110000 (omega arith) ∙ sym (above n ge)
     ]

@@ -6,6 +6,7 @@ use Rattle.std.specs.Option.{option_map}
 use Rattle.std.specs.Char.{is_ascii_hexdigit}
 use Rattle.std.specs.Str.{chars, bytes_eq}
 use Rattle.std.specs.Str.Parse.{digits_value}
+use Rattle.nx_base.specs.CharacterCodes.{char_of_code}
 use Rattle.nx_base.specs.Characters.{is_char, is_space}
 use Rattle.rnc_lex.specs.declared.escape.First.{First}
 use Rattle.rnc_lex.specs.declared.escape.First.TheVariants as first
@@ -42,10 +43,6 @@ then_found change (Err fault) = Err fault
 abbrev pub is_x : ℕ → Bool
 is_x c = c == 120
 
--- the Char of a number, if it is one
-unfoldable pub char_of : ℕ → Option ℕ
-char_of number = if is_char number then Some number else None
-
 -- an escape of so many characters behind its `\`, with the Char that it denotes
 abbrev pub of_char : ℕ → Option ℕ → First
 of_char more None = first.BrokenEscape
@@ -55,7 +52,7 @@ of_char more (Some c) = first.Letter c false more
 unfoldable pub escaped : ℕ → List ℕ → First
 escaped before inside =
     let count = prefix_len is_ascii_hexdigit inside in
-    if nat_lt 0 count && slice_index inside count == 125 then of_char (before + count + 1) (char_of (digits_value 16 (take count inside)))
+    if nat_lt 0 count && slice_index inside count == 125 then of_char (before + count + 1) (char_of_code (digits_value 16 (take count inside)))
     else first.BrokenEscape
 
 -- what `\` (92) and the characters behind it begin with: itself, unless `x`s and `{` (123) follow it

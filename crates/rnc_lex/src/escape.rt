@@ -1,13 +1,15 @@
 //! What the characters at the front of a text are: a letter, or a fault.
 
-ghost use Rattle.std.specs.Prelude.{◌≡◌, ◌+◌, ◌<◌, ◌≤◌, ◌==◌, ◌^◌, length, slice_index, min};
+ghost use Rattle.std.specs.Prelude.{◌≡◌, ◌+◌, ◌<◌, ◌≤◌, ◌==◌, ◌^◌, length, slice_index};
 ghost use Rattle.std.specs.Bool.{OnTrue};
 ghost use Rattle.std.specs.List.{prefix_len};
-ghost use Rattle.std.specs.Char.{is_ascii_hexdigit, digit_value};
+ghost use Rattle.std.specs.Char.{is_ascii_hexdigit};
 ghost use Rattle.std.specs.Str.Parse.{digits_value};
-ghost use Rattle.rnc_lex.specs.Reading.{is_x, char_of, of_char, escaped, behind_backslash, first_letter};
+ghost use Rattle.nx_base.specs.CharacterCodes.{char_of_code};
+ghost use Rattle.rnc_lex.specs.Reading.{is_x, of_char, escaped, behind_backslash, first_letter};
 
 use nx_base::character::is_char;
+use nx_base::character_code::{char_of_code, code_of_digits};
 
 /// What the characters at the front are.
 #[derive(Clone, Copy, Debug, PartialEq, Eq)]
@@ -19,9 +21,6 @@ pub(crate) enum First {
     /// A character that isn't a Char.
     NoChar,
 }
-
-/// The first character beyond Unicode's last.
-const BEYOND: u32 = 0x11_0000;
 
 /// What a character and the text behind it begin with.
 #[tactic(auto, unfolding(crate::specs::Reading::first_letter))]
@@ -107,52 +106,9 @@ fn leading_digits(bytes: &[u8]) -> usize
         .count()
 }
 
-/// The value of a hexadecimal digit, and 36 for any byte that is no digit and no letter.
-fn digit_value(byte: u8) -> u32
-    ensures { result ≡ digit_value byte }
-{
-    if byte < 48 {
-        36
-    } else if byte < 58 {
-        u32::from(byte) - 48
-    } else if byte < 65 {
-        36
-    } else if byte < 91 {
-        u32::from(byte) - 55
-    } else if byte < 97 {
-        36
-    } else if byte < 123 {
-        u32::from(byte) - 87
-    } else {
-        36
-    }
-}
-
-/// The number that hexadecimal digits write, or the first one beyond Unicode where it is greater.
-fn number_of(digits: &[u8]) -> u32
-    ensures { result ≡ min (digits_value 16 digits.now) 0x11_0000 }
-{
-    let mut number: u32 = 0;
-    for digit in digits {
-        number = (number * 16 + digit_value(*digit)).min(BEYOND);
-    }
-    number
-}
-
 /// The Char that hexadecimal digits denote, if they denote one.
 fn char_of(digits: &[u8]) -> Option<char>
-    ensures { result ≡ char_of (digits_value 16 digits.now) }
+    ensures { result ≡ char_of_code (digits_value 16 digits.now) }
 {
-    char_or_none(number_of(digits))
-}
-
-/// The character of a number, where it is a Char.
-#[tactic(auto, unfolding(nx_base::specs::Characters::is_char, crate::specs::Reading::char_of))]
-fn char_or_none(number: u32) -> Option<char>
-    ensures { result ≡ char_of number }
-{
-    match char::from_u32(number) {
-        Some(c) => { if is_char(c) { Some(c) } else { None } }
-        None => None,
-    }
+    char_of_code(code_of_digits(digits, 16))
 }

@@ -1,4 +1,4 @@
--- Forms of nodes and joins, as further shapes are put behind others.
+-- Forms of nodes and combined definitions, as further shapes are put behind others.
 use Rattle.std.proofs.Common.{◌≡◌, refl, sym, ap, ◌∙◌, subst, ℕ, ◌+◌, ◌-◌, ◌<◌, ◌≤◌, inl, inr, ◌⊎◌, List, [], ◌∷◌, ◌++◌, length, map, take, get_or, slice_get, Some, Result, Ok, Err, Contains, arith}
 use Rattle.std.specs.Prelude.{slice_index}
 use Rattle.std.specs.Option.{option_map}
@@ -15,7 +15,7 @@ use Rattle.rng_simplify.specs.declared.fault.SchemaFault.TheVariants as fault
 use Rattle.rng_simplify.specs.declared.form.Forms.{Forms}
 use Rattle.rng_simplify.specs.declared.node.Node.{Node}
 use Rattle.rng_simplify.specs.declared.node.Sign.{Sign}
-use Rattle.rng_simplify.specs.declared.resolve.Join.{Join}
+use Rattle.rng_simplify.specs.declared.resolve.Combined.{Combined}
 use Rattle.rng_simplify.specs.declared.resolve.Resolved.{Resolved}
 use Rattle.rng_simplify.specs.declared.shape.Shape.{Shape}
 use Rattle.rng_simplify.specs.declared.shape.Shape.TheVariants as shape
@@ -24,8 +24,8 @@ use Rattle.rng_simplify.specs.Cells as cell
 use Rattle.rng_simplify.specs.Denoting.{IsCell}
 use Rattle.rng_simplify.specs.Forms.{Form, Value, list_of, attribute_of, one_or_more_of, join_of}
 use Rattle.rng_simplify.specs.Forms as form
-use Rattle.rng_simplify.specs.Forming.{cell_form, bodies_form, join_form, form_in, form_of, IsKnown, IsBefore, IsInOrder, AreFormed, IsNumberedBelow, IsCellMade, MakesCell, IsJoinMade, MakesJoin, AreAllJoined, JoinsAll, Makes, IsPlaced}
-use Rattle.rng_simplify.specs.Resolving.{cell_leads, join_leads, leads_if, leads, link_at}
+use Rattle.rng_simplify.specs.Forming.{cell_form, bodies_form, combined_form, form_in, form_of, IsKnown, IsBefore, IsInOrder, AreFormed, IsNumberedBelow, IsCellMade, MakesCell, IsCombinedMade, MakesCombined, AreAllJoined, JoinsAll, Makes, IsPlaced}
+use Rattle.rng_simplify.specs.Resolving.{cell_leads, combined_leads, leads_if, leads, link_at}
 use Rattle.rng_simplify.specs.Shown.{value_in, type_in, params_in, class_in, joined_of, form_by, form_at, IsBehindParts, shape_parts, IsOfSchema, IsShown, Shows, Adds}
 use Rattle.rng_simplify.proofs.Nodes.{in_none, in_first, in_more}
 use Rattle.rng_simplify.proofs.Showing.{shows_still, shows_last, before_or_last}
@@ -96,7 +96,7 @@ module _ (old new : List Shape) (of : List ℕ) (count i link : ℕ) (c : Cell) 
   cell_shown own made (Err (fault.BadUri a)) is of_schema shown = shown
   cell_shown own made (Err (fault.Unreadable why)) is of_schema shown = shown
 
--- a join's shape is a node's
+-- the shape of combined definitions is a node's
 pub cell_linked : (old : List Shape) (of : List ℕ) (count i link : ℕ) (c : Cell) (number : ℕ) → ((at : ℕ → Form) (values : List Value) → cell_form at count link values c ≡ at (count + link)) → IsKnown old of (count + link) → number ≡ slice_index of (count + link) → IsCellMade old old of count i link c number
 cell_linked old of count i link c number is known at = record {
   more = [];
@@ -190,9 +190,9 @@ one_more_joined old mid new of by first done other next number further so_far kn
   kept = λ cells elements are. shown.kept cells elements tt (so_far.kept cells elements are);
 }
 
-pub all_joined : (old new : List Shape) (of : List ℕ) (combine : Combine) (by : Sign) (bodies others : List ℕ) (first start : ℕ) (result : Result ℕ SchemaFault) → bodies ≡ first ∷ others → start ≡ slice_index of first → joined_of by ≡ join_of combine → JoinsAll old new of by start others result → MakesJoin old new of combine bodies result
+pub all_joined : (old new : List Shape) (of : List ℕ) (combine : Combine) (by : Sign) (bodies others : List ℕ) (first start : ℕ) (result : Result ℕ SchemaFault) → bodies ≡ first ∷ others → start ≡ slice_index of first → joined_of by ≡ join_of combine → JoinsAll old new of by start others result → MakesCombined old new of combine bodies result
 all_joined old new of combine by bodies others first start (Ok number) parts is same made =
-    let P : List ℕ → Type 0 = λ all. IsJoinMade old new of combine all number in
+    let P : List ℕ → Type 0 = λ all. IsCombinedMade old new of combine all number in
     subst P (sym parts) (record {
       more = made.more;
       grows = made.grows;
@@ -215,9 +215,9 @@ none_in [] h = refl
 none_in (x ∷ xs) h = absurd (omega arith)
 
 -- where there is nothing to be joined
-pub none_to_join : (old new : List Shape) (of : List ℕ) (combine : Combine) (bodies : List ℕ) (result : Result ℕ SchemaFault) → length bodies ≡ 0 → Adds old new shape.NotAllowed result → MakesJoin old new of combine bodies result
+pub none_to_join : (old new : List Shape) (of : List ℕ) (combine : Combine) (bodies : List ℕ) (result : Result ℕ SchemaFault) → length bodies ≡ 0 → Adds old new shape.NotAllowed result → MakesCombined old new of combine bodies result
 none_to_join old new of combine bodies (Ok number) none added =
-    let P : List ℕ → Type 0 = λ all. IsJoinMade old new of combine all number in
+    let P : List ℕ → Type 0 = λ all. IsCombinedMade old new of combine all number in
     let made = cell_added old new of 0 0 0 cell.not_allowed shape.NotAllowed (Ok number) (λ cells taken at. refl) (λ cells elements at below. tt) added in
     subst P (sym (none_in bodies none)) (record {
       more = made.more;
@@ -266,7 +266,7 @@ next_joined old mid new of now_of by first others index next number further stay
     subst P (sym (take_more others index 0 within))
     (one_more_joined old mid new now_of by first (take index others) (slice_index others index) next number further so_far (subst Q (sym stays) (item_known old of others index within known)) is shown)
 
--- ---- nodes and joins by their numbers
+-- ---- nodes and combined definitions by their numbers
 
 pub cell_there : (nodes : List Node) (i : ℕ) (n : Node) → i < length nodes → n ≡ get_or nodes i n → slice_get (map cell_of nodes) i ≡ Some (cell_of n)
 cell_there nodes i n within is = slice_get-map cell_of nodes i ∙ ap (option_map cell_of) (slice_get-get_or nodes i n within ∙ ap (λ m. Some m) (sym is))
@@ -280,12 +280,12 @@ leads_of_node nodes found i link n within links is linked =
     ∙ ap (λ count. cell_leads count (link_at found i) (cell_of n)) (length-map nodes cell_of)
     ∙ ap (λ k. cell_leads (length nodes) k (cell_of n)) (sym (link_there found i link (omega arith) linked))
 
-pub leads_of_join : (nodes : List Node) (found : Resolved) (i : ℕ) (join : Join) → length nodes ≤ i → i < length nodes + length found.joins.items → join ≡ get_or found.joins.items (i - length nodes) join → leads (map cell_of nodes) found i ≡ join.bodies.items
+pub leads_of_join : (nodes : List Node) (found : Resolved) (i : ℕ) (join : Combined) → length nodes ≤ i → i < length nodes + length found.combined.items → join ≡ get_or found.combined.items (i - length nodes) join → leads (map cell_of nodes) found i ≡ join.bodies.items
 leads_of_join nodes found i join behind within is =
     let all = length-map nodes cell_of in
     ap (leads_if (map cell_of nodes) found i) (slice_get_past (map cell_of nodes) i (omega arith))
-    ∙ ap (λ count. join_leads (slice_get found.joins.items (i - count))) all
-    ∙ ap join_leads (slice_get-get_or found.joins.items (i - length nodes) join (omega arith) ∙ ap (λ j. Some j) (sym is))
+    ∙ ap (λ count. combined_leads (slice_get found.combined.items (i - count))) all
+    ∙ ap combined_leads (slice_get-get_or found.combined.items (i - length nodes) join (omega arith) ∙ ap (λ j. Some j) (sym is))
 
 -- what holds of all that something leads to
 pub leads_known : (shapes : List Shape) (of some others : List ℕ) → some ≡ others → ((j : ℕ) → Contains some j → IsKnown shapes of j) → (j : ℕ) → Contains others j → IsKnown shapes of j
@@ -307,7 +307,7 @@ module _ (nodes : List Node) (found : Resolved) (i : ℕ) (old new : List Shape)
             let Q : ℕ → Type 0 = λ k. form_at cells taken new number ≡ cell_form (form_in cells taken old of) (length nodes) k (taken i) c in
             let R : Cell → Type 0 = λ d. form_at cells taken new number ≡ cell_form (form_in cells taken old of) (length nodes) link (taken i) d in
             subst P (sym all) (subst Q same (subst R (same_Some _ _ (sym there ∙ at)) (made.shows cells taken there)));
-        join_is = λ k join taken place joins. absurd (omega arith);
+        join_is = λ k join taken place combined. absurd (omega arith);
         kept = λ others elements alike below are.
             let P : ℕ → Type 0 = λ k. IsNumberedBelow elements k (cell_of n) in
             made.kept others elements (alike (cell_of n) there) (subst P (sym same) (below (cell_of n) there)) are;
@@ -319,7 +319,7 @@ module _ (nodes : List Node) (found : Resolved) (i : ℕ) (old new : List Shape)
   node_made link n (Err (fault.BadUri a)) within links is linked made = made
   node_made link n (Err (fault.Unreadable why)) within links is linked made = made
 
-  pub join_made : (join : Join) (result : Result ℕ SchemaFault) → length nodes ≤ i → i < length nodes + length found.joins.items → join ≡ get_or found.joins.items (i - length nodes) join → MakesJoin old new of join.combine join.bodies.items result → Makes (map cell_of nodes) found i old new of result
+  pub join_made : (join : Combined) (result : Result ℕ SchemaFault) → length nodes ≤ i → i < length nodes + length found.combined.items → join ≡ get_or found.combined.items (i - length nodes) join → MakesCombined old new of join.combine join.bodies.items result → Makes (map cell_of nodes) found i old new of result
   join_made join (Ok number) behind within is made =
       let cells : List Cell = map cell_of nodes in
       let all : length cells ≡ length nodes = length-map nodes cell_of in
@@ -329,10 +329,10 @@ module _ (nodes : List Node) (found : Resolved) (i : ℕ) (old new : List Shape)
         within = made.within;
         node_is = λ c taken at. let inside = slice_get_within cells i c at in absurd (omega arith);
         join_is = λ k other taken place there.
-            let P : Join → Type 0 = λ j. form_at cells taken new number ≡ join_form (form_in cells taken old of) j in
+            let P : Combined → Type 0 = λ j. form_at cells taken new number ≡ combined_form (form_in cells taken old of) j in
             let number_is : i - length nodes ≡ k = omega arith in
-            let Q : ℕ → Type 0 = λ m. join ≡ get_or found.joins.items m join in
-            subst P (subst Q number_is is ∙ get_or_from_slice_get found.joins.items k other join there) (made.shows cells taken);
+            let Q : ℕ → Type 0 = λ m. join ≡ get_or found.combined.items m join in
+            subst P (subst Q number_is is ∙ get_or_from_slice_get found.combined.items k other join there) (made.shows cells taken);
         kept = λ others elements alike below are. made.kept others elements are;
       }
   join_made join (Err fault.NoMemory) behind within is made = tt
@@ -368,7 +368,7 @@ same_map at other (first ∷ more) same =
     ap (λ p. p ∷ map at more) (same first (in_first first more))
     ∙ ap (λ ps. other first ∷ ps) (same_map at other more (λ j within. same j (in_more first more j within)))
 
-pub same_join_form : (at other : ℕ → Form) (join : Join) → ((j : ℕ) → Contains join.bodies.items j → at j ≡ other j) → join_form at join ≡ join_form other join
+pub same_join_form : (at other : ℕ → Form) (join : Combined) → ((j : ℕ) → Contains join.bodies.items j → at j ≡ other j) → combined_form at join ≡ combined_form other join
 same_join_form at other join same = ap (bodies_form join.combine) (same_map at other join.bodies.items same)
 
 -- nothing stands in front of the first place
@@ -394,22 +394,22 @@ before_later order end later i less h = record { place = h.place; before = let b
 pub cell_leads_are : (cells : List Cell) (found : Resolved) (i : ℕ) (c : Cell) → IsCell cells i c → leads cells found i ≡ cell_leads (length cells) (link_at found i) c
 cell_leads_are cells found i c at = ap (leads_if cells found i) at
 
-pub join_leads_are : (cells : List Cell) (found : Resolved) (number : ℕ) (join : Join) → slice_get found.joins.items number ≡ Some join → leads cells found (length cells + number) ≡ join.bodies.items
+pub join_leads_are : (cells : List Cell) (found : Resolved) (number : ℕ) (join : Combined) → slice_get found.combined.items number ≡ Some join → leads cells found (length cells + number) ≡ join.bodies.items
 join_leads_are cells found number join there =
     let back : (length cells + number) - length cells ≡ number = omega arith in
     ap (leads_if cells found (length cells + number)) (slice_get_past cells (length cells + number) (omega arith))
-    ∙ ap (λ k. join_leads (slice_get found.joins.items k)) back
-    ∙ ap join_leads there
+    ∙ ap (λ k. combined_leads (slice_get found.combined.items k)) back
+    ∙ ap combined_leads there
 
 module _ (cells : List Cell) (found : Resolved) (order : List ℕ) (ordered : IsInOrder cells found order) where
-  -- a node's and a join's parts stand in front of it
+  -- the parts of a node and of combined definitions stand in front of it
   pub leads_before : (end i : ℕ) (all : List ℕ) → leads cells found i ≡ all → IsBefore order end i → (j : ℕ) → Contains all j → IsBefore order end j
   leads_before end i all are h j within =
       let P : List ℕ → Type 0 = λ some. Contains some j in
       let before = h.before in
       before_later order h.place end j (omega arith) (ordered.behind h.place i j h.there (subst P (sym are) within))
 
-  pub none_formed : (forms : Forms) → length forms.of.items ≡ length cells + length found.joins.items → forms.shapes ≡ [] → AreFormed cells found order 0 forms
+  pub none_formed : (forms : Forms) → length forms.of.items ≡ length cells + length found.combined.items → forms.shapes ≡ [] → AreFormed cells found order 0 forms
   none_formed forms all none = record {
     all = all;
     known = λ i h. absurd (none_before order i h);
@@ -450,7 +450,7 @@ module _ (cells : List Cell) (found : Resolved) (order : List ℕ) (ordered : Is
         ∙ ap (λ shapes. form_at cells taken shapes (slice_index old.of.items i)) placed.made.grows
         ∙ shows_still cells taken old.shapes placed.made.more (slice_index old.of.items i) (omega arith)
 
-    -- one more node or join has its form
+    -- one more node has its form, or combined definitions have theirs
     pub one_more_formed : AreFormed cells found order (end + 1) new
     one_more_formed = record {
       all = let all = formed.all in let same = ap length placed.set in let kept = length-set old.of.items here placed.number in omega arith;

@@ -13,12 +13,12 @@ use Rattle.rng_simplify.specs.declared.fault.SchemaFault.{SchemaFault}
 use Rattle.rng_simplify.specs.declared.fault.SchemaFault.TheVariants.{NoMemory, Unreadable}
 use Rattle.rng_simplify.specs.declared.names.Names.{Names}
 use Rattle.rng_simplify.specs.declared.node.Clause.{Clause}
-use Rattle.rng_simplify.specs.declared.resolve.Join.{Join}
+use Rattle.rng_simplify.specs.declared.resolve.Combined.{Combined}
 use Rattle.rng_simplify.specs.Broken.{clash}
 use Rattle.rng_simplify.specs.Composed.{same_defined}
 use Rattle.rng_simplify.specs.Keeping.{kept_for, KeepsOne}
 use Rattle.rng_simplify.specs.Resolving.{clauses_of, combines_of}
-use Rattle.rng_simplify.specs.Scoping.{HasSigns, AddsTo, IsJoinOf, IsGatheredAs, IsGathered, KeepsFirst, GathersOne, Gathers}
+use Rattle.rng_simplify.specs.Scoping.{HasSigns, AddsTo, IsCombinedOf, IsGatheredAs, IsGathered, KeepsFirst, GathersOne, Gathers}
 use Rattle.rng_simplify.proofs.Scopes.{stays_behind, last_there}
 use Rattle.rng_simplify.proofs.Signs.{clash_more}
 
@@ -67,60 +67,60 @@ not_nothing : (before : List Clause) (clause : Clause) → before ++ clause ∷ 
 not_nothing [] clause h = absurd cc
 not_nothing (c ∷ before) clause h = absurd cc
 
--- the join of a name's definitions with one more of them
-join_more : (name : Defined) (before : List Clause) (clause : Clause) (old new : Join) → same_defined name clause.name ≡ true → IsJoinOf (clauses_of name before) old → new.bodies.items ≡ old.bodies.items ++ clause.body ∷ [] → HasSigns (combines_of (clauses_of name before) ++ clause.combine ∷ []) new → IsJoinOf (clauses_of name (before ++ clause ∷ [])) new
+-- the combined definitions of a name with one more of them
+join_more : (name : Defined) (before : List Clause) (clause : Clause) (old new : Combined) → same_defined name clause.name ≡ true → IsCombinedOf (clauses_of name before) old → new.bodies.items ≡ old.bodies.items ++ clause.body ∷ [] → HasSigns (combines_of (clauses_of name before) ++ clause.combine ∷ []) new → IsCombinedOf (clauses_of name (before ++ clause ∷ [])) new
 join_more name before clause old new is h bodies signs =
-    subst (λ (cs : List Clause). IsJoinOf cs new) (sym (clauses_more name before clause is)) (record {
+    subst (λ (cs : List Clause). IsCombinedOf cs new) (sym (clauses_more name before clause is)) (record {
       some = not_nothing (clauses_of name before) clause;
       bodies_are = bodies ∙ ap (λ bs. bs ++ clause.body ∷ []) h.bodies_are ∙ sym (map-append (λ (c : Clause). c.body) (clauses_of name before) (clause ∷ []));
       signs = subst (λ (cs : List Combine). HasSigns cs new) (sym (map-append (λ (c : Clause). c.combine) (clauses_of name before) (clause ∷ []))) signs;
     })
 
-new_number : (names new : Names ℕ) (joins : List Join) (clause : Clause) → KeepsOne names clause.name (length joins) new → (other : Defined) (b : Bool) → same_defined other clause.name ≡ b → kept_for new other ≡ cond b (Some (length joins)) (kept_for names other)
-new_number names new joins clause keeps other b is = keeps other ∙ ap (λ t. cond t (Some (length joins)) (kept_for names other)) is
+new_number : (names new : Names ℕ) (combined : List Combined) (clause : Clause) → KeepsOne names clause.name (length combined) new → (other : Defined) (b : Bool) → same_defined other clause.name ≡ b → kept_for new other ≡ cond b (Some (length combined)) (kept_for names other)
+new_number names new combined clause keeps other b is = keeps other ∙ ap (λ t. cond t (Some (length combined)) (kept_for names other)) is
 
-still : (first : ℕ) (before : List Clause) (joins : List Join) (other : Defined) (clause : Clause) (new : Join) (kept : Option ℕ) → clauses_of other (before ++ clause ∷ []) ≡ clauses_of other before → IsGatheredAs first before joins other kept → IsGatheredAs first (before ++ clause ∷ []) (joins ++ new ∷ []) other kept
-still first before joins other clause new None same none = same ∙ none
-still first before joins other clause new (Some at) same there = (there.0, there.1, stays_behind joins (new ∷ []) at there.0 there.2, subst (λ (cs : List Clause). IsJoinOf cs there.0) (sym same) there.3)
+still : (first : ℕ) (before : List Clause) (combined : List Combined) (other : Defined) (clause : Clause) (new : Combined) (kept : Option ℕ) → clauses_of other (before ++ clause ∷ []) ≡ clauses_of other before → IsGatheredAs first before combined other kept → IsGatheredAs first (before ++ clause ∷ []) (combined ++ new ∷ []) other kept
+still first before combined other clause new None same none = same ∙ none
+still first before combined other clause new (Some at) same there = (there.0, there.1, stays_behind combined (new ∷ []) at there.0 there.2, subst (λ (cs : List Clause). IsCombinedOf cs there.0) (sym same) there.3)
 
-first_join : (before : List Clause) (name : Defined) (clause : Clause) (new : Join) → same_defined name clause.name ≡ true → clauses_of name before ≡ [] → new.bodies.items ≡ clause.body ∷ [] → HasSigns (clause.combine ∷ []) new → IsJoinOf (clauses_of name (before ++ clause ∷ [])) new
+first_join : (before : List Clause) (name : Defined) (clause : Clause) (new : Combined) → same_defined name clause.name ≡ true → clauses_of name before ≡ [] → new.bodies.items ≡ clause.body ∷ [] → HasSigns (clause.combine ∷ []) new → IsCombinedOf (clauses_of name (before ++ clause ∷ [])) new
 first_join before name clause new is none bodies signs =
     let one : clause ∷ [] ≡ clauses_of name (before ++ clause ∷ []) = sym (clauses_more name before clause is ∙ ap (λ (cs : List Clause). cs ++ clause ∷ []) none) in
-    subst (λ (cs : List Clause). IsJoinOf cs new) one (record { some = λ h. absurd cc; bodies_are = bodies; signs = signs })
+    subst (λ (cs : List Clause). IsCombinedOf cs new) one (record { some = λ h. absurd cc; bodies_are = bodies; signs = signs })
 
 -- ---- one more definition of a name that is there
 
-module _ {first : ℕ} {before : List Clause} {names : Names ℕ} {joins : List Join} where
-  -- its join
-  pub join_there : (name : Defined) (number : ℕ) → IsGathered first before names joins → kept_for names name ≡ Some number → IsGatheredAs first before joins name (Some number)
-  join_there name number h kept = subst (λ (k : Option ℕ). IsGatheredAs first before joins name k) kept (h.gathered name)
+module _ {first : ℕ} {before : List Clause} {names : Names ℕ} {combined : List Combined} where
+  -- its combined definitions
+  pub join_there : (name : Defined) (number : ℕ) → IsGathered first before names combined → kept_for names name ≡ Some number → IsGatheredAs first before combined name (Some number)
+  join_there name number h kept = subst (λ (k : Option ℕ). IsGatheredAs first before combined name k) kept (h.gathered name)
 
-  pub number_within : (name : Defined) (number : ℕ) → IsGathered first before names joins → kept_for names name ≡ Some number → number < length joins
+  pub number_within : (name : Defined) (number : ℕ) → IsGathered first before names combined → kept_for names name ≡ Some number → number < length combined
   number_within name number h kept =
       let there = join_there name number h kept in
-      slice_get_within joins number there.0 there.2
+      slice_get_within combined number there.0 there.2
 
   -- no other name has it
-  elsewhere : (name other : Defined) (number : ℕ) (clause : Clause) (new : Join) → same_defined other name ≡ false → IsGathered first before names joins → kept_for names name ≡ Some number → (kept : Option ℕ) → kept_for names other ≡ kept → clauses_of other (before ++ clause ∷ []) ≡ clauses_of other before → IsGatheredAs first before joins other kept → IsGatheredAs first (before ++ clause ∷ []) (set joins number new) other kept
+  elsewhere : (name other : Defined) (number : ℕ) (clause : Clause) (new : Combined) → same_defined other name ≡ false → IsGathered first before names combined → kept_for names name ≡ Some number → (kept : Option ℕ) → kept_for names other ≡ kept → clauses_of other (before ++ clause ∷ []) ≡ clauses_of other before → IsGatheredAs first before combined other kept → IsGatheredAs first (before ++ clause ∷ []) (set combined number new) other kept
   elsewhere name other number clause new apart h kept None is same none = same ∙ none
   elsewhere name other number clause new apart h kept (Some at) is same there =
       let differs : at ≢ number = λ e. other_name other name apart (h.apart other name number (is ∙ ap Some e) kept) in
-      (there.0, there.1, set_elsewhere joins number at new differs ∙ there.2, subst (λ (cs : List Clause). IsJoinOf cs there.0) (sym same) there.3)
+      (there.0, there.1, set_elsewhere combined number at new differs ∙ there.2, subst (λ (cs : List Clause). IsCombinedOf cs there.0) (sym same) there.3)
 
-  pub one_added : (number : ℕ) (clause : Clause) (old new : Join) → IsGathered first before names joins → kept_for names clause.name ≡ Some number → slice_get joins number ≡ Some old → new.bodies.items ≡ old.bodies.items ++ clause.body ∷ [] → ((combines : List Combine) → HasSigns combines old → HasSigns (combines ++ clause.combine ∷ []) new) → IsGathered first (before ++ clause ∷ []) names (set joins number new)
+  pub one_added : (number : ℕ) (clause : Clause) (old new : Combined) → IsGathered first before names combined → kept_for names clause.name ≡ Some number → slice_get combined number ≡ Some old → new.bodies.items ≡ old.bodies.items ++ clause.body ∷ [] → ((combines : List Combine) → HasSigns combines old → HasSigns (combines ++ clause.combine ∷ []) new) → IsGathered first (before ++ clause ∷ []) names (set combined number new)
   one_added number clause old new h kept at bodies signs =
       let there = join_there clause.name number h kept in
       let is_old : there.0 ≡ old = same_Some there.0 old (sym there.2 ∙ at) in
-      let is_join : IsJoinOf (clauses_of clause.name before) old = subst (λ (j : Join). IsJoinOf (clauses_of clause.name before) j) is_old there.3 in
-      let same_length : length (set joins number new) ≡ length joins = length-set joins number new in
+      let is_join : IsCombinedOf (clauses_of clause.name before) old = subst (λ (j : Combined). IsCombinedOf (clauses_of clause.name before) j) is_old there.3 in
+      let same_length : length (set combined number new) ≡ length combined = length-set combined number new in
       record {
         behind = omega (arith, h.behind, same_length);
         gathered = λ other. elim (tested (same_defined other clause.name)) [
-          | inl is ↦ subst (λ (k : Option ℕ). IsGatheredAs first (before ++ clause ∷ []) (set joins number new) other k) (sym (ap (kept_for names) (same_name other clause.name is) ∙ kept)) (
+          | inl is ↦ subst (λ (k : Option ℕ). IsGatheredAs first (before ++ clause ∷ []) (set combined number new) other k) (sym (ap (kept_for names) (same_name other clause.name is) ∙ kept)) (
             new,
             there.1,
-            set_there joins number new (slice_get_within joins number old at),
-            join_more other before clause old new is (subst (λ (n : Defined). IsJoinOf (clauses_of n before) old) (sym (same_name other clause.name is)) is_join) bodies (signs (combines_of (clauses_of other before)) (subst (λ (n : Defined). HasSigns (combines_of (clauses_of n before)) old) (sym (same_name other clause.name is)) is_join.signs)),
+            set_there combined number new (slice_get_within combined number old at),
+            join_more other before clause old new is (subst (λ (n : Defined). IsCombinedOf (clauses_of n before) old) (sym (same_name other clause.name is)) is_join) bodies (signs (combines_of (clauses_of other before)) (subst (λ (n : Defined). HasSigns (combines_of (clauses_of n before)) old) (sym (same_name other clause.name is)) is_join.signs)),
           )
           | inr is ↦ elsewhere clause.name other number clause new is h kept (kept_for names other) refl (clauses_same other before clause is) (h.gathered other)
         ];
@@ -130,31 +130,31 @@ module _ {first : ℕ} {before : List Clause} {names : Names ℕ} {joins : List 
 
   -- ---- a first definition of a name
 
-  nothing_yet : (name : Defined) → IsGathered first before names joins → kept_for names name ≡ None → clauses_of name before ≡ []
-  nothing_yet name h kept = subst (λ (k : Option ℕ). IsGatheredAs first before joins name k) kept (h.gathered name)
+  nothing_yet : (name : Defined) → IsGathered first before names combined → kept_for names name ≡ None → clauses_of name before ≡ []
+  nothing_yet name h kept = subst (λ (k : Option ℕ). IsGatheredAs first before combined name k) kept (h.gathered name)
 
-  old_or_new : (new : Names ℕ) (clause : Clause) → IsGathered first before names joins → KeepsOne names clause.name (length joins) new → (name : Defined) (number : ℕ) → kept_for new name ≡ Some number → ((name ≡ clause.name) × (number ≡ length joins)) ⊎ ((kept_for names name ≡ Some number) × (number < length joins))
+  old_or_new : (new : Names ℕ) (clause : Clause) → IsGathered first before names combined → KeepsOne names clause.name (length combined) new → (name : Defined) (number : ℕ) → kept_for new name ≡ Some number → ((name ≡ clause.name) × (number ≡ length combined)) ⊎ ((kept_for names name ≡ Some number) × (number < length combined))
   old_or_new new clause h keeps name number kept =
       elim (tested (same_defined name clause.name)) [
-        | inl is ↦ inl (same_name name clause.name is, same_Some number (length joins) (sym kept ∙ new_number names new joins clause keeps name true is))
+        | inl is ↦ inl (same_name name clause.name is, same_Some number (length combined) (sym kept ∙ new_number names new combined clause keeps name true is))
         | inr is ↦
-            let before_is : kept_for names name ≡ Some number = sym (new_number names new joins clause keeps name false is) ∙ kept in
+            let before_is : kept_for names name ≡ Some number = sym (new_number names new combined clause keeps name false is) ∙ kept in
             inr (before_is, number_within name number h before_is)
       ]
 
-  pub one_begun : {after : Names ℕ} (clause : Clause) (new : Join) → IsGathered first before names joins → kept_for names clause.name ≡ None → KeepsOne names clause.name (length joins) after → new.bodies.items ≡ clause.body ∷ [] → HasSigns (clause.combine ∷ []) new → IsGathered first (before ++ clause ∷ []) after (joins ++ new ∷ [])
+  pub one_begun : {after : Names ℕ} (clause : Clause) (new : Combined) → IsGathered first before names combined → kept_for names clause.name ≡ None → KeepsOne names clause.name (length combined) after → new.bodies.items ≡ clause.body ∷ [] → HasSigns (clause.combine ∷ []) new → IsGathered first (before ++ clause ∷ []) after (combined ++ new ∷ [])
   one_begun {after = after} clause new h none keeps bodies signs =
-      let longer : length (joins ++ new ∷ []) ≡ length joins + 1 = length_push joins new in
+      let longer : length (combined ++ new ∷ []) ≡ length combined + 1 = length_push combined new in
       record {
         behind = omega (arith, h.behind, longer);
         gathered = λ other. elim (tested (same_defined other clause.name)) [
-          | inl is ↦ subst (λ (k : Option ℕ). IsGatheredAs first (before ++ clause ∷ []) (joins ++ new ∷ []) other k) (sym (new_number names after joins clause keeps other true is)) (
+          | inl is ↦ subst (λ (k : Option ℕ). IsGatheredAs first (before ++ clause ∷ []) (combined ++ new ∷ []) other k) (sym (new_number names after combined clause keeps other true is)) (
             new,
             h.behind,
-            last_there joins new,
+            last_there combined new,
             first_join before other clause new is (nothing_yet other h (ap (kept_for names) (same_name other clause.name is) ∙ none)) bodies signs,
           )
-          | inr is ↦ subst (λ (k : Option ℕ). IsGatheredAs first (before ++ clause ∷ []) (joins ++ new ∷ []) other k) (sym (new_number names after joins clause keeps other false is)) (still first before joins other clause new (kept_for names other) (clauses_same other before clause is) (h.gathered other))
+          | inr is ↦ subst (λ (k : Option ℕ). IsGatheredAs first (before ++ clause ∷ []) (combined ++ new ∷ []) other k) (sym (new_number names after combined clause keeps other false is)) (still first before combined other clause new (kept_for names other) (clauses_same other before clause is) (h.gathered other))
         ];
         apart = λ name other number kept again. elim (old_or_new after clause h keeps name number kept) [
           | inl a ↦ elim (old_or_new after clause h keeps other number again) [
@@ -166,62 +166,62 @@ module _ {first : ℕ} {before : List Clause} {names : Names ℕ} {joins : List 
             | inr b ↦ h.apart name other number a.0 b.0
           ]
         ];
-        each = λ number le lt. elim (cases_lt number (length joins)) [
+        each = λ number le lt. elim (cases_lt number (length combined)) [
           | inl before_it ↦
               let named = h.each number le before_it in (
                 named.0,
                 elim (tested (same_defined named.0 clause.name)) [
                   | inl is ↦ absurd (none-some number (sym none ∙ sym (ap (kept_for names) (same_name named.0 clause.name is)) ∙ named.1))
-                  | inr is ↦ new_number names after joins clause keeps named.0 false is ∙ named.1
+                  | inr is ↦ new_number names after combined clause keeps named.0 false is ∙ named.1
                 ],
               )
-          | inr it ↦ (clause.name, new_number names after joins clause keeps clause.name true (same_self clause.name) ∙ ap Some (omega (arith, lt, longer, it)))
+          | inr it ↦ (clause.name, new_number names after combined clause keeps clause.name true (same_self clause.name) ∙ ap Some (omega (arith, lt, longer, it)))
         ];
       }
 
   -- ---- a definition that clashes with others of its name
 
-  pub clashing : (number : ℕ) (clause : Clause) (old : Join) → IsGathered first before names joins → kept_for names clause.name ≡ Some number → slice_get joins number ≡ Some old → ((combines : List Combine) → HasSigns combines old → clash (combines ++ clause.combine ∷ []) ≡ true) → clash (combines_of (clauses_of clause.name (before ++ clause ∷ []))) ≡ true
+  pub clashing : (number : ℕ) (clause : Clause) (old : Combined) → IsGathered first before names combined → kept_for names clause.name ≡ Some number → slice_get combined number ≡ Some old → ((combines : List Combine) → HasSigns combines old → clash (combines ++ clause.combine ∷ []) ≡ true) → clash (combines_of (clauses_of clause.name (before ++ clause ∷ []))) ≡ true
   clashing number clause old h kept at clashes =
       let there = join_there clause.name number h kept in
-      let signs : HasSigns (combines_of (clauses_of clause.name before)) old = subst (λ (j : Join). HasSigns (combines_of (clauses_of clause.name before)) j) (same_Some there.0 old (sym there.2 ∙ at)) there.3.signs in
+      let signs : HasSigns (combines_of (clauses_of clause.name before)) old = subst (λ (j : Combined). HasSigns (combines_of (clauses_of clause.name before)) j) (same_Some there.0 old (sym there.2 ∙ at)) there.3.signs in
       ap (λ (cs : List Clause). clash (combines_of cs)) (clauses_more clause.name before clause (same_self clause.name))
       ∙ ap clash (map-append (λ (c : Clause). c.combine) (clauses_of clause.name before) (clause ∷ []))
       ∙ clashes (combines_of (clauses_of clause.name before)) signs
 
 -- ---- one more definition, by the answer
 
-pub gathers_added : {A : Type 0} {first : ℕ} {before : List Clause} {names : Names ℕ} {joins : List Join} (number : ℕ) (clause : Clause) (old new : Join) → IsGathered first before names joins → kept_for names clause.name ≡ Some number → slice_get joins number ≡ Some old → (result : Result A SchemaFault) → AddsTo clause.combine clause.body old new result → GathersOne first before clause joins names (set joins number new) result
-gathers_added {joins = joins} number clause old new h kept at (Ok done) added =
+pub gathers_added : {A : Type 0} {first : ℕ} {before : List Clause} {names : Names ℕ} {combined : List Combined} (number : ℕ) (clause : Clause) (old new : Combined) → IsGathered first before names combined → kept_for names clause.name ≡ Some number → slice_get combined number ≡ Some old → (result : Result A SchemaFault) → AddsTo clause.combine clause.body old new result → GathersOne first before clause combined names (set combined number new) result
+gathers_added {combined = combined} number clause old new h kept at (Ok done) added =
     let behind = (join_there clause.name number h kept).1 in
-    (one_added number clause old new h kept at added.0 added.1, λ n lt. set_elsewhere joins number n new (omega (arith, behind, lt)))
+    (one_added number clause old new h kept at added.0 added.1, λ n lt. set_elsewhere combined number n new (omega (arith, behind, lt)))
 gathers_added number clause old new h kept at (Err NoMemory) added = tt
 gathers_added number clause old new h kept at (Err (Unreadable cause.CombineClash)) added = clashing number clause old h kept at added
 gathers_added number clause old new h kept at (Err other) added = absurd added
 
-pub gathers_begun : {first : ℕ} {before : List Clause} {names : Names ℕ} {joins : List Join} (after : Names ℕ) (all : List Join) (clause : Clause) (new : Join) → IsGathered first before names joins → kept_for names clause.name ≡ None → KeepsOne names clause.name (length joins) after → new.bodies.items ≡ clause.body ∷ [] → HasSigns (clause.combine ∷ []) new → all ≡ joins ++ new ∷ [] → IsGathered first (before ++ clause ∷ []) after all × KeepsFirst first joins all
-gathers_begun {first = first} {before = before} {joins = joins} after all clause new h none keeps bodies signs is = (
-  subst (λ (js : List Join). IsGathered first (before ++ clause ∷ []) after js) (sym is) (one_begun clause new h none keeps bodies signs),
-  λ n lt. ap (λ (js : List Join). slice_get js n) is ∙ before_more joins (new ∷ []) n (omega (arith, lt, h.behind)),
+pub gathers_begun : {first : ℕ} {before : List Clause} {names : Names ℕ} {combined : List Combined} (after : Names ℕ) (all : List Combined) (clause : Clause) (new : Combined) → IsGathered first before names combined → kept_for names clause.name ≡ None → KeepsOne names clause.name (length combined) after → new.bodies.items ≡ clause.body ∷ [] → HasSigns (clause.combine ∷ []) new → all ≡ combined ++ new ∷ [] → IsGathered first (before ++ clause ∷ []) after all × KeepsFirst first combined all
+gathers_begun {first = first} {before = before} {combined = combined} after all clause new h none keeps bodies signs is = (
+  subst (λ (js : List Combined). IsGathered first (before ++ clause ∷ []) after js) (sym is) (one_begun clause new h none keeps bodies signs),
+  λ n lt. ap (λ (js : List Combined). slice_get js n) is ∙ before_more combined (new ∷ []) n (omega (arith, lt, h.behind)),
 )
   where
-    before_more : (old more : List Join) (n : ℕ) → n < length old → slice_get (old ++ more) n ≡ slice_get old n
+    before_more : (old more : List Combined) (n : ℕ) → n < length old → slice_get (old ++ more) n ≡ slice_get old n
     before_more [] more n lt = absurd (omega arith)
     before_more (x ∷ old) more zero lt = refl
     before_more (x ∷ old) more (suc n) lt = before_more old more n (omega arith)
 
 -- ---- all definitions
 
-pub gathers_failed : (first : ℕ) (names : Names ℕ) (old mid joins : List Join) (before : List Clause) (clause : Clause) (after clauses : List Clause) (fault : SchemaFault) → clauses ≡ (before ++ clause ∷ []) ++ after → GathersOne {A = Unit {0}} first before clause mid names joins (Err fault) → Gathers clauses old joins (Err fault)
-gathers_failed first names old mid joins before clause after clauses NoMemory is h = tt
-gathers_failed first names old mid joins before clause after clauses (Unreadable cause.CombineClash) is h = (
+pub gathers_failed : (first : ℕ) (names : Names ℕ) (old mid combined : List Combined) (before : List Clause) (clause : Clause) (after clauses : List Clause) (fault : SchemaFault) → clauses ≡ (before ++ clause ∷ []) ++ after → GathersOne {A = Unit {0}} first before clause mid names combined (Err fault) → Gathers clauses old combined (Err fault)
+gathers_failed first names old mid combined before clause after clauses NoMemory is h = tt
+gathers_failed first names old mid combined before clause after clauses (Unreadable cause.CombineClash) is h = (
   clause.name,
   ap (λ (cs : List Clause). clash (combines_of (clauses_of clause.name cs))) is
       ∙ ap (λ (cs : List Clause). clash (combines_of cs)) (filter-append (λ (c : Clause). same_defined clause.name c.name) (before ++ clause ∷ []) after)
       ∙ ap clash (map-append (λ (c : Clause). c.combine) (clauses_of clause.name (before ++ clause ∷ [])) (clauses_of clause.name after))
       ∙ clash_more (combines_of (clauses_of clause.name (before ++ clause ∷ []))) (combines_of (clauses_of clause.name after)) h,
 )
-gathers_failed first names old mid joins before clause after clauses fault is h = absurd h
+gathers_failed first names old mid combined before clause after clauses fault is h = absurd h
 
 pub up_to_it : (clauses : List Clause) (k : ℕ) (clause : Clause) → k < length clauses → clause ≡ get_or clauses k clause → take (k + 1) clauses ≡ take k clauses ++ clause ∷ []
 up_to_it clauses k clause lt is = take_more clauses k clause lt ∙ ap (λ (c : Clause). take k clauses ++ c ∷ []) (sym is)

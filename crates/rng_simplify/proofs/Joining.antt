@@ -6,19 +6,22 @@ use Rattle.rnc_parse.specs.declared.surface.Pattern.{Pattern}
 use Rattle.rnc_parse.specs.declared.surface.Pattern as pattern
 use Rattle.nx_base.specs.declared.memory.NoMemory.{NoMemory}
 use Rattle.rnc_parse.specs.declared.surface.FileReference.{FileReference}
-use Rattle.rnc_parse.specs.Written.{WrittenPattern, WrittenItems, WrittenReplacements, a_pattern, a_grammar, joined, joined_or}
+use Rattle.rnc_parse.specs.Written.{WrittenPattern, WrittenReplacements, a_pattern, joined, joined_or}
 use Rattle.rnc_parse.specs.Written as written
 use Rattle.rnc_parse.specs.Views.{pattern_of, patterns_of, patterns_behind}
+use Rattle.rng_simplify.specs.declared.compose.Piece.{Piece}
 use Rattle.rng_simplify.specs.declared.node.Sign.{Sign}
 use Rattle.rng_simplify.specs.declared.node.Sign.TheVariants as sign
+use Rattle.rng_simplify.specs.declared.stop.Stop.{Stop}
+use Rattle.rng_simplify.specs.declared.stop.Stop.TheVariants as stops
 use Rattle.rng_simplify.specs.Composing.{grammar_items}
-use Rattle.rng_simplify.specs.Making.{Making, make_file, lone_made}
+use Rattle.rng_simplify.specs.Making.{Making, Outcome, made, ◌>>=◌, Makes, FilePiece, of_pattern, piece_of, make, make_next, make_behind, make_row, make_file, lone_made}
 use Rattle.rng_simplify.specs.declared.mention.Mention.{Mention as Kept}
 use Rattle.rng_simplify.specs.Classes.{namespace_in}
 use Rattle.rng_simplify.specs.Mentioning.{kept_of_all, mentions_of_each}
 use Rattle.rng_simplify.specs.References.{mentions, mentions_of_item, mentions_anew}
 use Rattle.rng_simplify.specs.Rows.{join_by, none_by, row_of}
-use Rattle.rng_simplify.proofs.Rows.{row_in}
+use Rattle.rng_simplify.proofs.Rows.{row_in, then_again, then_nothing, joined_made, none_joined_made}
 
 behind_is : (join : WrittenPattern → WrittenPattern → WrittenPattern) (n : _) (before : WrittenPattern) (row : pattern.Row_of-Pattern n) →
     patterns_behind join before row ≡ joined join before (map pattern_of (pattern.items-the_row-Pattern n row))
@@ -63,18 +66,12 @@ none_is_none sign.Choice = refl
 none_is_none sign.Group = refl
 none_is_none sign.Interleave = refl
 
--- no patterns are no grammar
-pub nothing_is_none : (by : Sign) (patterns : List Pattern) → length patterns ≡ 0 → grammar_items (a_pattern (row_of by patterns)) ≡ None
-nothing_is_none by [] none = none_is_none by
-nothing_is_none by (first ∷ more) none = absurd (omega (arith, none))
-
--- nor are two or more
-pub row_is_none : (by : Sign) (first : Pattern) (others patterns : List Pattern) → patterns ≡ first ∷ others → length others ≢ 0 →
-    grammar_items (a_pattern (row_of by patterns)) ≡ None
-row_is_none by first [] patterns all other = absurd (other refl)
-row_is_none by first (next ∷ more) patterns all other =
-    ap (λ ps. grammar_items (a_pattern (row_of by ps))) all
-    ∙ joined_is_none by (join_by by (pattern_of first) (pattern_of next)) (map pattern_of more)
+-- a row is none, unless it is one pattern
+row_is_none : (by : Sign) (patterns : List Pattern) → length patterns ≢ 1 → grammar_items (a_pattern (row_of by patterns)) ≡ None
+row_is_none by [] other = none_is_none by
+row_is_none by (first ∷ []) other = absurd (other refl)
+row_is_none by (first ∷ next ∷ more) other =
+    joined_is_none by (join_by by (pattern_of first) (pattern_of next)) (map pattern_of more)
     (join_is_none by (pattern_of first) (pattern_of next))
 
 -- a file of a pattern that is no grammar alone
@@ -83,11 +80,33 @@ pub lone_is : (ns : List ℕ) (p : WrittenPattern) (now : Making) → grammar_it
 lone_is ns (written.grammar items) now h = let never : ⊥ = cc in absurd never
 lone_is ns p now h = refl
 
--- and of one that is
-pub grammar_is : (ns : List ℕ) (p : WrittenPattern) (items : WrittenItems) (now : Making) → grammar_items (a_pattern p) ≡ Some items →
-    make_file ns (a_pattern p) now ≡ make_file ns (a_grammar items) now
-grammar_is ns (written.grammar its) items now h = ap (λ x. make_file ns (a_grammar x) now) (let same : its ≡ items = cc in same)
-grammar_is ns p items now h = let never : ⊥ = cc in absurd never
+-- patterns behind one are made behind it
+behind_made : (ns : List ℕ) (by : Sign) (before : WrittenPattern) (more : List Pattern) (now : Making) →
+    make ns (joined (join_by by) before (map pattern_of more)) now ≡ (make ns before now >>= λ i. make_behind ns by i more)
+behind_made ns by before [] now = sym (then_nothing (make ns before now))
+behind_made ns by before (next ∷ more) now =
+    behind_made ns by (join_by by before (pattern_of next)) more now
+    ∙ ap (λ outcome. outcome >>= λ i. make_behind ns by i more) (joined_made ns by before (pattern_of next) now)
+    ∙ then_again (make ns before now) (λ i. make_next ns by (Some i) next) (λ i. make_behind ns by i more)
+
+row_made : (ns : List ℕ) (by : Sign) (patterns : List Pattern) (now : Making) → make ns (row_of by patterns) now ≡ make_row ns by patterns now
+row_made ns by [] now = none_joined_made ns by now
+row_made ns by (first ∷ more) now = behind_made ns by (pattern_of first) more now
+
+-- a file of a row of none, or of two or more
+pub row_file_is : (ns : List ℕ) (by : Sign) (patterns : List Pattern) (now : Making) → length patterns ≢ 1 →
+    make_file ns (a_pattern (row_of by patterns)) now ≡ (make_row ns by patterns now >>= λ root. made (of_pattern root))
+row_file_is ns by patterns now other =
+    lone_is ns (row_of by patterns) now (row_is_none by patterns other)
+    ∙ ap (λ outcome. outcome >>= λ root. made (of_pattern root)) (row_made ns by patterns now)
+
+-- where nothing is made of the row, nothing is made of the file
+pub row_refused : (after : Making) (outcome : Outcome ℕ) (file : Outcome FilePiece) (stop : Stop) →
+    file ≡ (outcome >>= λ root. made (of_pattern root)) → Makes {A = ℕ} after (λ i. i) outcome (Err stop) →
+    Makes {A = Piece} after piece_of file (Err stop)
+row_refused after outcome file (stops.Unreadable why) is h = is ∙ ap (λ o. o >>= λ root. made (of_pattern root)) h
+row_refused after outcome file stops.NoPiece is h = is ∙ ap (λ o. o >>= λ root. made (of_pattern root)) h
+row_refused after outcome file stops.NoMemory is h = tt
 
 -- ---- what is mentioned
 

@@ -43,6 +43,7 @@ pub mod RefusedTypes
 pub mod OneForm
 pub mod Grammars
 pub mod Answered
+pub mod Stages
 pub mod OneType
 pub mod OneComposed
 pub mod Passed

@@ -1,4 +1,4 @@
--- What nodes and joins lead to, and patterns that lead back to themselves.
+-- What nodes and combined definitions lead to, and patterns that lead back to themselves.
 use Rattle.std.proofs.Common.{◌≡◌, refl, sym, ap, ◌∙◌, subst, ℕ, zero, suc, ◌+◌, ◌-◌, ◌<◌, inl, inr, ◌⊎◌, Bool, true, false, cond, List, [], ◌∷◌, length, get_or, slice_get, Option, Some, None, Contains, arith}
 use Rattle.std.proofs.lemmas.Option.{same_Some, slice_get_within, slice_get-get_or, slice_get_past}
 use Rattle.std.proofs.lemmas.Bool.{false≢true}
@@ -7,7 +7,7 @@ use Rattle.rnc_parse.specs.declared.surface.Defined.{Defined}
 use Rattle.rnc_parse.specs.declared.surface.Defined.TheVariants as defined
 use Rattle.rng_simplify.specs.declared.fault.SchemaFault.TheVariants.{Unreadable}
 use Rattle.rng_simplify.specs.declared.node.Clause.{Clause}
-use Rattle.rng_simplify.specs.declared.resolve.Join.{Join}
+use Rattle.rng_simplify.specs.declared.resolve.Combined.{Combined}
 use Rattle.rng_simplify.specs.declared.resolve.Resolved.{Resolved}
 use Rattle.rng_simplify.specs.Breaking.{IsRefusal}
 use Rattle.rng_simplify.specs.Broken.{Has, LeadsBack}
@@ -19,7 +19,7 @@ use Rattle.rng_simplify.specs.Denoting.{IsCell, Denotes, DenoteAll, none_denoted
 use Rattle.rng_simplify.specs.Places.{Place, place, LeadsTo, to_part, to_definition, to_outer_definition, to_start, LeadsOn, in_one_step, in_more_steps}
 use Rattle.rng_simplify.specs.Standing.{cell_parts, bodies_of, AreWellFormed, Stands, a_part, a_definition, IsStanding, AreScopes}
 use Rattle.rng_simplify.specs.Standing as standing
-use Rattle.rng_simplify.specs.Resolving.{clauses_of, IsJoined, IsJoinedIn, IsJoinedOutside, IsResolved, link_at, cell_leads, join_leads, leads_if, leads}
+use Rattle.rng_simplify.specs.Resolving.{clauses_of, IsCombined, IsCombinedIn, IsCombinedOutside, IsResolved, link_at, cell_leads, combined_leads, leads_if, leads}
 use Rattle.rng_simplify.specs.Walking.{IsMet, is_linked}
 use Rattle.rng_simplify.proofs.Nodes.{in_none, in_first, in_more, in_cases, in_one, PartIs, part_denoted, denoted_by, place_of}
 use Rattle.rng_simplify.proofs.Posts.{stands_within, innermost_stands, scopes_by, one_grammar, IsAt, at_once}
@@ -56,12 +56,12 @@ named_denoted name j (next_denoted {clause = clause} {more = more} {p = p} {rest
     named_if (same_defined name clause.name) name clause more p rest j body (named_denoted name j others) among
 
 -- what is within a list is there
-slice_get_there : (joins : List Join) (n : ℕ) → n < length joins → (join : Join) × (slice_get joins n ≡ Some join)
+slice_get_there : (combined : List Combined) (n : ℕ) → n < length combined → (join : Combined) × (slice_get combined n ≡ Some join)
 slice_get_there [] n lt = absurd (omega arith)
-slice_get_there (join ∷ joins) zero lt = (join, refl)
-slice_get_there (join ∷ joins) (suc n) lt = slice_get_there joins n (omega arith)
+slice_get_there (join ∷ combined) zero lt = (join, refl)
+slice_get_there (join ∷ combined) (suc n) lt = slice_get_there combined n (omega arith)
 
--- what is linked leads to its join alone, all else to its parts
+-- what is linked leads to its combined definitions alone, all else to its parts
 pub linked_leads : (count link : ℕ) (c : Cell) → is_linked c ≡ true → cell_leads count link c ≡ (count + link) ∷ []
 linked_leads count link (cell.ref name) is = refl
 linked_leads count link (cell.parent_ref name) is = refl
@@ -86,18 +86,18 @@ unlinked_leads count link (cell.joined sign first second) is = refl
 -- ---- what is led to
 
 module _ (cells : List Cell) (root : ℕ) (found : Resolved) where
-  -- a part, the join of a reference or a grammar, a body of a join
+  -- a part, the combined definitions of a reference or a grammar, a body of these
   pub data Lead : ℕ → ℕ → Type 0 where
     by_part : {x i : ℕ} {outers : List ℕ} {c : Cell} → Stands cells root outers x → IsCell cells x c → Contains (cell_parts c) i → Lead x i
     by_link : {x : ℕ} {outers : List ℕ} (c : Cell) → Stands cells root outers x → IsCell cells x c → is_linked c ≡ true → Lead x (length cells + link_at found x)
-    by_body : {i : ℕ} (number : ℕ) (join : Join) → slice_get found.joins.items number ≡ Some join → Contains join.bodies.items i → Lead (length cells + number) i
+    by_body : {i : ℕ} (number : ℕ) (join : Combined) → slice_get found.combined.items number ≡ Some join → Contains join.bodies.items i → Lead (length cells + number) i
 
   cell_lead : {outers : List ℕ} {x : ℕ} (c : Cell) (b : Bool) (i : ℕ) → is_linked c ≡ b → Stands cells root outers x → IsCell cells x c → Contains (cell_leads (length cells) (link_at found x) c) i → Lead x i
   cell_lead {x = x} c true i is stands at among = subst (λ k. Lead x k) (in_one (length cells + link_at found x) i (subst (λ (all : List ℕ). Contains all i) (linked_leads (length cells) (link_at found x) c is) among)) (by_link c stands at is)
   cell_lead {x = x} c false i is stands at among = by_part stands at (subst (λ (all : List ℕ). Contains all i) (unlinked_leads (length cells) (link_at found x) c is) among)
 
-  -- what a join's number leads to
-  join_lead : (number i : ℕ) (join : Option Join) → slice_get found.joins.items number ≡ join → Contains (join_leads join) i → Lead (length cells + number) i
+  -- what the place of combined definitions leads to
+  join_lead : (number i : ℕ) (join : Option Combined) → slice_get found.combined.items number ≡ join → Contains (combined_leads join) i → Lead (length cells + number) i
   join_lead number i (Some join) at among = by_body number join at among
   join_lead number i None at among = absurd (in_none among)
 
@@ -109,37 +109,37 @@ module _ (cells : List Cell) (root : ℕ) (found : Resolved) where
   lead_of {x = x} {i = i} formed (inr (number, lt, is)) among =
       let past : slice_get cells x ≡ None = slice_get_past cells x (omega (arith, is)) in
       let there : x - length cells ≡ number = omega (arith, is) in
-      let joined : Contains (join_leads (slice_get found.joins.items (x - length cells))) i = subst (λ (found_cell : Option Cell). Contains (leads_if cells found x found_cell) i) past among in
-      subst (λ k. Lead k i) (sym is) (join_lead number i (slice_get found.joins.items number) refl (subst (λ n. Contains (join_leads (slice_get found.joins.items n)) i) there joined))
+      let joined : Contains (combined_leads (slice_get found.combined.items (x - length cells))) i = subst (λ (found_cell : Option Cell). Contains (leads_if cells found x found_cell) i) past among in
+      subst (λ k. Lead k i) (sym is) (join_lead number i (slice_get found.combined.items number) refl (subst (λ n. Contains (combined_leads (slice_get found.combined.items n)) i) there joined))
 
-  -- ---- the join of a link is there
+  -- ---- the combined definitions of a link are there
 
-  joined_within : (grammar : ℕ) (name : Defined) (number : ℕ) → IsJoined cells found.joins.items grammar name number → number < length found.joins.items
-  joined_within grammar name number h = slice_get_within found.joins.items number h.join h.there
+  joined_within : (grammar : ℕ) (name : Defined) (number : ℕ) → IsCombined cells found.combined.items grammar name number → number < length found.combined.items
+  joined_within grammar name number h = slice_get_within found.combined.items number h.join h.there
 
-  joined_in_within : (outers : List ℕ) (name : Defined) (number : ℕ) → IsJoinedIn cells found.joins.items outers name number → number < length found.joins.items
+  joined_in_within : (outers : List ℕ) (name : Defined) (number : ℕ) → IsCombinedIn cells found.combined.items outers name number → number < length found.combined.items
   joined_in_within [] name number h = absurd h
   joined_in_within (grammar ∷ outers) name number h = joined_within grammar name number h
 
-  joined_outside_within : (outers : List ℕ) (name : Defined) (number : ℕ) → IsJoinedOutside cells found.joins.items outers name number → number < length found.joins.items
+  joined_outside_within : (outers : List ℕ) (name : Defined) (number : ℕ) → IsCombinedOutside cells found.combined.items outers name number → number < length found.combined.items
   joined_outside_within [] name number h = absurd h
   joined_outside_within (inner ∷ outers) name number h = joined_in_within outers name number h
 
-  pub link_within : (outers : List ℕ) (x : ℕ) (c : Cell) → IsResolved cells root found → Stands cells root outers x → IsCell cells x c → is_linked c ≡ true → link_at found x < length found.joins.items
-  link_within outers x (cell.ref name) resolved stands at linked = joined_in_within outers (defined.Name name) (link_at found x) (resolved.ref_joined outers x name stands at)
-  link_within outers x (cell.parent_ref name) resolved stands at linked = joined_outside_within outers (defined.Name name) (link_at found x) (resolved.parent_ref_joined outers x name stands at)
-  link_within outers x (cell.grammar clauses) resolved stands at linked = joined_within x defined.Start (link_at found x) (resolved.start_joined x clauses (outers, stands) at)
+  pub link_within : (outers : List ℕ) (x : ℕ) (c : Cell) → IsResolved cells root found → Stands cells root outers x → IsCell cells x c → is_linked c ≡ true → link_at found x < length found.combined.items
+  link_within outers x (cell.ref name) resolved stands at linked = joined_in_within outers (defined.Name name) (link_at found x) (resolved.ref_combined outers x name stands at)
+  link_within outers x (cell.parent_ref name) resolved stands at linked = joined_outside_within outers (defined.Name name) (link_at found x) (resolved.parent_ref_combined outers x name stands at)
+  link_within outers x (cell.grammar clauses) resolved stands at linked = joined_within x defined.Start (link_at found x) (resolved.start_combined x clauses (outers, stands) at)
   link_within outers x c resolved stands at linked = absurd (false≢true linked)
 
-  -- the bodies of a join stand in its grammar
-  pub body_stands : (number i : ℕ) (join : Join) → IsResolved cells root found → slice_get found.joins.items number ≡ Some join → Contains join.bodies.items i → IsStanding cells root i
+  -- the bodies of combined definitions stand in their grammar
+  pub body_stands : (number i : ℕ) (join : Combined) → IsResolved cells root found → slice_get found.combined.items number ≡ Some join → Contains join.bodies.items i → IsStanding cells root i
   body_stands number i join resolved at among =
-      let h = resolved.each_join number (slice_get_within found.joins.items number join at) in
+      let h = resolved.each_combined number (slice_get_within found.combined.items number join at) in
       let same : join ≡ h.joined.join = same_Some join h.joined.join (sym at ∙ h.joined.there) in
-      let named : Contains (bodies_of (clauses_of h.name h.joined.clauses)) i = subst (λ (bs : List ℕ). Contains bs i) (ap (λ (j : Join). j.bodies.items) same ∙ h.joined.bodies_are) among in
+      let named : Contains (bodies_of (clauses_of h.name h.joined.clauses)) i = subst (λ (bs : List ℕ). Contains bs i) (ap (λ (j : Combined). j.bodies.items) same ∙ h.joined.bodies_are) among in
       (h.grammar ∷ h.stands.0, a_definition h.stands.1 h.joined.is_grammar (named_among h.name h.joined.clauses i named))
 
-  -- what is led to stands in the schema, or is a join
+  -- what is led to stands in the schema, or is the place of combined definitions
   pub lead_met : {x i : ℕ} → IsResolved cells root found → Lead x i → IsMet cells root found i
   lead_met resolved (by_part {outers = outers} stands at among) = inl (outers, a_part stands at among)
   lead_met resolved (by_link {x = x} {outers = outers} c stands at linked) = inr (link_at found x, link_within outers x c resolved stands at linked, refl)
@@ -148,17 +148,17 @@ module _ (cells : List Cell) (root : ℕ) (found : Resolved) where
   -- ---- by places
 
   module _ (formed : AreWellFormed cells root) (resolved : IsResolved cells root found) (number : ℕ → ℕ) where
-    -- a place leads to all bodies of a join
-    pub record LeadsToAll (here : Place) (join : Join) : Type 0 where
+    -- a place leads to all bodies of combined definitions
+    pub record LeadsToAll (here : Place) (join : Combined) : Type 0 where
       pub each : (i : ℕ) (there : Place) → Contains join.bodies.items i → IsAt cells root number i there → LeadsTo here there
 
-    -- the places of the bodies of a join
+    -- the places of the bodies of combined definitions
     pub record IsDefinitionAt (all : Clauses) (rest : List Clauses) (name : Defined) (there : Place) : Type 0 where
       pub pattern : Composed
       pub within : Contains (bodies (defining name all)) pattern
       pub place_is : there ≡ place (all ∷ rest) pattern
 
-    body_at : (grammar : ℕ) (outers : List ℕ) (clauses : List Clause) (all : Clauses) (rest : List Clauses) (name : Defined) (n : ℕ) → Stands cells root outers grammar → IsCell cells grammar (cell.grammar clauses) → DenoteAll cells number clauses all → AreScopes cells number outers rest → (h : IsJoined cells found.joins.items grammar name n) → (i : ℕ) (there : Place) → Contains h.join.bodies.items i → IsAt cells root number i there → IsDefinitionAt all rest name there
+    body_at : (grammar : ℕ) (outers : List ℕ) (clauses : List Clause) (all : Clauses) (rest : List Clauses) (name : Defined) (n : ℕ) → Stands cells root outers grammar → IsCell cells grammar (cell.grammar clauses) → DenoteAll cells number clauses all → AreScopes cells number outers rest → (h : IsCombined cells found.combined.items grammar name n) → (i : ℕ) (there : Place) → Contains h.join.bodies.items i → IsAt cells root number i there → IsDefinitionAt all rest name there
     body_at grammar outers clauses all rest name n stands at denoted scopes h i there among is_at =
         let same : h.clauses ≡ clauses = one_grammar cells grammar h.clauses clauses h.is_grammar at in
         let named : Contains (bodies_of (clauses_of name clauses)) i = subst (λ (bs : List ℕ). Contains bs i) (h.bodies_are ∙ ap (λ (cs : List Clause). bodies_of (clauses_of name cs)) same) among in
@@ -167,7 +167,7 @@ module _ (cells : List Cell) (root : ℕ) (found : Resolved) where
         record { pattern = part.pattern; within = part.within; place_is = at_once formed is_at here }
 
     -- what a reference leads to
-    ref_leads : (x : ℕ) (name : List ℕ) (outers : List ℕ) (scopes : List Clauses) → Stands cells root outers x → AreScopes cells number outers scopes → IsJoinedIn cells found.joins.items outers (defined.Name name) (link_at found x) → (join : Join) → slice_get found.joins.items (link_at found x) ≡ Some join → LeadsToAll (place scopes (composed.ref name)) join
+    ref_leads : (x : ℕ) (name : List ℕ) (outers : List ℕ) (scopes : List Clauses) → Stands cells root outers x → AreScopes cells number outers scopes → IsCombinedIn cells found.combined.items outers (defined.Name name) (link_at found x) → (join : Combined) → slice_get found.combined.items (link_at found x) ≡ Some join → LeadsToAll (place scopes (composed.ref name)) join
     ref_leads x name [] scopes stands are h join at = absurd h
     ref_leads x name (grammar ∷ outers) scopes stands are h join at =
         let by = scopes_by are in
@@ -175,12 +175,12 @@ module _ (cells : List Cell) (root : ℕ) (found : Resolved) where
         let same : h.join ≡ join = same_Some h.join join (sym h.there ∙ at) in
         record {
           each = λ i there among is_at.
-              let body = body_at grammar outers by.0 by.1 by.2 (defined.Name name) (link_at found x) around.stands by.3 by.4 by.5 h i there (subst (λ (j : Join). Contains j.bodies.items i) (sym same) among) is_at in
+              let body = body_at grammar outers by.0 by.1 by.2 (defined.Name name) (link_at found x) around.stands by.3 by.4 by.5 h i there (subst (λ (j : Combined). Contains j.bodies.items i) (sym same) among) is_at in
               subst (λ (from : Place). LeadsTo from there) (ap (λ ss. place ss (composed.ref name)) (sym by.6))
               (subst (λ (to : Place). LeadsTo (place (by.1 ∷ by.2) (composed.ref name)) to) (sym body.place_is) (to_definition body.within));
         }
 
-    parent_ref_leads : (x : ℕ) (name : List ℕ) (outers : List ℕ) (scopes : List Clauses) → Stands cells root outers x → AreScopes cells number outers scopes → IsJoinedOutside cells found.joins.items outers (defined.Name name) (link_at found x) → (join : Join) → slice_get found.joins.items (link_at found x) ≡ Some join → LeadsToAll (place scopes (composed.parent_ref name)) join
+    parent_ref_leads : (x : ℕ) (name : List ℕ) (outers : List ℕ) (scopes : List Clauses) → Stands cells root outers x → AreScopes cells number outers scopes → IsCombinedOutside cells found.combined.items outers (defined.Name name) (link_at found x) → (join : Combined) → slice_get found.combined.items (link_at found x) ≡ Some join → LeadsToAll (place scopes (composed.parent_ref name)) join
     parent_ref_leads x name [] scopes stands are h join at = absurd h
     parent_ref_leads x name (inner ∷ []) scopes stands are h join at = absurd h
     parent_ref_leads x name (inner ∷ grammar ∷ outers) scopes stands are h join at =
@@ -191,36 +191,36 @@ module _ (cells : List Cell) (root : ℕ) (found : Resolved) where
         let scopes_are : scopes ≡ by.1 ∷ further.1 ∷ further.2 = by.6 ∙ ap (λ ss. by.1 ∷ ss) further.6 in
         record {
           each = λ i there among is_at.
-              let body = body_at grammar outers further.0 further.1 further.2 (defined.Name name) (link_at found x) around.stands further.3 further.4 further.5 h i there (subst (λ (j : Join). Contains j.bodies.items i) (sym same) among) is_at in
+              let body = body_at grammar outers further.0 further.1 further.2 (defined.Name name) (link_at found x) around.stands further.3 further.4 further.5 h i there (subst (λ (j : Combined). Contains j.bodies.items i) (sym same) among) is_at in
               subst (λ (from : Place). LeadsTo from there) (ap (λ ss. place ss (composed.parent_ref name)) (sym scopes_are))
               (subst (λ (to : Place). LeadsTo (place (by.1 ∷ further.1 ∷ further.2) (composed.parent_ref name)) to) (sym body.place_is) (to_outer_definition body.within));
         }
 
-    grammar_leads : (x : ℕ) (clauses : List Clause) (all : Clauses) (outers : List ℕ) (scopes : List Clauses) → Stands cells root outers x → IsCell cells x (cell.grammar clauses) → DenoteAll cells number clauses all → AreScopes cells number outers scopes → IsJoined cells found.joins.items x defined.Start (link_at found x) → (join : Join) → slice_get found.joins.items (link_at found x) ≡ Some join → LeadsToAll (place scopes (composed.grammar all)) join
+    grammar_leads : (x : ℕ) (clauses : List Clause) (all : Clauses) (outers : List ℕ) (scopes : List Clauses) → Stands cells root outers x → IsCell cells x (cell.grammar clauses) → DenoteAll cells number clauses all → AreScopes cells number outers scopes → IsCombined cells found.combined.items x defined.Start (link_at found x) → (join : Combined) → slice_get found.combined.items (link_at found x) ≡ Some join → LeadsToAll (place scopes (composed.grammar all)) join
     grammar_leads x clauses all outers scopes stands at_x denoted are h join at =
         let same : h.join ≡ join = same_Some h.join join (sym h.there ∙ at) in
         record {
           each = λ i there among is_at.
-              let body = body_at x outers clauses all scopes defined.Start (link_at found x) stands at_x denoted are h i there (subst (λ (j : Join). Contains j.bodies.items i) (sym same) among) is_at in
+              let body = body_at x outers clauses all scopes defined.Start (link_at found x) stands at_x denoted are h i there (subst (λ (j : Combined). Contains j.bodies.items i) (sym same) among) is_at in
               subst (λ (to : Place). LeadsTo (place scopes (composed.grammar all)) to) (sym body.place_is) (to_start body.within);
         }
 
-    link_leads : (x : ℕ) (here : Place) (c : Cell) → IsAt cells root number x here → IsCell cells x c → is_linked c ≡ true → (join : Join) → slice_get found.joins.items (link_at found x) ≡ Some join → LeadsToAll here join
+    link_leads : (x : ℕ) (here : Place) (c : Cell) → IsAt cells root number x here → IsCell cells x c → is_linked c ≡ true → (join : Combined) → slice_get found.combined.items (link_at found x) ≡ Some join → LeadsToAll here join
     link_leads x here (cell.ref name) is_at at linked join there =
         subst (λ (p : Composed). LeadsToAll (place here.scopes p) join) (sym (denoted_by (cell.ref name) at is_at.denotes))
-        (ref_leads x name is_at.outers here.scopes is_at.stands is_at.are_scopes (resolved.ref_joined is_at.outers x name is_at.stands at) join there)
+        (ref_leads x name is_at.outers here.scopes is_at.stands is_at.are_scopes (resolved.ref_combined is_at.outers x name is_at.stands at) join there)
     link_leads x here (cell.parent_ref name) is_at at linked join there =
         subst (λ (p : Composed). LeadsToAll (place here.scopes p) join) (sym (denoted_by (cell.parent_ref name) at is_at.denotes))
-        (parent_ref_leads x name is_at.outers here.scopes is_at.stands is_at.are_scopes (resolved.parent_ref_joined is_at.outers x name is_at.stands at) join there)
+        (parent_ref_leads x name is_at.outers here.scopes is_at.stands is_at.are_scopes (resolved.parent_ref_combined is_at.outers x name is_at.stands at) join there)
     link_leads x here (cell.grammar clauses) is_at at linked join there =
         let grammar = denoted_by (cell.grammar clauses) at is_at.denotes in
         subst (λ (p : Composed). LeadsToAll (place here.scopes p) join) (sym grammar.2)
-        (grammar_leads x clauses grammar.0 is_at.outers here.scopes is_at.stands at grammar.1 is_at.are_scopes (resolved.start_joined x clauses (is_at.outers, is_at.stands) at) join there)
+        (grammar_leads x clauses grammar.0 is_at.outers here.scopes is_at.stands at grammar.1 is_at.are_scopes (resolved.start_combined x clauses (is_at.outers, is_at.stands) at) join there)
     link_leads x here c is_at at linked join there = absurd (false≢true linked)
 
     -- ---- from place to place
 
-    -- a step from a place leads to a place, or to a join to whose bodies the place leads
+    -- a step from a place leads to a place, or to combined definitions to whose bodies the place leads
     pub record LeadsHere (here : Place) (k : ℕ) : Type 0 where
       pub there : Place
       pub is_at : IsAt cells root number k there
@@ -228,9 +228,9 @@ module _ (cells : List Cell) (root : ℕ) (found : Resolved) where
 
     pub record LeadsToJoin (here : Place) (k : ℕ) : Type 0 where
       pub number_of_join : ℕ
-      pub join : Join
+      pub join : Combined
       pub is : k ≡ length cells + number_of_join
-      pub at : slice_get found.joins.items number_of_join ≡ Some join
+      pub at : slice_get found.combined.items number_of_join ≡ Some join
       pub led : LeadsToAll here join
 
     node_below : {x : ℕ} {here : Place} → IsAt cells root number x here → x < length cells
@@ -246,20 +246,20 @@ module _ (cells : List Cell) (root : ℕ) (found : Resolved) where
         })
     lead_from here is_at (by_link {x = x} {outers = outers} c stands at linked) =
         let within = link_within outers x c resolved stands at linked in
-        let there = slice_get_there found.joins.items (link_at found x) within in
+        let there = slice_get_there found.combined.items (link_at found x) within in
         inr (record { number_of_join = link_at found x; join = there.0; is = refl; at = there.1; led = link_leads x here c is_at at linked there.0 there.1 })
     lead_from here is_at (by_body n join at among) = absurd (omega (arith, node_below is_at))
 
-    lead_from_join : {x k : ℕ} (here : Place) (n : ℕ) (join : Join) → x ≡ length cells + n → slice_get found.joins.items n ≡ Some join → LeadsToAll here join → (whole : Composed) → Denotes cells number root whole → Lead x k → LeadsHere here k
+    lead_from_join : {x k : ℕ} (here : Place) (n : ℕ) (join : Combined) → x ≡ length cells + n → slice_get found.combined.items n ≡ Some join → LeadsToAll here join → (whole : Composed) → Denotes cells number root whole → Lead x k → LeadsHere here k
     lead_from_join here n join is at led whole denotes (by_part stands at_x among) = absurd (omega (arith, is, stands_within formed stands))
     lead_from_join here n join is at led whole denotes (by_link c stands at_x linked) = absurd (omega (arith, is, stands_within formed stands))
     lead_from_join here n join is at led whole denotes (by_body {i = i} m other there among) =
         let same_number : n ≡ m = omega (arith, is) in
-        let same : other ≡ join = same_Some other join (sym there ∙ ap (slice_get found.joins.items) (sym same_number) ∙ at) in
+        let same : other ≡ join = same_Some other join (sym there ∙ ap (slice_get found.combined.items) (sym same_number) ∙ at) in
         let stands = body_stands m i other resolved there among in
         let h = place_of denotes stands.1 in
         let is_at : IsAt cells root number i (place h.scopes h.pattern) = record { outers = stands.0; stands = stands.1; are_scopes = h.are_scopes; denotes = h.denotes } in
-        record { there = place h.scopes h.pattern; is_at = is_at; led = led.each i (place h.scopes h.pattern) (subst (λ (j : Join). Contains j.bodies.items i) same among) is_at }
+        record { there = place h.scopes h.pattern; is_at = is_at; led = led.each i (place h.scopes h.pattern) (subst (λ (j : Combined). Contains j.bodies.items i) same among) is_at }
 
 -- from one to another by one step or more
 pub data Chain (cells : List Cell) (root : ℕ) (found : Resolved) : ℕ → ℕ → Type 0 where
@@ -292,7 +292,7 @@ module _ (cells : List Cell) (root : ℕ) (found : Resolved) (formed : AreWellFo
           | inr h ↦ from_join here h.number_of_join h.join h.is h.at h.led more
         ]
 
-    from_join : {x y : ℕ} (here : Place) (n : ℕ) (join : Join) → x ≡ length cells + n → slice_get found.joins.items n ≡ Some join → LeadsToAll cells root found formed resolved number here join → Chain cells root found x y → ReachesAll here y
+    from_join : {x y : ℕ} (here : Place) (n : ℕ) (join : Combined) → x ≡ length cells + n → slice_get found.combined.items n ≡ Some join → LeadsToAll cells root found formed resolved number here join → Chain cells root found x y → ReachesAll here y
     from_join here n join is at led (last_lead lead) = arrives (lead_from_join cells root found formed resolved number here n join is at led whole denotes lead)
     from_join here n join is at led (further_lead lead more) =
         let h = lead_from_join cells root found formed resolved number here n join is at led whole denotes lead in
@@ -305,13 +305,13 @@ module _ (cells : List Cell) (root : ℕ) (found : Resolved) (formed : AreWellFo
       let is_at : IsAt cells root number x (place h.scopes h.pattern) = record { outers = outers; stands = stands; are_scopes = h.are_scopes; denotes = h.denotes } in
       record { scopes = h.scopes; pattern = h.pattern; occurs = h.occurs; is = from_place (place h.scopes h.pattern) is_at chain (place h.scopes h.pattern) is_at }
 
-  -- what a join leads to stands in the schema
+  -- what combined definitions lead to stands in the schema
   join_lead_stands : {x k : ℕ} (n : ℕ) → x ≡ length cells + n → Lead cells root found x k → IsStanding cells root k
   join_lead_stands n is (by_part stands at_x among) = absurd (omega (arith, is, stands_within formed stands))
   join_lead_stands n is (by_link c stands at_x linked) = absurd (omega (arith, is, stands_within formed stands))
   join_lead_stands n is (by_body {i = i} m join there among) = body_stands cells root found m i join resolved there among
 
-  -- from a join by way of the first node back to that node
+  -- from combined definitions by way of the first node back to that node
   join_leads_back : {x y : ℕ} (n : ℕ) → x ≡ length cells + n → x ≡ y → Chain cells root found x y → Has whole LeadsBack
   join_leads_back n is back (last_lead lead) =
       let stands = join_lead_stands n is lead in

@@ -1,5 +1,6 @@
 -- Definitions that are replaced, as clauses in one piece.
-use Rattle.std.proofs.Common.{◌≡◌, refl, sym, ap, ◌∙◌, ℕ, Bool, true, false, cond, List, ◌∷◌, ◌++◌}
+use Rattle.std.proofs.Common.{◌≡◌, refl, sym, ap, ◌∙◌, ℕ, Bool, true, false, cond, List, [], ◌∷◌, ◌++◌, length, arith}
+use Rattle.std.proofs.lemmas.List.{append-nil}
 use Rattle.std.specs.Prelude.{not, ◌||◌, ◌&&◌, filter, if◌then◌else◌}
 use Rattle.rnc_parse.specs.declared.surface.Defined.{Defined}
 use Rattle.rng_simplify.specs.declared.node.Clause.{Clause}
@@ -54,3 +55,12 @@ module _ {cells : List Cell} {number : ℕ → ℕ} where
 
   pub replaced_alike : {old new : List Clause} {a b : Clauses} → DenoteAll cells number old a → DenoteAll cells number new b → DenoteAll cells number (with_new old new) (then_clauses (but_for b a) b)
   replaced_alike olds news = both_denoted (kept_alike news olds) news
+
+-- where nothing is new, nothing is replaced
+all_kept : (old : List Clause) → old ≡ filter (λ (c : Clause). not (is_defined [] c.name)) old
+all_kept [] = refl
+all_kept (clause ∷ old) = ap (λ cs. clause ∷ cs) (all_kept old)
+
+pub none_replaced : (old new : List Clause) → length new ≡ 0 → (defines_all old new ≡ true) × (old ≡ with_new old new)
+none_replaced old [] none = (refl, all_kept old ∙ sym (append-nil (filter (λ (c : Clause). not (is_defined [] c.name)) old)))
+none_replaced old (clause ∷ new) none = absurd (omega (arith, none))

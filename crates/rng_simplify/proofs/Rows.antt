@@ -1,5 +1,5 @@
 -- Rows of patterns and of items as lists, and what is made of them.
-use Rattle.std.proofs.Common.{◌≡◌, refl, ap, sym, ◌∙◌, ℕ, List, ◌++◌, Vec, Global}
+use Rattle.std.proofs.Common.{◌≡◌, refl, ap, sym, ◌∙◌, ℕ, List, [], ◌∷◌, ◌++◌, Option, Some, None, Vec, Global}
 use Rattle.std.proofs.lemmas.List.{append_assoc}
 use Rattle.rnc_parse.specs.declared.surface.Pattern.{Pattern}
 use Rattle.rnc_parse.specs.declared.surface.Pattern as pattern
@@ -29,12 +29,12 @@ then_nothing (made value now) = refl
 then_nothing (refused why) = refl
 then_nothing no_piece = refl
 
-joined_made : (ns : List ℕ) (by : Sign) (p q : WrittenPattern) (now : Making) → make ns (join_by by p q) now ≡ (make ns p now >>= λ i then. make ns q then >>= λ j. cell_made (cell.joined by i j))
+pub joined_made : (ns : List ℕ) (by : Sign) (p q : WrittenPattern) (now : Making) → make ns (join_by by p q) now ≡ (make ns p now >>= λ i then. make ns q then >>= λ j. cell_made (cell.joined by i j))
 joined_made ns sign.Choice p q now = refl
 joined_made ns sign.Group p q now = refl
 joined_made ns sign.Interleave p q now = refl
 
-none_joined_made : (ns : List ℕ) (by : Sign) (now : Making) → make ns (none_by by) now ≡ none_made by now
+pub none_joined_made : (ns : List ℕ) (by : Sign) (now : Making) → make ns (none_by by) now ≡ none_made by now
 none_joined_made ns sign.Choice now = refl
 none_joined_made ns sign.Group now = refl
 none_joined_made ns sign.Interleave now = refl
@@ -45,7 +45,7 @@ row_behind ns by n before pattern.end_of-Pattern now = sym (then_nothing (make n
 row_behind ns by n before (pattern.more_of-Pattern next row) now =
     row_behind ns by _ (join_by by before (pattern_of next)) row now
     ∙ ap (λ outcome. outcome >>= λ i. make_behind ns by i (pattern.items-the_row-Pattern _ row)) (joined_made ns by before (pattern_of next) now)
-    ∙ then_again (make ns before now) (λ i. make_next ns by i next) (λ i. make_behind ns by i (pattern.items-the_row-Pattern _ row))
+    ∙ then_again (make ns before now) (λ i. make_next ns by (Some i) next) (λ i. make_behind ns by i (pattern.items-the_row-Pattern _ row))
 
 row_made : (ns : List ℕ) (by : Sign) (n : _) (row : pattern.Row_of-Pattern n) (now : Making) → make ns (patterns_of (join_by by) (none_by by) row) now ≡ make_row ns by (pattern.items-the_row-Pattern n row) now
 row_made ns by n pattern.end_of-Pattern now = none_joined_made ns by now
@@ -72,6 +72,16 @@ pub interleave_seen : (ns : List ℕ) (patterns : Vec Pattern Global) (now : Mak
 interleave_seen ns patterns now =
     let row = row_in (pattern.Interleave patterns) in
     sym (row_made ns sign.Interleave row.0 row.1 now ∙ ap (λ ps. make_row ns sign.Interleave ps now) (pattern.items_hidden-the_row-Pattern-2 patterns))
+
+-- what is made of the patterns that are left, behind those that are joined so far, if there are some
+abbrev pub make_rest : List ℕ → Sign → Option ℕ → List Pattern → Making → Outcome ℕ
+make_rest ns by None rest now = make_row ns by rest now
+make_rest ns by (Some first) rest now = make_behind ns by first rest now
+
+-- the next one of these, and then the others
+pub rest_next : (ns : List ℕ) (by : Sign) (joined : Option ℕ) (next : Pattern) (more : List Pattern) (now : Making) → make_rest ns by joined (next ∷ more) now ≡ (make_next ns by joined next now >>= λ i. make_rest ns by (Some i) more)
+rest_next ns by None next more now = refl
+rest_next ns by (Some first) next more now = refl
 
 -- ---- items
 

@@ -10,7 +10,7 @@ use Rattle.rng_simplify.specs.declared.fault.SchemaFault.{SchemaFault}
 use Rattle.rng_simplify.specs.declared.fault.SchemaFault.TheVariants.{NoMemory, Unreadable}
 use Rattle.rng_simplify.specs.declared.names.Names.{Names}
 use Rattle.rng_simplify.specs.declared.node.Clause.{Clause}
-use Rattle.rng_simplify.specs.declared.resolve.Join.{Join}
+use Rattle.rng_simplify.specs.declared.resolve.Combined.{Combined}
 use Rattle.rng_simplify.specs.declared.resolve.Table.{Table}
 use Rattle.rng_simplify.specs.declared.resolve.Scope.{Scope}
 use Rattle.rng_simplify.specs.declared.resolve.Scope.TheVariants.{Nowhere, In}
@@ -24,8 +24,8 @@ use Rattle.rng_simplify.specs.Denoting.{IsCell, Denotes, DenoteAll, none_denoted
 use Rattle.rng_simplify.specs.Keeping.{kept_named, kept_for}
 use Rattle.rng_simplify.specs.Standing.{cell_parts, bodies_of, inner_nodes, AreWellFormed, Stands, IsStanding, AreScopes}
 use Rattle.rng_simplify.specs.Standing as standing
-use Rattle.rng_simplify.specs.Resolving.{clauses_of, combines_of, IsJoined, IsJoinedIn, IsJoinedOutside, IsOfGrammar}
-use Rattle.rng_simplify.specs.Scoping.{IsGatheredAs, KeepsFirst, Findings, given, with_given, with_link, outer_of, outer_in, join_of_table, join_in, Links, HasTable, TakesGrammar, TakesCell, IsKept, IsTable, IsScope, outside, inside, IsPosted, IsTaken, IsMidway}
+use Rattle.rng_simplify.specs.Resolving.{clauses_of, combines_of, IsCombined, IsCombinedIn, IsCombinedOutside, IsOfGrammar}
+use Rattle.rng_simplify.specs.Scoping.{IsGatheredAs, KeepsFirst, Findings, given, with_given, with_link, outer_of, outer_in, combined_of_table, combined_in, Links, HasTable, TakesGrammar, TakesCell, IsKept, IsTable, IsScope, outside, inside, IsPosted, IsTaken, IsMidway}
 use Rattle.rng_simplify.proofs.Nodes.{in_none, in_first, in_more, in_cases, one_cell, place_of, denoted_by}
 use Rattle.rng_simplify.proofs.Posts.{within, stands_in, stands_by, stands_once, one_grammar}
 
@@ -77,35 +77,35 @@ given_some (i ∷ more) scope scopes j some among lt =
 
 -- ---- what stays known
 
-pub record KeepsJoins (old new : List Join) : Type 0 where
-  pub stays : (number : ℕ) (join : Join) → slice_get old number ≡ Some join → slice_get new number ≡ Some join
+pub record KeepsJoins (old new : List Combined) : Type 0 where
+  pub stays : (number : ℕ) (join : Combined) → slice_get old number ≡ Some join → slice_get new number ≡ Some join
 
 pub record KeepsTables (old new : List Table) : Type 0 where
   pub stays : (k : ℕ) (table : Table) → slice_get old k ≡ Some table → slice_get new k ≡ Some table
 
-pub joined_on : {cells : List Cell} {old new : List Join} {grammar : ℕ} {name : Defined} {number : ℕ} → KeepsJoins old new → IsJoined cells old grammar name number → IsJoined cells new grammar name number
+pub joined_on : {cells : List Cell} {old new : List Combined} {grammar : ℕ} {name : Defined} {number : ℕ} → KeepsJoins old new → IsCombined cells old grammar name number → IsCombined cells new grammar name number
 joined_on keeps h = record { clauses = h.clauses; is_grammar = h.is_grammar; is_defined = h.is_defined; join = h.join; there = keeps.stays _ _ h.there; bodies_are = h.bodies_are; combine_is = h.combine_is }
 
-joined_in_on : {old new : List Join} (cells : List Cell) (name : Defined) (number : ℕ) (outers : List ℕ) → KeepsJoins old new → IsJoinedIn cells old outers name number → IsJoinedIn cells new outers name number
+joined_in_on : {old new : List Combined} (cells : List Cell) (name : Defined) (number : ℕ) (outers : List ℕ) → KeepsJoins old new → IsCombinedIn cells old outers name number → IsCombinedIn cells new outers name number
 joined_in_on cells name number [] keeps h = h
 joined_in_on cells name number (grammar ∷ outers) keeps h = joined_on keeps h
 
-joined_outside_on : {old new : List Join} (cells : List Cell) (name : Defined) (number : ℕ) (outers : List ℕ) → KeepsJoins old new → IsJoinedOutside cells old outers name number → IsJoinedOutside cells new outers name number
+joined_outside_on : {old new : List Combined} (cells : List Cell) (name : Defined) (number : ℕ) (outers : List ℕ) → KeepsJoins old new → IsCombinedOutside cells old outers name number → IsCombinedOutside cells new outers name number
 joined_outside_on cells name number [] keeps h = h
 joined_outside_on cells name number (inner ∷ outers) keeps h = joined_in_on cells name number outers keeps h
 
-kept_on : {old new : List Join} (cells : List Cell) (grammar : ℕ) (clauses : List Clause) (name : Defined) (kept : Option ℕ) → KeepsJoins old new → IsKept cells old grammar clauses name kept → IsKept cells new grammar clauses name kept
+kept_on : {old new : List Combined} (cells : List Cell) (grammar : ℕ) (clauses : List Clause) (name : Defined) (kept : Option ℕ) → KeepsJoins old new → IsKept cells old grammar clauses name kept → IsKept cells new grammar clauses name kept
 kept_on cells grammar clauses name None keeps h = h
 kept_on cells grammar clauses name (Some number) keeps h = joined_on keeps h
 
-table_on : {cells : List Cell} {old new : List Join} {grammar : ℕ} {names : Names ℕ} → KeepsJoins old new → IsTable cells old grammar names → IsTable cells new grammar names
+table_on : {cells : List Cell} {old new : List Combined} {grammar : ℕ} {names : Names ℕ} → KeepsJoins old new → IsTable cells old grammar names → IsTable cells new grammar names
 table_on {cells = cells} {grammar = grammar} {names = names} keeps h = record { clauses = h.clauses; is_grammar = h.is_grammar; kept = λ name. kept_on cells grammar h.clauses name (kept_for names name) keeps (h.kept name) }
 
-pub scope_on : {cells : List Cell} {old new : List Join} {before after : List Table} {scope : Scope} {outers : List ℕ} → KeepsJoins old new → KeepsTables before after → IsScope cells old before scope outers → IsScope cells new after scope outers
-scope_on joins tables outside = outside
-scope_on joins tables (inside at table more) = inside (tables.stays _ _ at) (table_on joins table) (scope_on joins tables more)
+pub scope_on : {cells : List Cell} {old new : List Combined} {before after : List Table} {scope : Scope} {outers : List ℕ} → KeepsJoins old new → KeepsTables before after → IsScope cells old before scope outers → IsScope cells new after scope outers
+scope_on combined tables outside = outside
+scope_on combined tables (inside at table more) = inside (tables.stays _ _ at) (table_on combined table) (scope_on combined tables more)
 
-taken_on : {old new : List Join} (cells : List Cell) (outers : List ℕ) (i link : ℕ) (c : Cell) → KeepsJoins old new → IsTaken cells old outers i link c → IsTaken cells new outers i link c
+taken_on : {old new : List Combined} (cells : List Cell) (outers : List ℕ) (i link : ℕ) (c : Cell) → KeepsJoins old new → IsTaken cells old outers i link c → IsTaken cells new outers i link c
 taken_on cells outers i link (cell.element class part) keeps h = tt
 taken_on cells outers i link (cell.attribute class part) keeps h = tt
 taken_on cells outers i link (cell.listed part) keeps h = tt
@@ -149,20 +149,20 @@ nowhere_taken {cells = cells} {root = root} {i = i} {now = now} formed midway no
         | inl is ↦ absurd (never k outers is stands)
         | inr other ↦ midway.taken outers k c (omega (arith, le, other)) stands at
       ];
-      each_join = midway.each_join;
+      each_combined = midway.each_combined;
     }
 
 -- what is known of a node that stands in the schema, and is taken
 pub record IsNext (cells : List Cell) (root i : ℕ) (c : Cell) (outers : List ℕ) (scope : Scope) (old new : Findings) : Type 0 where
   pub some : scope ≢ Nowhere
   pub scopes_are : new.scopes ≡ given (inner_nodes c) scope old.scopes
-  pub is_scope : IsScope cells new.joins new.tables scope (within c i outers)
+  pub is_scope : IsScope cells new.combined new.tables scope (within c i outers)
   pub all_links : length new.links ≡ length old.links
   pub other_links : (k : ℕ) → k ≢ i → get_or new.links k 0 ≡ get_or old.links k 0
-  pub joins : KeepsJoins old.joins new.joins
+  pub combined : KeepsJoins old.combined new.combined
   pub tables : KeepsTables old.tables new.tables
-  pub taken : IsTaken cells new.joins outers i (get_or new.links i 0) c
-  pub each_join : (number : ℕ) → number < length new.joins → IsOfGrammar cells root new.joins number
+  pub taken : IsTaken cells new.combined outers i (get_or new.links i 0) c
+  pub each_combined : (number : ℕ) → number < length new.combined → IsOfGrammar cells root new.combined number
 
 next_posted : {cells : List Cell} {root i : ℕ} {c : Cell} {outers : List ℕ} {scope : Scope} {old new : Findings} → IsMidway cells root (i + 1) old → IsCell cells i c → Stands cells root outers i → IsNext cells root i c outers scope old new → (j : ℕ) → get_or new.scopes j Nowhere ≢ Nowhere → IsPosted cells root new (get_or new.scopes j Nowhere) j
 next_posted {cells = cells} {root = root} {i = i} {c = c} {outers = outers} {scope = scope} {old = old} {new = new} midway at stands next j some =
@@ -171,17 +171,17 @@ next_posted {cells = cells} {root = root} {i = i} {c = c} {outers = outers} {sco
       | inl h ↦ subst (λ (s : Scope). IsPosted cells root new s j) (sym (is ∙ h.0)) (record { outers = within c i outers; stands = stands_in c stands at h.1; is_scope = next.is_scope })
       | inr same ↦
           let before = midway.posted j (λ none. some (is ∙ same ∙ none)) in
-          subst (λ (s : Scope). IsPosted cells root new s j) (sym (is ∙ same)) (record { outers = before.outers; stands = before.stands; is_scope = scope_on next.joins next.tables before.is_scope })
+          subst (λ (s : Scope). IsPosted cells root new s j) (sym (is ∙ same)) (record { outers = before.outers; stands = before.stands; is_scope = scope_on next.combined next.tables before.is_scope })
     ]
 
 -- a node that stands there again is the same
-same_taken : {cells : List Cell} {root i : ℕ} {c : Cell} {outers : List ℕ} (joins : List Join) (links : List ℕ) → AreWellFormed cells root → IsCell cells i c → Stands cells root outers i → IsTaken cells joins outers i (get_or links i 0) c → (others : List ℕ) (k : ℕ) (d : Cell) → k ≡ i → Stands cells root others k → IsCell cells k d → IsTaken cells joins others k (get_or links k 0) d
-same_taken {cells = cells} {root = root} {i = i} {c = c} {outers = outers} joins links formed at stands taken others k d is standing at_k =
+same_taken : {cells : List Cell} {root i : ℕ} {c : Cell} {outers : List ℕ} (combined : List Combined) (links : List ℕ) → AreWellFormed cells root → IsCell cells i c → Stands cells root outers i → IsTaken cells combined outers i (get_or links i 0) c → (others : List ℕ) (k : ℕ) (d : Cell) → k ≡ i → Stands cells root others k → IsCell cells k d → IsTaken cells combined others k (get_or links k 0) d
+same_taken {cells = cells} {root = root} {i = i} {c = c} {outers = outers} combined links formed at stands taken others k d is standing at_k =
     let same_cell : c ≡ d = one_cell cells i c d at (subst (λ m. IsCell cells m d) is at_k) in
     let same_outers : outers ≡ others = stands_once formed stands (subst (λ m. Stands cells root others m) is standing) in
-    subst (λ m. IsTaken cells joins others m (get_or links m 0) d) (sym is)
-    (subst (λ (e : Cell). IsTaken cells joins others i (get_or links i 0) e) same_cell
-    (subst (λ os. IsTaken cells joins os i (get_or links i 0) c) same_outers taken))
+    subst (λ m. IsTaken cells combined others m (get_or links m 0) d) (sym is)
+    (subst (λ (e : Cell). IsTaken cells combined others i (get_or links i 0) e) same_cell
+    (subst (λ os. IsTaken cells combined os i (get_or links i 0) c) same_outers taken))
 
 pub next_taken : {cells : List Cell} {root i : ℕ} {c : Cell} {outers : List ℕ} {scope : Scope} {old new : Findings} → AreWellFormed cells root → IsMidway cells root (i + 1) old → IsCell cells i c → Stands cells root outers i → IsNext cells root i c outers scope old new → IsMidway cells root i new
 next_taken {cells = cells} {root = root} {i = i} {c = c} {outers = outers} {scope = scope} {old = old} {new = new} formed midway at stands next =
@@ -200,10 +200,10 @@ next_taken {cells = cells} {root = root} {i = i} {c = c} {outers = outers} {scop
         | inr other ↦ known j (given_keeps (inner_nodes c) scope old.scopes j next.some (midway.inner_known k j d (omega (arith, le, other)) standing at_k inner))
       ];
       taken = λ others k d le standing at_k. elim (cases_eq k i) [
-        | inl is ↦ same_taken new.joins new.links formed at stands next.taken others k d is standing at_k
-        | inr other ↦ subst (λ link. IsTaken cells new.joins others k link d) (sym (next.other_links k other)) (taken_on cells others k (get_or old.links k 0) d next.joins (midway.taken others k d (omega (arith, le, other)) standing at_k))
+        | inl is ↦ same_taken new.combined new.links formed at stands next.taken others k d is standing at_k
+        | inr other ↦ subst (λ link. IsTaken cells new.combined others k link d) (sym (next.other_links k other)) (taken_on cells others k (get_or old.links k 0) d next.combined (midway.taken others k d (omega (arith, le, other)) standing at_k))
       ];
-      each_join = next.each_join;
+      each_combined = next.each_combined;
     }
 
 -- ---- lists that grow
@@ -290,93 +290,93 @@ clash_refused {clauses = clauses} name at stands clashes number whole denotes =
     let grammar = denoted_by (cell.grammar clauses) at denoted in
     subst (λ (r : Composed). HasClash scopes r) (sym grammar.2) (name, ap clash (combines_denoted name grammar.1) ∙ clashes))
 
--- ---- joins by scopes
+-- ---- combined definitions by scopes
 
 -- what is found under a name in a scope
-abbrev FindsIn : List Cell → List Join → List ℕ → List ℕ → Option ℕ → Type 0
-FindsIn cells joins outers name (Some number) = IsJoinedIn cells joins outers (defined.Name name) number
-FindsIn cells joins outers name None = IsUndefinedIn cells outers name
+abbrev FindsIn : List Cell → List Combined → List ℕ → List ℕ → Option ℕ → Type 0
+FindsIn cells combined outers name (Some number) = IsCombinedIn cells combined outers (defined.Name name) number
+FindsIn cells combined outers name None = IsUndefinedIn cells outers name
 
-abbrev FindsOutside : List Cell → List Join → List ℕ → List ℕ → Option ℕ → Type 0
-FindsOutside cells joins outers name (Some number) = IsJoinedOutside cells joins outers (defined.Name name) number
-FindsOutside cells joins outers name None = IsUndefinedOutside cells outers name
+abbrev FindsOutside : List Cell → List Combined → List ℕ → List ℕ → Option ℕ → Type 0
+FindsOutside cells combined outers name (Some number) = IsCombinedOutside cells combined outers (defined.Name name) number
+FindsOutside cells combined outers name None = IsUndefinedOutside cells outers name
 
-finds_kept : (cells : List Cell) (joins : List Join) (grammar : ℕ) (clauses : List Clause) (outers : List ℕ) (name : List ℕ) (kept : Option ℕ) → IsCell cells grammar (cell.grammar clauses) → IsKept cells joins grammar clauses (defined.Name name) kept → FindsIn cells joins (grammar ∷ outers) name kept
-finds_kept cells joins grammar clauses outers name (Some number) at h = h
-finds_kept cells joins grammar clauses outers name None at h = (clauses, at, h)
+finds_kept : (cells : List Cell) (combined : List Combined) (grammar : ℕ) (clauses : List Clause) (outers : List ℕ) (name : List ℕ) (kept : Option ℕ) → IsCell cells grammar (cell.grammar clauses) → IsKept cells combined grammar clauses (defined.Name name) kept → FindsIn cells combined (grammar ∷ outers) name kept
+finds_kept cells combined grammar clauses outers name (Some number) at h = h
+finds_kept cells combined grammar clauses outers name None at h = (clauses, at, h)
 
-pub finds_in : {cells : List Cell} {joins : List Join} {tables : List Table} {scope : Scope} {outers : List ℕ} (name : List ℕ) → IsScope cells joins tables scope outers → FindsIn cells joins outers name (join_in tables scope name)
+pub finds_in : {cells : List Cell} {combined : List Combined} {tables : List Table} {scope : Scope} {outers : List ℕ} (name : List ℕ) → IsScope cells combined tables scope outers → FindsIn cells combined outers name (combined_in tables scope name)
 finds_in name outside = tt
-finds_in {cells = cells} {joins = joins} name (inside {grammar = grammar} {table = table} {outers = outers} at is_table more) =
-    subst (λ (found : Option Table). FindsIn cells joins (grammar ∷ outers) name (join_of_table name found)) (sym at)
-    (finds_kept cells joins grammar is_table.clauses outers name (kept_named table.joins name) is_table.is_grammar (is_table.kept (defined.Name name)))
+finds_in {cells = cells} {combined = combined} name (inside {grammar = grammar} {table = table} {outers = outers} at is_table more) =
+    subst (λ (found : Option Table). FindsIn cells combined (grammar ∷ outers) name (combined_of_table name found)) (sym at)
+    (finds_kept cells combined grammar is_table.clauses outers name (kept_named table.combined name) is_table.is_grammar (is_table.kept (defined.Name name)))
 
-finds_around : (cells : List Cell) (joins : List Join) (outers : List ℕ) (inner : ℕ) (name : List ℕ) (found : Option ℕ) → FindsIn cells joins outers name found → FindsOutside cells joins (inner ∷ outers) name found
-finds_around cells joins outers inner name (Some number) h = h
-finds_around cells joins outers inner name None h = h
+finds_around : (cells : List Cell) (combined : List Combined) (outers : List ℕ) (inner : ℕ) (name : List ℕ) (found : Option ℕ) → FindsIn cells combined outers name found → FindsOutside cells combined (inner ∷ outers) name found
+finds_around cells combined outers inner name (Some number) h = h
+finds_around cells combined outers inner name None h = h
 
-pub finds_outside : {cells : List Cell} {joins : List Join} {tables : List Table} {scope : Scope} {outers : List ℕ} (name : List ℕ) → IsScope cells joins tables scope outers → FindsOutside cells joins outers name (join_in tables (outer_in tables scope) name)
+pub finds_outside : {cells : List Cell} {combined : List Combined} {tables : List Table} {scope : Scope} {outers : List ℕ} (name : List ℕ) → IsScope cells combined tables scope outers → FindsOutside cells combined outers name (combined_in tables (outer_in tables scope) name)
 finds_outside name outside = tt
-finds_outside {cells = cells} {joins = joins} {tables = tables} name (inside {grammar = grammar} {table = table} {outers = outers} at is_table more) =
-    subst (λ (found : Option Table). FindsOutside cells joins (grammar ∷ outers) name (join_in tables (outer_of found) name)) (sym at)
-    (finds_around cells joins outers grammar name (join_in tables table.outer name) (finds_in name more))
+finds_outside {cells = cells} {combined = combined} {tables = tables} name (inside {grammar = grammar} {table = table} {outers = outers} at is_table more) =
+    subst (λ (found : Option Table). FindsOutside cells combined (grammar ∷ outers) name (combined_in tables (outer_of found) name)) (sym at)
+    (finds_around cells combined outers grammar name (combined_in tables table.outer name) (finds_in name more))
 
 -- ---- one more node, by its cell
 
-keeps_all_joins : (joins : List Join) → KeepsJoins joins joins
-keeps_all_joins joins = record { stays = λ number join h. h }
+keeps_all_joins : (combined : List Combined) → KeepsJoins combined combined
+keeps_all_joins combined = record { stays = λ number join h. h }
 
 keeps_all_tables : (tables : List Table) → KeepsTables tables tables
 keeps_all_tables tables = record { stays = λ k table h. h }
 
-keeps_first : (old new : List Join) → KeepsFirst (length old) old new → KeepsJoins old new
+keeps_first : (old new : List Combined) → KeepsFirst (length old) old new → KeepsJoins old new
 keeps_first old new kept = record { stays = λ number join h. kept number (slice_get_within old number join h) ∙ h }
 
-gathered_kept : (cells : List Cell) (i : ℕ) (joins : List Join) (clauses : List Clause) (first : ℕ) (name : Defined) (kept : Option ℕ) → IsCell cells i (cell.grammar clauses) → IsGatheredAs first clauses joins name kept → IsKept cells joins i clauses name kept
-gathered_kept cells i joins clauses first name None at h = h
-gathered_kept cells i joins clauses first name (Some number) at h =
+gathered_kept : (cells : List Cell) (i : ℕ) (combined : List Combined) (clauses : List Clause) (first : ℕ) (name : Defined) (kept : Option ℕ) → IsCell cells i (cell.grammar clauses) → IsGatheredAs first clauses combined name kept → IsKept cells combined i clauses name kept
+gathered_kept cells i combined clauses first name None at h = h
+gathered_kept cells i combined clauses first name (Some number) at h =
     record { clauses = clauses; is_grammar = at; is_defined = h.3.some; join = h.0; there = h.2; bodies_are = h.3.bodies_are; combine_is = h.3.signs.combine_is }
 
-no_clash_as : (joins : List Join) (clauses : List Clause) (first : ℕ) (name : Defined) (kept : Option ℕ) → IsGatheredAs first clauses joins name kept → clash (combines_of (clauses_of name clauses)) ≡ false
-no_clash_as joins clauses first name None h = ap (λ (cs : List Clause). clash (combines_of cs)) h
-no_clash_as joins clauses first name (Some number) h = h.3.signs.no_clash
+no_clash_as : (combined : List Combined) (clauses : List Clause) (first : ℕ) (name : Defined) (kept : Option ℕ) → IsGatheredAs first clauses combined name kept → clash (combines_of (clauses_of name clauses)) ≡ false
+no_clash_as combined clauses first name None h = ap (λ (cs : List Clause). clash (combines_of cs)) h
+no_clash_as combined clauses first name (Some number) h = h.3.signs.no_clash
 
-old_join : {cells : List Cell} {root : ℕ} {old new : List Join} {number : ℕ} → KeepsJoins old new → IsOfGrammar cells root old number → IsOfGrammar cells root new number
+old_join : {cells : List Cell} {root : ℕ} {old new : List Combined} {number : ℕ} → KeepsJoins old new → IsOfGrammar cells root old number → IsOfGrammar cells root new number
 old_join keeps h = record { grammar = h.grammar; name = h.name; stands = h.stands; joined = joined_on keeps h.joined }
 
 module _ {cells : List Cell} {root i : ℕ} where
   -- a node that is neither a reference nor a grammar
-  plain_taken : {old new : Findings} {scope : Scope} (c : Cell) → ((outers : List ℕ) → within c i outers ≡ outers) → ((joins : List Join) (outers : List ℕ) (link : ℕ) → IsTaken cells joins outers i link c) → AreWellFormed cells root → IsMidway cells root (i + 1) old → IsCell cells i c → IsPosted cells root old scope i → scope ≢ Nowhere → new ≡ with_given (inner_nodes c) scope old → IsMidway cells root i new
+  plain_taken : {old new : Findings} {scope : Scope} (c : Cell) → ((outers : List ℕ) → within c i outers ≡ outers) → ((combined : List Combined) (outers : List ℕ) (link : ℕ) → IsTaken cells combined outers i link c) → AreWellFormed cells root → IsMidway cells root (i + 1) old → IsCell cells i c → IsPosted cells root old scope i → scope ≢ Nowhere → new ≡ with_given (inner_nodes c) scope old → IsMidway cells root i new
   plain_taken {old = old} {scope = scope} c same nothing formed midway at posted some is =
       subst (λ (f : Findings). IsMidway cells root i f) (sym is) (next_taken {c = c} {scope = scope} {new = with_given (inner_nodes c) scope old} formed midway at posted.stands (record {
         some = some;
         scopes_are = refl;
-        is_scope = subst (λ outers. IsScope cells old.joins old.tables scope outers) (sym (same posted.outers)) posted.is_scope;
+        is_scope = subst (λ outers. IsScope cells old.combined old.tables scope outers) (sym (same posted.outers)) posted.is_scope;
         all_links = refl;
         other_links = λ k other. refl;
-        joins = keeps_all_joins old.joins;
+        combined = keeps_all_joins old.combined;
         tables = keeps_all_tables old.tables;
-        taken = nothing old.joins posted.outers (get_or old.links i 0);
-        each_join = midway.each_join;
+        taken = nothing old.combined posted.outers (get_or old.links i 0);
+        each_combined = midway.each_combined;
       }))
 
   -- a reference
-  linked : {old : Findings} {scope : Scope} (c : Cell) (link : ℕ) → ((outers : List ℕ) → within c i outers ≡ outers) → inner_nodes c ≡ [] → AreWellFormed cells root → IsMidway cells root (i + 1) old → IsCell cells i c → (posted : IsPosted cells root old scope i) → scope ≢ Nowhere → IsTaken cells old.joins posted.outers i link c → IsMidway cells root i (with_link i link old)
+  linked : {old : Findings} {scope : Scope} (c : Cell) (link : ℕ) → ((outers : List ℕ) → within c i outers ≡ outers) → inner_nodes c ≡ [] → AreWellFormed cells root → IsMidway cells root (i + 1) old → IsCell cells i c → (posted : IsPosted cells root old scope i) → scope ≢ Nowhere → IsTaken cells old.combined posted.outers i link c → IsMidway cells root i (with_link i link old)
   linked {old = old} {scope = scope} c link same none formed midway at posted some taken =
       let lt : i < length old.links = omega (arith, slice_get_within cells i c at, midway.all_links) in
       next_taken {c = c} {scope = scope} {new = with_link i link old} formed midway at posted.stands (record {
         some = some;
         scopes_are = ap (λ nodes. given nodes scope old.scopes) (sym none);
-        is_scope = subst (λ outers. IsScope cells old.joins old.tables scope outers) (sym (same posted.outers)) posted.is_scope;
+        is_scope = subst (λ outers. IsScope cells old.combined old.tables scope outers) (sym (same posted.outers)) posted.is_scope;
         all_links = length-set old.links i link;
         other_links = λ k other. get_or-set_other old.links i k link 0 other;
-        joins = keeps_all_joins old.joins;
+        combined = keeps_all_joins old.combined;
         tables = keeps_all_tables old.tables;
-        taken = subst (λ l. IsTaken cells old.joins posted.outers i l c) (sym (get_or-set_same old.links i link 0 lt)) taken;
-        each_join = midway.each_join;
+        taken = subst (λ l. IsTaken cells old.combined posted.outers i l c) (sym (get_or-set_same old.links i link 0 lt)) taken;
+        each_combined = midway.each_combined;
       })
 
-  ref_taken : {A : Type 0} {old : Findings} {scope : Scope} (new : Findings) (name : List ℕ) → AreWellFormed cells root → IsMidway cells root (i + 1) old → IsCell cells i (cell.ref name) → (posted : IsPosted cells root old scope i) → scope ≢ Nowhere → (found : Option ℕ) → FindsIn cells old.joins posted.outers name found → (result : Result A SchemaFault) → Links i found old new result → OkOrRefused cells root (λ done. IsMidway cells root i new) result
+  ref_taken : {A : Type 0} {old : Findings} {scope : Scope} (new : Findings) (name : List ℕ) → AreWellFormed cells root → IsMidway cells root (i + 1) old → IsCell cells i (cell.ref name) → (posted : IsPosted cells root old scope i) → scope ≢ Nowhere → (found : Option ℕ) → FindsIn cells old.combined posted.outers name found → (result : Result A SchemaFault) → Links i found old new result → OkOrRefused cells root (λ done. IsMidway cells root i new) result
   ref_taken new name formed midway at posted some (Some number) finds (Ok done) is =
       subst (λ (f : Findings). IsMidway cells root i f) (sym is) (linked (cell.ref name) number (λ outers. refl) refl formed midway at posted some finds)
   ref_taken new name formed midway at posted some (Some number) finds (Err fault) is = absurd is
@@ -384,7 +384,7 @@ module _ {cells : List Cell} {root i : ℕ} where
   ref_taken new name formed midway at posted some None finds (Err (Unreadable cause.NoDefinition)) is = ref_refused at posted.stands finds
   ref_taken new name formed midway at posted some None finds (Err fault) is = absurd is
 
-  parent_ref_taken : {A : Type 0} {old : Findings} {scope : Scope} (new : Findings) (name : List ℕ) → AreWellFormed cells root → IsMidway cells root (i + 1) old → IsCell cells i (cell.parent_ref name) → (posted : IsPosted cells root old scope i) → scope ≢ Nowhere → (found : Option ℕ) → FindsOutside cells old.joins posted.outers name found → (result : Result A SchemaFault) → Links i found old new result → OkOrRefused cells root (λ done. IsMidway cells root i new) result
+  parent_ref_taken : {A : Type 0} {old : Findings} {scope : Scope} (new : Findings) (name : List ℕ) → AreWellFormed cells root → IsMidway cells root (i + 1) old → IsCell cells i (cell.parent_ref name) → (posted : IsPosted cells root old scope i) → scope ≢ Nowhere → (found : Option ℕ) → FindsOutside cells old.combined posted.outers name found → (result : Result A SchemaFault) → Links i found old new result → OkOrRefused cells root (λ done. IsMidway cells root i new) result
   parent_ref_taken new name formed midway at posted some (Some number) finds (Ok done) is =
       subst (λ (f : Findings). IsMidway cells root i f) (sym is) (linked (cell.parent_ref name) number (λ outers. refl) refl formed midway at posted some finds)
   parent_ref_taken new name formed midway at posted some (Some number) finds (Err fault) is = absurd is
@@ -396,28 +396,28 @@ module _ {cells : List Cell} {root i : ℕ} where
   grammar_next : {old new : Findings} {scope : Scope} (clauses : List Clause) → IsMidway cells root (i + 1) old → IsCell cells i (cell.grammar clauses) → (posted : IsPosted cells root old scope i) → HasTable i scope clauses old new → IsNext cells root i (cell.grammar clauses) posted.outers (In (length old.tables)) old new
   grammar_next {old = old} {new = new} {scope = scope} clauses midway at posted h =
       let lt : i < length old.links = omega (arith, slice_get_within cells i (cell.grammar clauses) at, midway.all_links) in
-      let joins = keeps_first old.joins new.joins h.kept in
-      let table : Table = record { outer = scope; joins = h.names } in
+      let combined = keeps_first old.combined new.combined h.kept in
+      let table : Table = record { outer = scope; combined = h.names } in
       let tables : KeepsTables old.tables new.tables = record { stays = λ k t there. ap (λ (ts : List Table). slice_get ts k) h.tables_are ∙ stays_behind old.tables (table ∷ []) k t there } in
-      let kept : (name : Defined) → IsKept cells new.joins i clauses name (kept_for h.names name) = λ name. gathered_kept cells i new.joins clauses (length old.joins) name (kept_for h.names name) at (h.gathered.gathered name) in
+      let kept : (name : Defined) → IsKept cells new.combined i clauses name (kept_for h.names name) = λ name. gathered_kept cells i new.combined clauses (length old.combined) name (kept_for h.names name) at (h.gathered.gathered name) in
       record {
         some = λ e. absurd cc;
         scopes_are = h.scopes_are;
-        is_scope = inside {table = table} (ap (λ (ts : List Table). slice_get ts (length old.tables)) h.tables_are ∙ last_there old.tables table) (record { clauses = clauses; is_grammar = at; kept = kept }) (scope_on joins tables posted.is_scope);
+        is_scope = inside {table = table} (ap (λ (ts : List Table). slice_get ts (length old.tables)) h.tables_are ∙ last_there old.tables table) (record { clauses = clauses; is_grammar = at; kept = kept }) (scope_on combined tables posted.is_scope);
         all_links = ap length h.links_are ∙ length-set old.links i h.start;
         other_links = λ k other. ap (λ (ls : List ℕ). get_or ls k 0) h.links_are ∙ get_or-set_other old.links i k h.start 0 other;
-        joins = joins;
+        combined = combined;
         tables = tables;
         taken = (
-          subst (λ link. IsJoined cells new.joins i defined.Start link) (sym (ap (λ (ls : List ℕ). get_or ls i 0) h.links_are ∙ get_or-set_same old.links i h.start 0 lt))
-              (subst (λ (k : Option ℕ). IsKept cells new.joins i clauses defined.Start k) h.start_is (kept defined.Start)),
-          λ name. no_clash_as new.joins clauses (length old.joins) name (kept_for h.names name) (h.gathered.gathered name),
+          subst (λ link. IsCombined cells new.combined i defined.Start link) (sym (ap (λ (ls : List ℕ). get_or ls i 0) h.links_are ∙ get_or-set_same old.links i h.start 0 lt))
+              (subst (λ (k : Option ℕ). IsKept cells new.combined i clauses defined.Start k) h.start_is (kept defined.Start)),
+          λ name. no_clash_as new.combined clauses (length old.combined) name (kept_for h.names name) (h.gathered.gathered name),
         );
-        each_join = λ number within. elim (cases_lt number (length old.joins)) [
-          | inl before ↦ old_join joins (midway.each_join number before)
+        each_combined = λ number within. elim (cases_lt number (length old.combined)) [
+          | inl before ↦ old_join combined (midway.each_combined number before)
           | inr behind ↦
               let name = h.gathered.each number behind within in
-              record { grammar = i; name = name.0; stands = (posted.outers, posted.stands); joined = subst (λ (k : Option ℕ). IsKept cells new.joins i clauses name.0 k) name.1 (kept name.0) }
+              record { grammar = i; name = name.0; stands = (posted.outers, posted.stands); joined = subst (λ (k : Option ℕ). IsKept cells new.combined i clauses name.0 k) name.1 (kept name.0) }
         ];
       }
 
@@ -433,14 +433,14 @@ module _ {cells : List Cell} {root i : ℕ} where
   cell_taken new (cell.ref name) formed midway at posted some result h = ref_taken new name formed midway at posted some _ (finds_in name posted.is_scope) result h
   cell_taken new (cell.parent_ref name) formed midway at posted some result h = parent_ref_taken new name formed midway at posted some _ (finds_outside name posted.is_scope) result h
   cell_taken new (cell.grammar clauses) formed midway at posted some result h = grammar_taken new clauses formed midway at posted result h
-  cell_taken new (cell.element class part) formed midway at posted some (Ok done) h = plain_taken (cell.element class part) (λ outers. refl) (λ joins outers link. tt) formed midway at posted some h
-  cell_taken new (cell.attribute class part) formed midway at posted some (Ok done) h = plain_taken (cell.attribute class part) (λ outers. refl) (λ joins outers link. tt) formed midway at posted some h
-  cell_taken new (cell.listed part) formed midway at posted some (Ok done) h = plain_taken (cell.listed part) (λ outers. refl) (λ joins outers link. tt) formed midway at posted some h
-  cell_taken new cell.empty formed midway at posted some (Ok done) h = plain_taken cell.empty (λ outers. refl) (λ joins outers link. tt) formed midway at posted some h
-  cell_taken new cell.any_text formed midway at posted some (Ok done) h = plain_taken cell.any_text (λ outers. refl) (λ joins outers link. tt) formed midway at posted some h
-  cell_taken new cell.not_allowed formed midway at posted some (Ok done) h = plain_taken cell.not_allowed (λ outers. refl) (λ joins outers link. tt) formed midway at posted some h
-  cell_taken new (cell.value type text) formed midway at posted some (Ok done) h = plain_taken (cell.value type text) (λ outers. refl) (λ joins outers link. tt) formed midway at posted some h
-  cell_taken new (cell.typed type params part) formed midway at posted some (Ok done) h = plain_taken (cell.typed type params part) (λ outers. refl) (λ joins outers link. tt) formed midway at posted some h
-  cell_taken new (cell.one_or_more part) formed midway at posted some (Ok done) h = plain_taken (cell.one_or_more part) (λ outers. refl) (λ joins outers link. tt) formed midway at posted some h
-  cell_taken new (cell.joined sign first second) formed midway at posted some (Ok done) h = plain_taken (cell.joined sign first second) (λ outers. refl) (λ joins outers link. tt) formed midway at posted some h
+  cell_taken new (cell.element class part) formed midway at posted some (Ok done) h = plain_taken (cell.element class part) (λ outers. refl) (λ combined outers link. tt) formed midway at posted some h
+  cell_taken new (cell.attribute class part) formed midway at posted some (Ok done) h = plain_taken (cell.attribute class part) (λ outers. refl) (λ combined outers link. tt) formed midway at posted some h
+  cell_taken new (cell.listed part) formed midway at posted some (Ok done) h = plain_taken (cell.listed part) (λ outers. refl) (λ combined outers link. tt) formed midway at posted some h
+  cell_taken new cell.empty formed midway at posted some (Ok done) h = plain_taken cell.empty (λ outers. refl) (λ combined outers link. tt) formed midway at posted some h
+  cell_taken new cell.any_text formed midway at posted some (Ok done) h = plain_taken cell.any_text (λ outers. refl) (λ combined outers link. tt) formed midway at posted some h
+  cell_taken new cell.not_allowed formed midway at posted some (Ok done) h = plain_taken cell.not_allowed (λ outers. refl) (λ combined outers link. tt) formed midway at posted some h
+  cell_taken new (cell.value type text) formed midway at posted some (Ok done) h = plain_taken (cell.value type text) (λ outers. refl) (λ combined outers link. tt) formed midway at posted some h
+  cell_taken new (cell.typed type params part) formed midway at posted some (Ok done) h = plain_taken (cell.typed type params part) (λ outers. refl) (λ combined outers link. tt) formed midway at posted some h
+  cell_taken new (cell.one_or_more part) formed midway at posted some (Ok done) h = plain_taken (cell.one_or_more part) (λ outers. refl) (λ combined outers link. tt) formed midway at posted some h
+  cell_taken new (cell.joined sign first second) formed midway at posted some (Ok done) h = plain_taken (cell.joined sign first second) (λ outers. refl) (λ combined outers link. tt) formed midway at posted some h
   cell_taken new c formed midway at posted some (Err fault) h = absurd h

@@ -58,6 +58,10 @@ at_seam (x ∷ xs) y ys d = at_seam xs y ys d
 
 -- ---- the form of a shape is that of its parts
 
+-- each part of a shape has a smaller number
+pub part_below : (n part : ℕ) (s t : Shape) → s ≡ t → Contains (shape_parts t) part → IsBehindParts n s → part < n
+part_below n part s t is within behind = let P : Shape → Type 0 = IsBehindParts n in (subst P is behind).below part within
+
 -- the form depends on those of the parts alone
 pub by_parts : (cells : List Cell) (taken : ℕ → List Value) (at other : ℕ → Form) (s : Shape) → ((part : ℕ) → Contains (shape_parts s) part → at part ≡ other part) → form_by cells taken at s ≡ form_by cells taken other s
 by_parts cells taken at other shape.NotAllowed same = refl

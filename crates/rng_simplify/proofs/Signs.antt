@@ -9,7 +9,7 @@ use Rattle.std.proofs.lemmas.List.Elements.{filter-append}
 use Rattle.rnc_parse.specs.declared.surface.Combine.{Combine}
 use Rattle.rnc_parse.specs.declared.surface.Combine.TheVariants as combine
 use Rattle.std.proofs.lemmas.Option.{same_Some}
-use Rattle.rng_simplify.specs.declared.resolve.Join.{Join}
+use Rattle.rng_simplify.specs.declared.resolve.Combined.{Combined}
 use Rattle.rng_simplify.specs.Broken.{clash, is_alone, is_choice, is_interleave}
 use Rattle.rng_simplify.specs.Forms.{combine_of}
 use Rattle.rng_simplify.specs.Scoping.{HasSigns, both_say}
@@ -145,7 +145,7 @@ not_clashing all combine.Interleave h alone choice interleave =
     ∙ ap (λ b. clashes b (list_any is_choice all || false) (list_any is_interleave all || true)) (many_more all combine.Interleave refl ∙ parts.0)
     ∙ ap (λ b. (b || false) && (list_any is_interleave all || true)) none
 
-pub signs_added : (all : List Combine) (c : Combine) (old new : Join) → HasSigns all old → both_say old.combine c ≡ Some new.combine → new.has_alone ≡ (old.has_alone || is_alone c) → (old.has_alone && is_alone c) ≡ false → HasSigns (all ++ c ∷ []) new
+pub signs_added : (all : List Combine) (c : Combine) (old new : Combined) → HasSigns all old → both_say old.combine c ≡ Some new.combine → new.has_alone ≡ (old.has_alone || is_alone c) → (old.has_alone && is_alone c) ≡ false → HasSigns (all ++ c ∷ []) new
 signs_added all c old new signs both alone none = record {
   combine_is = sym (ok_says old.combine c new.combine both) ∙ ap (λ b. then_says b c) signs.combine_is ∙ sym (says_next all c);
   alone_is = alone ∙ ap (λ b. b || is_alone c) signs.alone_is ∙ ap (λ b. list_any is_alone all || b) (sym (or_nothing (is_alone c))) ∙ sym (list_any-append is_alone all (c ∷ []));
@@ -165,12 +165,12 @@ signs_added all c old new signs both alone none = record {
         absurd cc
 
 -- two say nothing
-alone_clash : (all : List Combine) (old : Join) → HasSigns all old → old.has_alone ≡ true → clash (all ++ combine.Alone ∷ []) ≡ true
+alone_clash : (all : List Combine) (old : Combined) → HasSigns all old → old.has_alone ≡ true → clash (all ++ combine.Alone ∷ []) ≡ true
 alone_clash all old signs alone =
     clash_next all combine.Alone
     ∙ ap (λ b. clashes b (list_any is_choice all || false) (list_any is_interleave all || false)) (many_alone all ∙ any_alone_count all ∙ sym signs.alone_is ∙ alone)
 
-pub both_alone_clash : (all : List Combine) (c : Combine) (old : Join) → HasSigns all old → (old.has_alone && is_alone c) ≡ true → clash (all ++ c ∷ []) ≡ true
+pub both_alone_clash : (all : List Combine) (c : Combine) (old : Combined) → HasSigns all old → (old.has_alone && is_alone c) ≡ true → clash (all ++ c ∷ []) ≡ true
 both_alone_clash all combine.Alone old signs both = alone_clash all old signs (sym (and_true old.has_alone) ∙ both)
 both_alone_clash all combine.Choice old signs both = absurd (false≢true (sym (and_right old.has_alone) ∙ both))
 both_alone_clash all combine.Interleave old signs both = absurd (false≢true (sym (and_right old.has_alone) ∙ both))
@@ -193,11 +193,11 @@ two_ways_clash all combine.Interleave combine.Choice h is =
     ∙ ap (λ b. many (all ++ combine.Choice ∷ []) || (b || false)) h
     ∙ or_right (many (all ++ combine.Choice ∷ []))
 
-pub both_ways_clash : (all : List Combine) (c : Combine) (old : Join) → HasSigns all old → both_say old.combine c ≡ None → clash (all ++ c ∷ []) ≡ true
+pub both_ways_clash : (all : List Combine) (c : Combine) (old : Combined) → HasSigns all old → both_say old.combine c ≡ None → clash (all ++ c ∷ []) ≡ true
 both_ways_clash all c old signs is = two_ways_clash all (combine_of all) c (told all) (ap (λ b. both_say b c) (sym signs.combine_is) ∙ is)
 
 -- a definition alone
-pub signs_of_one : (c : Combine) (join : Join) → join.combine ≡ c → join.has_alone ≡ is_alone c → HasSigns (c ∷ []) join
+pub signs_of_one : (c : Combine) (join : Combined) → join.combine ≡ c → join.has_alone ≡ is_alone c → HasSigns (c ∷ []) join
 signs_of_one c join said alone = record { combine_is = said ∙ sym (one_says c); alone_is = alone ∙ sym (or_nothing (is_alone c)); no_clash = alone_clashes_not c }
   where
     alone_clashes_not : (c : Combine) → clash (c ∷ []) ≡ false

@@ -4,7 +4,7 @@ use Rattle.std.proofs.lemmas.Option.{slice_get_within}
 use Rattle.std.proofs.lemmas.List.{length-set, length-replicate, length-map, get_or-set_same, get_or_read}
 use Rattle.rng_simplify.specs.declared.fault.SchemaFault.{SchemaFault}
 use Rattle.rng_simplify.specs.declared.node.Node.{Node}
-use Rattle.rng_simplify.specs.declared.resolve.Join.{Join}
+use Rattle.rng_simplify.specs.declared.resolve.Combined.{Combined}
 use Rattle.rng_simplify.specs.declared.resolve.Table.{Table}
 use Rattle.rng_simplify.specs.declared.resolve.Scope.{Scope}
 use Rattle.rng_simplify.specs.declared.resolve.Scope.TheVariants.{Nowhere, Outside}
@@ -12,7 +12,7 @@ use Rattle.rng_simplify.specs.Breaking.{OkOrRefused}
 use Rattle.rng_simplify.specs.Cells.{Cell, cell_of}
 use Rattle.rng_simplify.specs.Cells as cell
 use Rattle.rng_simplify.specs.Standing.{inner_nodes, AreWellFormed, Stands, the_root}
-use Rattle.rng_simplify.specs.Resolving.{IsResolved, IsJoinedIn, IsJoinedOutside, IsJoined}
+use Rattle.rng_simplify.specs.Resolving.{IsResolved, IsCombinedIn, IsCombinedOutside, IsCombined}
 use Rattle.rnc_parse.specs.declared.surface.Defined.TheVariants as defined
 use Rattle.rng_simplify.specs.Scoping.{Findings, findings_at_first, IsPosted, outside, IsMidway, TakesCell, AreNumbered}
 use Rattle.rng_simplify.proofs.Nodes.{cell_there}
@@ -43,7 +43,7 @@ midway_begins cells root formed =
       root_known = λ none. outside_somewhere (sym (get_or-set_same (replicate count Nowhere) root Outside Nowhere long) ∙ none);
       inner_known = λ i j c le stands at inner. absurd (omega (arith, slice_get_within cells i c at, le));
       taken = λ outers i c le stands at. absurd (omega (arith, slice_get_within cells i c at, le));
-      each_join = λ number lt. absurd (omega (arith, lt));
+      each_combined = λ number lt. absurd (omega (arith, lt));
     }
 
 -- the same of what is found for nodes
@@ -89,21 +89,21 @@ module _ {cells : List Cell} {root : ℕ} {now : Findings} where
         | inr h ↦ midway.inner_known h.outer i h.cell (omega arith) (h.around, h.stands) h.is_cell h.inner none
       ]
 
-pub all_resolved : (cells : List Cell) (root : ℕ) (tables : List Table) (old : List ℕ) (scopes : Vec Scope Global) (links : Vec ℕ Global) (joins : Vec Join Global) (elements : Vec ℕ Global) → AreWellFormed cells root → IsMidway cells root 0 (record { tables = tables; scopes = scopes.items; links = old; joins = joins.items }) → AreNumbered cells scopes.items (length cells) old (record { links = links.items; elements = elements.items }) → IsResolved cells root (record { scopes = scopes; links = links; joins = joins; elements = elements })
-all_resolved cells root tables old scopes links joins elements formed midway numbered = record {
+pub all_resolved : (cells : List Cell) (root : ℕ) (tables : List Table) (old : List ℕ) (scopes : Vec Scope Global) (links : Vec ℕ Global) (combined : Vec Combined Global) (elements : Vec ℕ Global) → AreWellFormed cells root → IsMidway cells root 0 (record { tables = tables; scopes = scopes.items; links = old; combined = combined.items }) → AreNumbered cells scopes.items (length cells) old (record { links = links.items; elements = elements.items }) → IsResolved cells root (record { scopes = scopes; links = links; combined = combined; elements = elements })
+all_resolved cells root tables old scopes links combined elements formed midway numbered = record {
   all_scopes = midway.all_scopes;
   all_links = numbered.all_links ∙ midway.all_links;
   standing = λ i. (
     λ some. let posted = midway.posted i some in (posted.outers, posted.stands),
     λ standing. standing_known standing.0 i formed midway standing.1,
   );
-  ref_joined = λ outers i name stands at.
-      subst (λ link. IsJoinedIn cells joins.items outers (defined.Name name) link) (sym (numbered.other_links i (cell.ref name) at refl)) (midway.taken outers i (cell.ref name) (omega arith) stands at);
-  parent_ref_joined = λ outers i name stands at.
-      subst (λ link. IsJoinedOutside cells joins.items outers (defined.Name name) link) (sym (numbered.other_links i (cell.parent_ref name) at refl)) (midway.taken outers i (cell.parent_ref name) (omega arith) stands at);
-  start_joined = λ i clauses standing at.
-      subst (λ link. IsJoined cells joins.items i defined.Start link) (sym (numbered.other_links i (cell.grammar clauses) at refl)) (midway.taken standing.0 i (cell.grammar clauses) (omega arith) standing.1 at).0;
-  each_join = midway.each_join;
+  ref_combined = λ outers i name stands at.
+      subst (λ link. IsCombinedIn cells combined.items outers (defined.Name name) link) (sym (numbered.other_links i (cell.ref name) at refl)) (midway.taken outers i (cell.ref name) (omega arith) stands at);
+  parent_ref_combined = λ outers i name stands at.
+      subst (λ link. IsCombinedOutside cells combined.items outers (defined.Name name) link) (sym (numbered.other_links i (cell.parent_ref name) at refl)) (midway.taken outers i (cell.parent_ref name) (omega arith) stands at);
+  start_combined = λ i clauses standing at.
+      subst (λ link. IsCombined cells combined.items i defined.Start link) (sym (numbered.other_links i (cell.grammar clauses) at refl)) (midway.taken standing.0 i (cell.grammar clauses) (omega arith) standing.1 at).0;
+  each_combined = midway.each_combined;
   no_clash = λ i clauses name standing at. (midway.taken standing.0 i (cell.grammar clauses) (omega arith) standing.1 at).1 name;
   numbered = λ i class part standing at. numbered.numbered i class part (slice_get_within cells i (cell.element class part) at) (standing_known standing.0 i formed midway standing.1) at;
   each_number = λ number i there.
@@ -113,9 +113,9 @@ all_resolved cells root tables old scopes links joins elements formed midway num
 }
 
 -- the same of nodes
-pub nodes_resolved : (nodes seen : List Node) (root : ℕ) (tables : List Table) (old : List ℕ) (scopes : Vec Scope Global) (seen_scopes : List Scope) (links : Vec ℕ Global) (joins : Vec Join Global) (elements : Vec ℕ Global) → seen ≡ nodes → seen_scopes ≡ scopes.items → AreWellFormed (map cell_of nodes) root → IsMidway (map cell_of nodes) root 0 (record { tables = tables; scopes = scopes.items; links = old; joins = joins.items }) → AreNumbered (map cell_of seen) seen_scopes (length seen) old (record { links = links.items; elements = elements.items }) → IsResolved (map cell_of nodes) root (record { scopes = scopes; links = links; joins = joins; elements = elements })
-nodes_resolved nodes seen root tables old scopes seen_scopes links joins elements is scopes_are formed midway numbered =
-    all_resolved (map cell_of nodes) root tables old scopes links joins elements formed midway
+pub nodes_resolved : (nodes seen : List Node) (root : ℕ) (tables : List Table) (old : List ℕ) (scopes : Vec Scope Global) (seen_scopes : List Scope) (links : Vec ℕ Global) (combined : Vec Combined Global) (elements : Vec ℕ Global) → seen ≡ nodes → seen_scopes ≡ scopes.items → AreWellFormed (map cell_of nodes) root → IsMidway (map cell_of nodes) root 0 (record { tables = tables; scopes = scopes.items; links = old; combined = combined.items }) → AreNumbered (map cell_of seen) seen_scopes (length seen) old (record { links = links.items; elements = elements.items }) → IsResolved (map cell_of nodes) root (record { scopes = scopes; links = links; combined = combined; elements = elements })
+nodes_resolved nodes seen root tables old scopes seen_scopes links combined elements is scopes_are formed midway numbered =
+    all_resolved (map cell_of nodes) root tables old scopes links combined elements formed midway
     (subst (λ n. AreNumbered (map cell_of nodes) scopes.items n old (record { links = links.items; elements = elements.items })) (sym (length-map nodes cell_of))
     (subst (λ (ss : List Scope). AreNumbered (map cell_of nodes) ss (length nodes) old (record { links = links.items; elements = elements.items })) scopes_are
     (subst (λ (ns : List Node). AreNumbered (map cell_of ns) seen_scopes (length ns) old (record { links = links.items; elements = elements.items })) is numbered)))

@@ -497,7 +497,7 @@ module _ (nodes : List Node) (forms : Forms) (i : ℕ) (n : Node) (within : i < 
       by_fault (fault.NotUtf8 a at) refused = refused
       by_fault (fault.BadUri a) refused = refused
 
--- a join has no type
+-- combined definitions have no type
 pub no_type_set : (nodes : List Node) (forms : Forms) (i : ℕ) (old : List (Option NodeType)) → length nodes ≤ i → IsTypeSet (map cell_of nodes) forms i old old
 no_type_set nodes forms i old past = record {
   length_stays = refl;

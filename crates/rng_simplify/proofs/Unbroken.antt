@@ -5,7 +5,7 @@ use Rattle.std.proofs.lemmas.Option.{none-some, slice_get_past}
 use Rattle.rnc_parse.specs.declared.surface.Defined.{Defined}
 use Rattle.rnc_parse.specs.declared.surface.Defined.TheVariants as defined
 use Rattle.rng_simplify.specs.declared.node.Clause.{Clause}
-use Rattle.rng_simplify.specs.declared.resolve.Join.{Join}
+use Rattle.rng_simplify.specs.declared.resolve.Combined.{Combined}
 use Rattle.rng_simplify.specs.declared.resolve.Resolved.{Resolved}
 use Rattle.rng_simplify.specs.Broken.{Has, IsUndefined, HasNoStart, HasClash, LeadsBack, HasBadExcept, HasXmlnsName, clash}
 use Rattle.rng_simplify.specs.Cells.{Cell}
@@ -19,7 +19,7 @@ use Rattle.rng_simplify.specs.Judging.{AreGood}
 use Rattle.rng_simplify.specs.Places.{Place, place, LeadsTo, to_part, to_definition, to_outer_definition, to_start, LeadsOn, in_one_step, in_more_steps}
 use Rattle.rng_simplify.specs.Standing.{cell_parts, bodies_of, AreWellFormed, Stands, a_part, a_definition, IsStanding, AreScopes}
 use Rattle.rng_simplify.specs.Standing as standing
-use Rattle.rng_simplify.specs.Resolving.{clauses_of, IsJoined, IsJoinedIn, IsJoinedOutside, IsResolved, link_at, cell_leads, join_leads, leads_if, leads, IsOrdered}
+use Rattle.rng_simplify.specs.Resolving.{clauses_of, IsCombined, IsCombinedIn, IsCombinedOutside, IsResolved, link_at, cell_leads, combined_leads, leads_if, leads, IsOrdered}
 use Rattle.rng_simplify.specs.Walking.{is_linked}
 use Rattle.rng_simplify.proofs.Nodes.{in_none, in_first, in_more, in_cases, PartHasNode, part_has_node, node_of, HasNode}
 use Rattle.rng_simplify.proofs.Posts.{innermost_stands, one_grammar}
@@ -72,25 +72,25 @@ undefined_none name (next_denoted {clause = clause} {more = more} {rest = rest} 
 
 module _ (cells : List Cell) (root : ℕ) (found : Resolved) (formed : AreWellFormed cells root) (resolved : IsResolved cells root found) (number : ℕ → ℕ) (whole : Composed) (denotes : Denotes cells number root whole) where
   -- a joined name is defined
-  joined_defined : (grammar : ℕ) (clauses : List Clause) (all : Clauses) (name : Defined) (n : ℕ) → IsCell cells grammar (cell.grammar clauses) → DenoteAll cells number clauses all → IsJoined cells found.joins.items grammar name n → defines name all ≡ false → ⊥
+  joined_defined : (grammar : ℕ) (clauses : List Clause) (all : Clauses) (name : Defined) (n : ℕ) → IsCell cells grammar (cell.grammar clauses) → DenoteAll cells number clauses all → IsCombined cells found.combined.items grammar name n → defines name all ≡ false → ⊥
   joined_defined grammar clauses all name n at denoted h none =
       h.is_defined (ap (clauses_of name) (one_grammar cells grammar h.clauses clauses h.is_grammar at) ∙ undefined_none name denoted none)
 
-  ref_defined : (outers : List ℕ) (scopes : List Clauses) (name : List ℕ) (n : ℕ) → AreScopes cells number outers scopes → IsJoinedIn cells found.joins.items outers (defined.Name name) n → IsUndefined scopes (composed.ref name) → ⊥
+  ref_defined : (outers : List ℕ) (scopes : List Clauses) (name : List ℕ) (n : ℕ) → AreScopes cells number outers scopes → IsCombinedIn cells found.combined.items outers (defined.Name name) n → IsUndefined scopes (composed.ref name) → ⊥
   ref_defined outers scopes name n standing.no_scopes h none = h
   ref_defined outers scopes name n (standing.further_scope {i = grammar} {clauses = clauses} {all = all} at denoted more) h none = joined_defined grammar clauses all (defined.Name name) n at denoted h none
 
-  around_defined : (outers : List ℕ) (scopes : List Clauses) (inner : Clauses) (name : List ℕ) (n : ℕ) → AreScopes cells number outers scopes → IsJoinedIn cells found.joins.items outers (defined.Name name) n → IsUndefined (inner ∷ scopes) (composed.parent_ref name) → ⊥
+  around_defined : (outers : List ℕ) (scopes : List Clauses) (inner : Clauses) (name : List ℕ) (n : ℕ) → AreScopes cells number outers scopes → IsCombinedIn cells found.combined.items outers (defined.Name name) n → IsUndefined (inner ∷ scopes) (composed.parent_ref name) → ⊥
   around_defined outers scopes inner name n standing.no_scopes h none = h
   around_defined outers scopes inner name n (standing.further_scope {i = grammar} {clauses = clauses} {all = all} at denoted more) h none = joined_defined grammar clauses all (defined.Name name) n at denoted h none
 
-  parent_ref_defined : (outers : List ℕ) (scopes : List Clauses) (name : List ℕ) (n : ℕ) → AreScopes cells number outers scopes → IsJoinedOutside cells found.joins.items outers (defined.Name name) n → IsUndefined scopes (composed.parent_ref name) → ⊥
+  parent_ref_defined : (outers : List ℕ) (scopes : List Clauses) (name : List ℕ) (n : ℕ) → AreScopes cells number outers scopes → IsCombinedOutside cells found.combined.items outers (defined.Name name) n → IsUndefined scopes (composed.parent_ref name) → ⊥
   parent_ref_defined outers scopes name n standing.no_scopes h none = h
   parent_ref_defined outers scopes name n (standing.further_scope {all = all} {outers = rest} {scopes = further} at denoted more) h none = around_defined rest further all name n more h none
 
   undefined_at : (scopes : List Clauses) (p : Composed) → HasNode cells number root (place scopes p) → IsUndefined scopes p → ⊥
-  undefined_at scopes (composed.ref name) h none = ref_defined h.outers scopes name (link_at found h.node) h.are_scopes (resolved.ref_joined h.outers h.node name h.stands (cell_of_pattern h.denotes)) none
-  undefined_at scopes (composed.parent_ref name) h none = parent_ref_defined h.outers scopes name (link_at found h.node) h.are_scopes (resolved.parent_ref_joined h.outers h.node name h.stands (cell_of_pattern h.denotes)) none
+  undefined_at scopes (composed.ref name) h none = ref_defined h.outers scopes name (link_at found h.node) h.are_scopes (resolved.ref_combined h.outers h.node name h.stands (cell_of_pattern h.denotes)) none
+  undefined_at scopes (composed.parent_ref name) h none = parent_ref_defined h.outers scopes name (link_at found h.node) h.are_scopes (resolved.parent_ref_combined h.outers h.node name h.stands (cell_of_pattern h.denotes)) none
   undefined_at [] p h none = absurd none
   undefined_at (scope ∷ []) p h none = absurd none
   undefined_at (scope ∷ other ∷ scopes) p h none = absurd none
@@ -101,7 +101,7 @@ module _ (cells : List Cell) (root : ℕ) (found : Resolved) (formed : AreWellFo
   start_at : (scopes : List Clauses) (p : Composed) → HasNode cells number root (place scopes p) → HasNoStart scopes p → ⊥
   start_at scopes (composed.grammar all) h none =
       let grammar = cell_of_pattern h.denotes in
-      joined_defined h.node grammar.0 all defined.Start (link_at found h.node) grammar.1 grammar.2 (resolved.start_joined h.node grammar.0 (h.outers, h.stands) grammar.1) none
+      joined_defined h.node grammar.0 all defined.Start (link_at found h.node) grammar.1 grammar.2 (resolved.start_combined h.node grammar.0 (h.outers, h.stands) grammar.1) none
   start_at scopes p h none = absurd none
 
   pub none_without_start : Has whole HasNoStart → ⊥
@@ -218,15 +218,15 @@ module _ (cells : List Cell) (root : ℕ) (found : Resolved) (formed : AreWellFo
       let taken = taken_place order n place.0 j place.1 in
       record { earlier = place.0; before = taken.0; there = taken.1 }
 
-  -- the bodies of a join
-  body_lead : (n : ℕ) (join : Join) (j : ℕ) → slice_get found.joins.items n ≡ Some join → Contains join.bodies.items j → Contains (leads cells found (length cells + n)) j
+  -- the bodies of combined definitions
+  body_lead : (n : ℕ) (join : Combined) (j : ℕ) → slice_get found.combined.items n ≡ Some join → Contains join.bodies.items j → Contains (leads cells found (length cells + n)) j
   body_lead n join j at among =
       let past : slice_get cells (length cells + n) ≡ None = slice_get_past cells (length cells + n) (omega arith) in
       let same : length cells + n - length cells ≡ n = omega arith in
-      subst (λ (all : List ℕ). Contains all j) (sym (ap (leads_if cells found (length cells + n)) past ∙ ap (λ m. join_leads (slice_get found.joins.items m)) same ∙ ap join_leads at)) among
+      subst (λ (all : List ℕ). Contains all j) (sym (ap (leads_if cells found (length cells + n)) past ∙ ap (λ m. combined_leads (slice_get found.combined.items m)) same ∙ ap combined_leads at)) among
 
-  -- what is defined under a name, by way of its join
-  defined_before : (n x : ℕ) (c : Cell) (grammar : ℕ) (rest : List ℕ) (clauses : List Clause) (all : Clauses) (scopes : List Clauses) (name : Defined) (q : Composed) → slice_get order n ≡ Some x → IsCell cells x c → is_linked c ≡ true → Stands cells root rest grammar → IsCell cells grammar (cell.grammar clauses) → DenoteAll cells number clauses all → AreScopes cells number rest scopes → IsJoined cells found.joins.items grammar name (link_at found x) → Contains (bodies (defining name all)) q → IsPlacedBefore (place (all ∷ scopes) q) n
+  -- what is defined under a name, by way of its combined definitions
+  defined_before : (n x : ℕ) (c : Cell) (grammar : ℕ) (rest : List ℕ) (clauses : List Clause) (all : Clauses) (scopes : List Clauses) (name : Defined) (q : Composed) → slice_get order n ≡ Some x → IsCell cells x c → is_linked c ≡ true → Stands cells root rest grammar → IsCell cells grammar (cell.grammar clauses) → DenoteAll cells number clauses all → AreScopes cells number rest scopes → IsCombined cells found.combined.items grammar name (link_at found x) → Contains (bodies (defining name all)) q → IsPlacedBefore (place (all ∷ scopes) q) n
   defined_before n x c grammar rest clauses all scopes name q at at_x linked stands at_grammar denoted are h among =
       let join_led : Contains (leads cells found x) (length cells + link_at found x) = subst (λ (js : List ℕ). Contains js (length cells + link_at found x)) (sym (ap (leads_if cells found x) at_x ∙ linked_leads (length cells) (link_at found x) c linked)) (in_first (length cells + link_at found x) []) in
       let join_there = comes_earlier n x (length cells + link_at found x) at join_led in
@@ -262,17 +262,17 @@ module _ (cells : List Cell) (root : ℕ) (found : Resolved) (formed : AreWellFo
       let by = outers_by h.node.are_scopes in
       let stands = subst (λ outers. Stands cells root outers h.node.node) by.6 h.node.stands in
       let at = cell_of_pattern h.node.denotes in
-      defined_before n h.node.node (cell.ref name) by.0 by.1 by.2 all scopes (defined.Name name) q h.there at refl (innermost_stands stands).stands by.3 by.4 by.5 (resolved.ref_joined (by.0 ∷ by.1) h.node.node name stands at) within
+      defined_before n h.node.node (cell.ref name) by.0 by.1 by.2 all scopes (defined.Name name) q h.there at refl (innermost_stands stands).stands by.3 by.4 by.5 (resolved.ref_combined (by.0 ∷ by.1) h.node.node name stands at) within
   step_before n h (to_outer_definition {inner = inner} {scope = all} {outer = scopes} {name = name} {p = q} within) =
       let around = outers_by h.node.are_scopes in
       let by = outers_by around.5 in
       let outers_are : h.node.outers ≡ around.0 ∷ by.0 ∷ by.1 = around.6 ∙ ap (λ os. around.0 ∷ os) by.6 in
       let stands = subst (λ outers. Stands cells root outers h.node.node) outers_are h.node.stands in
       let at = cell_of_pattern h.node.denotes in
-      defined_before n h.node.node (cell.parent_ref name) by.0 by.1 by.2 all scopes (defined.Name name) q h.there at refl (innermost_stands (innermost_stands stands).stands).stands by.3 by.4 by.5 (resolved.parent_ref_joined (around.0 ∷ by.0 ∷ by.1) h.node.node name stands at) within
+      defined_before n h.node.node (cell.parent_ref name) by.0 by.1 by.2 all scopes (defined.Name name) q h.there at refl (innermost_stands (innermost_stands stands).stands).stands by.3 by.4 by.5 (resolved.parent_ref_combined (around.0 ∷ by.0 ∷ by.1) h.node.node name stands at) within
   step_before n h (to_start {scopes = scopes} {clauses = all} {p = q} within) =
       let grammar = cell_of_pattern h.node.denotes in
-      defined_before n h.node.node (cell.grammar grammar.0) h.node.node h.node.outers grammar.0 all scopes defined.Start q h.there grammar.1 refl h.node.stands grammar.1 grammar.2 h.node.are_scopes (resolved.start_joined h.node.node grammar.0 (h.node.outers, h.node.stands) grammar.1) within
+      defined_before n h.node.node (cell.grammar grammar.0) h.node.node h.node.outers grammar.0 all scopes defined.Start q h.there grammar.1 refl h.node.stands grammar.1 grammar.2 h.node.are_scopes (resolved.start_combined h.node.node grammar.0 (h.node.outers, h.node.stands) grammar.1) within
 
   steps_before : {from to : Place} (n : ℕ) → IsPlacedAt from n → LeadsOn from to → IsPlacedBefore to n
   steps_before n h (in_one_step led) = step_before n h led

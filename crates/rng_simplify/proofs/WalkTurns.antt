@@ -12,7 +12,7 @@ use Rattle.rng_simplify.specs.declared.fault.SchemaFault.TheVariants.{NoMemory, 
 use Rattle.rng_simplify.specs.declared.order.Mark.{Mark}
 use Rattle.rng_simplify.specs.declared.order.Mark.TheVariants.{New, Open, Done}
 use Rattle.rng_simplify.specs.declared.order.Step.{Step}
-use Rattle.rng_simplify.specs.declared.resolve.Join.{Join}
+use Rattle.rng_simplify.specs.declared.resolve.Combined.{Combined}
 use Rattle.rng_simplify.specs.declared.resolve.Resolved.{Resolved}
 use Rattle.rng_simplify.specs.declared.resolve.Scope.{Scope}
 use Rattle.rng_simplify.specs.declared.resolve.Scope.TheVariants.{Nowhere}
@@ -21,7 +21,7 @@ use Rattle.rng_simplify.specs.declared.node.Node.{Node}
 use Rattle.rng_simplify.specs.Cells.{Cell, cell_of}
 use Rattle.rng_simplify.specs.Cells as cell
 use Rattle.rng_simplify.specs.Standing.{cell_parts, AreWellFormed, IsStanding}
-use Rattle.rng_simplify.specs.Resolving.{IsResolved, link_at, cell_leads, join_leads, leads_if, leads, IsOrdered, scope_at}
+use Rattle.rng_simplify.specs.Resolving.{IsResolved, link_at, cell_leads, combined_leads, leads_if, leads, IsOrdered, scope_at}
 use Rattle.rng_simplify.specs.Walking.{IsMet, is_linked, Walking, mark_at, step_of, with_step, left, Meets, AreSteps, path_of, IsWalk, KeepsMarks, most, IsTurned, IsGone, IsPassed}
 use Rattle.rng_simplify.proofs.Nodes.{in_none, in_cases, cell_there}
 use Rattle.rng_simplify.proofs.Posts.{stands_within}
@@ -48,14 +48,14 @@ distinct_by_place (x ∷ xs) once = (
 
 -- ---- few are led to
 
-each_in_sum : (joins : List Join) (n : ℕ) (join : Join) → slice_get joins n ≡ Some join → length join.bodies.items ≤ sum_by (λ (j : Join). length j.bodies.items) joins
+each_in_sum : (combined : List Combined) (n : ℕ) (join : Combined) → slice_get combined n ≡ Some join → length join.bodies.items ≤ sum_by (λ (j : Combined). length j.bodies.items) combined
 each_in_sum [] n join at = absurd (none-some join at)
-each_in_sum (first ∷ joins) zero join at =
-    let same : length first.bodies.items ≡ length join.bodies.items = ap (λ (j : Join). length j.bodies.items) (same_Some first join at) in
-    omega (arith, same, sum_by-cons (λ (j : Join). length j.bodies.items) first joins)
-each_in_sum (first ∷ joins) (suc n) join at =
-    let rest = each_in_sum joins n join at in
-    omega (arith, rest, sum_by-cons (λ (j : Join). length j.bodies.items) first joins)
+each_in_sum (first ∷ combined) zero join at =
+    let same : length first.bodies.items ≡ length join.bodies.items = ap (λ (j : Combined). length j.bodies.items) (same_Some first join at) in
+    omega (arith, same, sum_by-cons (λ (j : Combined). length j.bodies.items) first combined)
+each_in_sum (first ∷ combined) (suc n) join at =
+    let rest = each_in_sum combined n join at in
+    omega (arith, rest, sum_by-cons (λ (j : Combined). length j.bodies.items) first combined)
 
 few_parts : (c : Cell) → length (cell_parts c) ≤ 2
 few_parts (cell.element class part) = omega arith
@@ -81,9 +81,9 @@ few_leads count link c false is =
     let less = few_parts c in
     omega (arith, same, less)
 
-few_of_join : (found : Resolved) (n : ℕ) (join : Option Join) → slice_get found.joins.items n ≡ join → length (join_leads join) + 1 < most found
+few_of_join : (found : Resolved) (n : ℕ) (join : Option Combined) → slice_get found.combined.items n ≡ join → length (combined_leads join) + 1 < most found
 few_of_join found n (Some join) at =
-    let less = each_in_sum found.joins.items n join at in
+    let less = each_in_sum found.combined.items n join at in
     omega (arith, less)
 few_of_join found n None at = omega arith
 
@@ -91,13 +91,13 @@ few_if : (cells : List Cell) (found : Resolved) (x : ℕ) (c : Option Cell) → 
 few_if cells found x (Some c) =
     let less = few_leads (length cells) (link_at found x) c (is_linked c) refl in
     omega (arith, less)
-few_if cells found x None = few_of_join found (x - length cells) (slice_get found.joins.items (x - length cells)) refl
+few_if cells found x None = few_of_join found (x - length cells) (slice_get found.combined.items (x - length cells)) refl
 
 module _ (cells : List Cell) (root : ℕ) (found : Resolved) where
   few : (x : ℕ) → length (leads cells found x) + 1 < most found
   few x = few_if cells found x (slice_get cells x)
 
-  pub met_within : (x : ℕ) → AreWellFormed cells root → IsMet cells root found x → x < length cells + length found.joins.items
+  pub met_within : (x : ℕ) → AreWellFormed cells root → IsMet cells root found x → x < length cells + length found.combined.items
   met_within x formed (inl (outers, stands)) =
       let lt = stands_within formed stands in
       omega (arith, lt)
@@ -239,10 +239,10 @@ module _ (cells : List Cell) (root : ℕ) (found : Resolved) where
   by_mark_done now i h rest met Open is = absurd (none_open now i h rest is)
   by_mark_done now i h rest met Done is = h.done i is
 
-  pub all_ordered : (now : Walking) → IsWalk cells root found None now → now.path ≡ [] → ((i : ℕ) → IsStanding cells root i → mark_at now i ≢ New) → ((number : ℕ) → number < length found.joins.items → mark_at now (length cells + number) ≢ New) → IsOrdered cells root found now.order
-  all_ordered now h rest nodes joins = record {
+  pub all_ordered : (now : Walking) → IsWalk cells root found None now → now.path ≡ [] → ((i : ℕ) → IsStanding cells root i → mark_at now i ≢ New) → ((number : ℕ) → number < length found.combined.items → mark_at now (length cells + number) ≢ New) → IsOrdered cells root found now.order
+  all_ordered now h rest nodes combined = record {
     each_node = λ i standing. by_mark_done now i h rest (nodes i standing) (mark_at now i) refl;
-    each_join = λ number lt. by_mark_done now (length cells + number) h rest (joins number lt) (mark_at now (length cells + number)) refl;
+    each_combined = λ number lt. by_mark_done now (length cells + number) h rest (combined number lt) (mark_at now (length cells + number)) refl;
     nothing_else = λ i among. (h.ordered i among).1;
     distinct = distinct_by_place now.order h.once;
     behind = h.behind;
@@ -250,7 +250,7 @@ module _ (cells : List Cell) (root : ℕ) (found : Resolved) where
 
   -- ---- before the first node
 
-  pub new_at_first : (now : Walking) → length now.marks ≡ length cells + length found.joins.items → ((i : ℕ) → mark_at now i ≡ New) → now.path ≡ [] → now.order ≡ [] → IsWalk cells root found None now
+  pub new_at_first : (now : Walking) → length now.marks ≡ length cells + length found.combined.items → ((i : ℕ) → mark_at now i ≡ New) → now.path ≡ [] → now.order ≡ [] → IsWalk cells root found None now
   new_at_first now long new path order =
       let empty : (i : ℕ) → Contains now.order i → ⊥ = λ i among. in_none (subst (λ (xs : List ℕ). Contains xs i) order among) in
       let nothing : (k i : ℕ) → slice_get now.order k ≡ Some i → ⊥ = λ k i at. empty i (in_by_place now.order k i at) in
@@ -267,7 +267,7 @@ module _ (cells : List Cell) (root : ℕ) (found : Resolved) where
         behind = λ k i j at among. absurd (nothing k i at);
       }
 
--- ---- what a node or a join leads to, as the program finds it
+-- ---- what a node or combined definitions lead to, as the program finds it
 
 pub leads_linked : (nodes : List Node) (found : Resolved) (x link k : ℕ) (node : Node) → x < length nodes → node ≡ get_or nodes x node → is_linked (cell_of node) ≡ true → link ≡ get_or found.links.items x 0 → (it : ℕ) → it ≡ length nodes + link → slice_get (it ∷ []) k ≡ slice_get (leads (map cell_of nodes) found x) k
 leads_linked nodes found x link k node lt is linked link_is it it_is =
@@ -280,23 +280,23 @@ leads_parts nodes found x k node lt is linked =
     sym (ap (λ (all : List ℕ). slice_get all k) (unlinked_leads (length (map cell_of nodes)) (link_at found x) (cell_of node) linked))
     ∙ sym (ap (λ (c : Option Cell). slice_get (leads_if (map cell_of nodes) found x c) k) (cell_there nodes x node lt is))
 
-pub leads_bodies : (nodes : List Node) (found : Resolved) (x n k : ℕ) (join : Join) → length nodes ≤ x → n ≡ x - length nodes → n < length found.joins.items → join ≡ get_or found.joins.items n join → slice_get join.bodies.items k ≡ slice_get (leads (map cell_of nodes) found x) k
+pub leads_bodies : (nodes : List Node) (found : Resolved) (x n k : ℕ) (join : Combined) → length nodes ≤ x → n ≡ x - length nodes → n < length found.combined.items → join ≡ get_or found.combined.items n join → slice_get join.bodies.items k ≡ slice_get (leads (map cell_of nodes) found x) k
 leads_bodies nodes found x n k join past n_is lt is =
     let none : slice_get (map cell_of nodes) x ≡ None = slice_get_past (map cell_of nodes) x (omega (arith, past, length-map nodes cell_of)) in
     let number : n ≡ x - length (map cell_of nodes) = omega (arith, n_is, length-map nodes cell_of) in
     sym (
     ap (λ (c : Option Cell). slice_get (leads_if (map cell_of nodes) found x c) k) none
-    ∙ ap (λ m. slice_get (join_leads (slice_get found.joins.items m)) k) (sym number)
-    ∙ ap (λ (j : Option Join). slice_get (join_leads j) k) (slice_get_read found.joins.items (length found.joins.items) n join refl lt is)
+    ∙ ap (λ m. slice_get (combined_leads (slice_get found.combined.items m)) k) (sym number)
+    ∙ ap (λ (j : Option Combined). slice_get (combined_leads j) k) (slice_get_read found.combined.items (length found.combined.items) n join refl lt is)
     )
 
--- a link of a node that stands in the schema is a join's number
-pub link_fits : (nodes : List Node) (root : ℕ) (found : Resolved) (x : ℕ) (node : Node) → AreWellFormed (map cell_of nodes) root → IsResolved (map cell_of nodes) root found → IsMet (map cell_of nodes) root found x → x < length nodes → node ≡ get_or nodes x node → is_linked (cell_of node) ≡ true → get_or found.links.items x 0 < length found.joins.items
+-- a link of a node that stands in the schema is the number of combined definitions
+pub link_fits : (nodes : List Node) (root : ℕ) (found : Resolved) (x : ℕ) (node : Node) → AreWellFormed (map cell_of nodes) root → IsResolved (map cell_of nodes) root found → IsMet (map cell_of nodes) root found x → x < length nodes → node ≡ get_or nodes x node → is_linked (cell_of node) ≡ true → get_or found.links.items x 0 < length found.combined.items
 link_fits nodes root found x node formed resolved (inl (outers, stands)) lt is linked = link_within (map cell_of nodes) root found outers x (cell_of node) resolved stands (cell_there nodes x node lt is) linked
 link_fits nodes root found x node formed resolved (inr (n, within, at)) lt is linked = absurd (omega (arith, at, lt, length-map nodes cell_of))
 
--- what is met behind the nodes is a join
-pub join_there : (nodes : List Node) (root : ℕ) (found : Resolved) (x : ℕ) → AreWellFormed (map cell_of nodes) root → IsMet (map cell_of nodes) root found x → length nodes ≤ x → x - length nodes < length found.joins.items
+-- what is met behind the nodes are combined definitions
+pub join_there : (nodes : List Node) (root : ℕ) (found : Resolved) (x : ℕ) → AreWellFormed (map cell_of nodes) root → IsMet (map cell_of nodes) root found x → length nodes ≤ x → x - length nodes < length found.combined.items
 join_there nodes root found x formed (inl (outers, stands)) past =
     let lt = stands_within formed stands in
     absurd (omega (arith, lt, past, length-map nodes cell_of))
@@ -322,9 +322,9 @@ pub gone_passed : {A : Type 0} (cells : List Cell) (root : ℕ) (found : Resolve
 gone_passed cells root found i old new (Ok done) h = record { is_walk = h.is_walk; at_rest = h.at_rest; keeps = h.keeps; met = λ standing. h.met }
 gone_passed cells root found i old new (Err fault) h = h
 
--- ---- all nodes and joins
+-- ---- all nodes and combined definitions
 
-pub nodes_ordered : (nodes : List Node) (root : ℕ) (found : Resolved) (mid now : Walking) → ((i : ℕ) → IsStanding (map cell_of nodes) root i → mark_at mid i ≢ New) → IsWalk (map cell_of nodes) root found None now → now.path ≡ [] → KeepsMarks mid now → ((number : ℕ) → number < length found.joins.items → mark_at now (length nodes + number) ≢ New) → IsOrdered (map cell_of nodes) root found now.order
+pub nodes_ordered : (nodes : List Node) (root : ℕ) (found : Resolved) (mid now : Walking) → ((i : ℕ) → IsStanding (map cell_of nodes) root i → mark_at mid i ≢ New) → IsWalk (map cell_of nodes) root found None now → now.path ≡ [] → KeepsMarks mid now → ((number : ℕ) → number < length found.combined.items → mark_at now (length nodes + number) ≢ New) → IsOrdered (map cell_of nodes) root found now.order
 nodes_ordered nodes root found mid now nodes_met h rest keeps joins_met =
     all_ordered (map cell_of nodes) root found now h rest (λ i standing. keeps i (nodes_met i standing))
     (λ number lt. subst (λ n. mark_at now (n + number) ≢ New) (sym (length-map nodes cell_of)) (joins_met number lt))

@@ -1,4 +1,4 @@
--- A walk over nodes and joins, with one more turn.
+-- A walk over nodes and combined definitions, with one more turn.
 use Rattle.std.proofs.Common.{◌≡◌, ◌≢◌, refl, sym, ap, ◌∙◌, subst, ℕ, zero, suc, ◌+◌, ◌*◌, ◌<◌, ◌≤◌, inl, inr, cond, List, [], ◌∷◌, ◌++◌, length, set, get_or, take, sum_by, count_by, slice_get, Option, Some, None, Contains, arith}
 use Rattle.std.proofs.lemmas.Option.{same_Some, none-some, slice_get_within, slice_get-get_or}
 use Rattle.std.proofs.lemmas.Bool.{cases_eq}

@@ -1,5 +1,5 @@
 -- The chain of files that leads to the next one, while files are loaded.
-use Rattle.std.specs.Prelude.{◌≡◌, ℕ, List, [], ◌∷◌, ◌++◌, Option, Result, Ok, Err, IsUtf8, reverse, map, Contains, Vec}
+use Rattle.std.specs.Prelude.{◌≡◌, ℕ, List, [], ◌∷◌, ◌++◌, Option, Result, Ok, Err, IsUtf8, reverse, map, Contains, Vec, true, is_some}
 use Rattle.std.specs.declared.alloc.Global.{Global}
 use Rattle.std.specs.List.{AllByRecursion}
 use Rattle.nx_base.specs.declared.cause.Cause.TheVariants.{IncludeLoop}
@@ -13,7 +13,9 @@ use Rattle.rng_simplify.specs.declared.fault.SchemaFault.TheVariants.{BadUri, No
 use Rattle.rng_simplify.specs.declared.load.Link.{Link}
 use Rattle.rng_simplify.specs.declared.load.Loaded.{Loaded}
 use Rattle.rng_simplify.specs.declared.mention.Mention.{Mention as Kept}
+use Rattle.rng_simplify.specs.declared.names.Names.{Names}
 use Rattle.rng_simplify.specs.Composing.{Context, Says}
+use Rattle.rng_simplify.specs.Keeping.{kept_named}
 use Rattle.rng_simplify.specs.Loading.{Waiting, waiting_in, AreRead, AllLoaded, ReadsFile}
 use Rattle.rng_simplify.specs.Mentioning.{kept_of_all, AreTextMentions}
 use Rattle.rng_simplify.specs.References.{Mention, Mentions, mentions_of}
@@ -50,6 +52,10 @@ IsTextLink link = IsUtf8 link.uri × AreTextMentions (reverse link.waiting.items
 
 abbrev pub AreTextLinks : List Link → Type 0
 AreTextLinks links = AllByRecursion IsTextLink links
+
+-- each file of the chain is among those that were opened
+abbrev pub AreOpened : Names (Unit {0}) → List Link → Type 0
+AreOpened opened links = AllByRecursion (λ (link : Link). is_some (kept_named opened link.uri) ≡ true) links
 
 -- a file that was read is put on the chain, and behind those that are loaded
 pub record IsAdded (uri inherited : List ℕ) (surface : Surface) (old_links new_links : List Link)

@@ -1,4 +1,4 @@
--- Of what the forms of nodes and joins are made: each of the forms of what it leads to.
+-- Of what the forms of nodes and combined definitions are made: each of the forms of what it leads to.
 use Rattle.std.specs.Prelude.{◌≡◌, ℕ, ◌+◌, ◌<◌, List, [], ◌∷◌, ◌++◌, length, map, slice_get, slice_set, slice_index, Some, Result, Ok, Err, Contains}
 use Rattle.rnc_parse.specs.declared.surface.Combine.{Combine}
 use Rattle.rnc_parse.specs.declared.surface.TypeName.{TypeName}
@@ -9,7 +9,7 @@ use Rattle.rng_simplify.specs.declared.fault.SchemaFault.{SchemaFault}
 use Rattle.rng_simplify.specs.declared.fault.SchemaFault.TheVariants as fault
 use Rattle.rng_simplify.specs.declared.form.Forms.{Forms}
 use Rattle.rng_simplify.specs.declared.node.Sign.{Sign}
-use Rattle.rng_simplify.specs.declared.resolve.Join.{Join}
+use Rattle.rng_simplify.specs.declared.resolve.Combined.{Combined}
 use Rattle.rng_simplify.specs.declared.resolve.Resolved.{Resolved}
 use Rattle.rng_simplify.specs.declared.shape.Shape.{Shape}
 use Rattle.rng_simplify.specs.Cells.{Cell}
@@ -20,9 +20,9 @@ use Rattle.rng_simplify.specs.Forms as form
 use Rattle.rng_simplify.specs.Resolving.{link_at, leads}
 use Rattle.rng_simplify.specs.Shown.{joined_of, form_at, AreOfSchema}
 
--- ---- forms of cells and joins
+-- ---- forms of cells and combined definitions
 
--- that of a cell by those of what it leads to, where joins have the numbers from `count` on and these values are taken from
+-- that of a cell by those of what it leads to, where combined definitions have the places from `count` on and these values are taken from
 -- its type
 abbrev pub cell_form : (ℕ → Form) → ℕ → ℕ → List Value → Cell → Form
 cell_form at count link values (cell.element class part) = form.ref link
@@ -43,13 +43,13 @@ abbrev pub bodies_form : Combine → List Form → Form
 bodies_form combine [] = form.not_allowed
 bodies_form combine (first ∷ more) = joined (join_of combine) first more
 
--- that of a join by those of its bodies
-abbrev pub join_form : (ℕ → Form) → Join → Form
-join_form at join = bodies_form join.combine (map at join.bodies.items)
+-- that of combined definitions by those of their bodies
+abbrev pub combined_form : (ℕ → Form) → Combined → Form
+combined_form at join = bodies_form join.combine (map at join.bodies.items)
 
 -- ---- forms by numbers
 
--- the form that the shape of a node or a join shows
+-- the form that the shape of a node or of combined definitions shows
 abbrev pub form_in : List Cell → (ℕ → List Value) → List Shape → List ℕ → ℕ → Form
 form_in cells taken shapes of i = form_at cells taken shapes (slice_index of i)
 
@@ -67,9 +67,9 @@ pub record IsBefore (order : List ℕ) (end i : ℕ) : Type 0 where
   pub before : place < end
   pub there : slice_get order place ≡ Some i
 
--- an order in which each node or join stands behind those to which it leads
+-- an order in which each node stands behind those to which it leads, and combined definitions alike
 pub record IsInOrder (cells : List Cell) (found : Resolved) (order : List ℕ) : Type 0 where
-  pub within : (place i : ℕ) → slice_get order place ≡ Some i → i < length cells + length found.joins.items
+  pub within : (place i : ℕ) → slice_get order place ≡ Some i → i < length cells + length found.combined.items
   pub all_links : length found.links.items ≡ length cells
   pub numbered : (place i : ℕ) (class : Class) (part : ℕ) → slice_get order place ≡ Some i → IsCell cells i (cell.element class part) →
       link_at found i < length found.elements.items
@@ -80,15 +80,15 @@ pub record IsInOrder (cells : List Cell) (found : Resolved) (order : List ℕ) :
 pub record AreAlike (cells others : List Cell) (order : List ℕ) (end : ℕ) : Type 0 where
   pub alike : (i : ℕ) (c : Cell) → IsBefore order end i → IsCell cells i c → IsCell others i c
 
--- the nodes and joins in front of this place have their forms
+-- the nodes and combined definitions in front of this place have their forms
 pub record AreFormed (cells : List Cell) (found : Resolved) (order : List ℕ) (end : ℕ) (forms : Forms) : Type 0 where
-  pub all : length forms.of.items ≡ length cells + length found.joins.items
+  pub all : length forms.of.items ≡ length cells + length found.combined.items
   pub known : (i : ℕ) → IsBefore order end i → IsKnown forms.shapes forms.of.items i
   pub node_is : (i : ℕ) (c : Cell) (taken : ℕ → List Value) → IsBefore order end i → IsCell cells i c →
       form_of cells taken forms i ≡ cell_form (form_of cells taken forms) (length cells) (link_at found i) (taken i) c
-  pub join_is : (number : ℕ) (join : Join) (taken : ℕ → List Value) → IsBefore order end (length cells + number) →
-      slice_get found.joins.items number ≡ Some join →
-      form_of cells taken forms (length cells + number) ≡ join_form (form_of cells taken forms) join
+  pub join_is : (number : ℕ) (join : Combined) (taken : ℕ → List Value) → IsBefore order end (length cells + number) →
+      slice_get found.combined.items number ≡ Some join →
+      form_of cells taken forms (length cells + number) ≡ combined_form (form_of cells taken forms) join
   -- their shapes are of nodes in front of the place alone
   pub of_schema : (others : List Cell) → AreAlike cells others order end → AreOfSchema others (length found.elements.items) forms.shapes
 
@@ -130,7 +130,7 @@ MakesCell old new of count i link c (Err fault.NoMemory) = Unit {0}
 MakesCell old new of count i link c (Err other) = ⊥
 
 -- and so of definitions that are joined
-pub record IsJoinMade (old new : List Shape) (of : List ℕ) (combine : Combine) (bodies : List ℕ) (number : ℕ) : Type 0 where
+pub record IsCombinedMade (old new : List Shape) (of : List ℕ) (combine : Combine) (bodies : List ℕ) (number : ℕ) : Type 0 where
   pub more : List Shape
   pub grows : new ≡ old ++ more
   pub within : number < length new
@@ -138,10 +138,10 @@ pub record IsJoinMade (old new : List Shape) (of : List ℕ) (combine : Combine)
       form_at cells taken new number ≡ bodies_form combine (map (form_in cells taken old of) bodies)
   pub kept : (cells : List Cell) (elements : ℕ) → AreOfSchema cells elements old → AreOfSchema cells elements new
 
-abbrev pub MakesJoin : List Shape → List Shape → List ℕ → Combine → List ℕ → Result ℕ SchemaFault → Type 0
-MakesJoin old new of combine bodies (Ok number) = IsJoinMade old new of combine bodies number
-MakesJoin old new of combine bodies (Err fault.NoMemory) = Unit {0}
-MakesJoin old new of combine bodies (Err other) = ⊥
+abbrev pub MakesCombined : List Shape → List Shape → List ℕ → Combine → List ℕ → Result ℕ SchemaFault → Type 0
+MakesCombined old new of combine bodies (Ok number) = IsCombinedMade old new of combine bodies number
+MakesCombined old new of combine bodies (Err fault.NoMemory) = Unit {0}
+MakesCombined old new of combine bodies (Err other) = ⊥
 
 -- and so of a form with those of others joined to it, one by one
 pub record AreAllJoined (old new : List Shape) (of : List ℕ) (by : Sign) (first : ℕ) (others : List ℕ) (number : ℕ) : Type 0 where
@@ -157,15 +157,15 @@ JoinsAll old new of by first others (Ok number) = AreAllJoined old new of by fir
 JoinsAll old new of by first others (Err fault.NoMemory) = Unit {0}
 JoinsAll old new of by first others (Err other) = ⊥
 
--- and so of a node or a join by its number
+-- and so of a node or combined definitions by their place
 pub record IsMade (cells : List Cell) (found : Resolved) (i : ℕ) (old new : List Shape) (of : List ℕ) (number : ℕ) : Type 0 where
   pub more : List Shape
   pub grows : new ≡ old ++ more
   pub within : number < length new
   pub node_is : (c : Cell) (taken : ℕ → List Value) → IsCell cells i c →
       form_at cells taken new number ≡ cell_form (form_in cells taken old of) (length cells) (link_at found i) (taken i) c
-  pub join_is : (n : ℕ) (join : Join) (taken : ℕ → List Value) → i ≡ length cells + n → slice_get found.joins.items n ≡ Some join →
-      form_at cells taken new number ≡ join_form (form_in cells taken old of) join
+  pub join_is : (n : ℕ) (join : Combined) (taken : ℕ → List Value) → i ≡ length cells + n → slice_get found.combined.items n ≡ Some join →
+      form_at cells taken new number ≡ combined_form (form_in cells taken old of) join
   pub kept : (others : List Cell) (elements : ℕ) → ((c : Cell) → IsCell cells i c → IsCell others i c) → ((c : Cell) → IsCell cells i c →
       IsNumberedBelow elements (link_at found i) c) → AreOfSchema others elements old → AreOfSchema others elements new
 
@@ -174,7 +174,7 @@ Makes cells found i old new of (Ok number) = IsMade cells found i old new of num
 Makes cells found i old new of (Err fault.NoMemory) = Unit {0}
 Makes cells found i old new of (Err other) = ⊥
 
--- a node or a join is given its shape
+-- a node or combined definitions are given their shape
 pub record IsPlaced (cells : List Cell) (found : Resolved) (i : ℕ) (old new : Forms) : Type 0 where
   pub number : ℕ
   pub set : new.of.items ≡ slice_set old.of.items i number

@@ -1,3 +1,4 @@
+-- What a reader must believe: what `simplify` answers, and what that stands on.
 pub mod Composed
 pub mod Classes
 pub mod Composing
@@ -9,6 +10,7 @@ pub mod Whole
 pub mod Datatypes
 pub mod Broken
 pub mod Simplified
+-- What the parts of the code do, for the proof.
 pub mod Seeing
 pub mod Cells
 pub mod Denoting
@@ -34,5 +36,6 @@ pub mod Typing
 pub mod Spelling
 pub mod Grammars
 pub mod Unnumbered
+-- The laws of these definitions.
 pub mod Agreeing
 pub mod Exact

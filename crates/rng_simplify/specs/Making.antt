@@ -1,6 +1,6 @@
 -- What composing makes of a file's patterns: cells, one behind another, and pieces of files taken from a stack. That this is
 -- the schema in one piece, a law says.
-use Rattle.std.specs.Prelude.{◌≡◌, ℕ, Bool, true, false, not, List, [], ◌∷◌, ◌++◌, length, map, reverse, filter, Result, Ok, Err, Vec}
+use Rattle.std.specs.Prelude.{◌≡◌, ℕ, Bool, true, false, not, List, [], ◌∷◌, ◌++◌, length, map, reverse, filter, Option, Some, None, Result, Ok, Err, Vec}
 use Rattle.std.specs.declared.alloc.Global.{Global}
 use Rattle.std.specs.List.{list_any, list_all}
 use Rattle.nx_base.specs.declared.cause.Cause.{Cause}
@@ -172,17 +172,19 @@ none_made sign.Choice now = cell_made cell.not_allowed now
 none_made sign.Group now = cell_made cell.empty now
 none_made sign.Interleave now = cell_made cell.empty now
 
--- a pattern joined to the next one, and to all behind it
-abbrev pub make_next : List ℕ → Sign → ℕ → Pattern → Making → Outcome ℕ
-make_next ns by first next now = make ns (pattern_of next) now >>= λ i. cell_made (cell.joined by first i)
+-- the next pattern behind those that are joined so far, if there are some
+abbrev pub make_next : List ℕ → Sign → Option ℕ → Pattern → Making → Outcome ℕ
+make_next ns by None next now = make ns (pattern_of next) now
+make_next ns by (Some first) next now = make ns (pattern_of next) now >>= λ i. cell_made (cell.joined by first i)
 
+-- and all behind it
 abbrev pub make_behind : List ℕ → Sign → ℕ → List Pattern → Making → Outcome ℕ
 make_behind ns by first [] now = made first now
-make_behind ns by first (next ∷ more) now = make_next ns by first next now >>= λ i. make_behind ns by i more
+make_behind ns by first (next ∷ more) now = make_next ns by (Some first) next now >>= λ i. make_behind ns by i more
 
 abbrev pub make_row : List ℕ → Sign → List Pattern → Making → Outcome ℕ
 make_row ns by [] now = none_made by now
-make_row ns by (first ∷ more) now = make ns (pattern_of first) now >>= λ i. make_behind ns by i more
+make_row ns by (first ∷ more) now = make_next ns by None first now >>= λ i. make_behind ns by i more
 
 -- ---- files
 

@@ -6,7 +6,7 @@ use Rattle.rnc_parse.specs.declared.surface.Defined.TheVariants as defined
 use Rattle.rnc_parse.specs.declared.surface.Combine.{Combine}
 use Rattle.rng_core.specs.Names.{Class}
 use Rattle.rng_simplify.specs.declared.node.Clause.{Clause}
-use Rattle.rng_simplify.specs.declared.resolve.Join.{Join}
+use Rattle.rng_simplify.specs.declared.resolve.Combined.{Combined}
 use Rattle.rng_simplify.specs.declared.resolve.Resolved.{Resolved}
 use Rattle.rng_simplify.specs.declared.resolve.Scope.{Scope}
 use Rattle.rng_simplify.specs.declared.resolve.Scope.TheVariants.{Nowhere}
@@ -25,7 +25,7 @@ scope_at found i = slice_index_or found.scopes.items i Nowhere
 abbrev pub link_at : Resolved → ℕ → ℕ
 link_at found i = slice_index found.links.items i
 
--- ---- joins
+-- ---- combined definitions
 
 -- the definitions of the name, in order
 abbrev pub clauses_of : Defined → List Clause → List Clause
@@ -35,31 +35,31 @@ clauses_of name clauses = filter (λ (clause : Clause). same_defined name clause
 abbrev pub combines_of : List Clause → List Combine
 combines_of clauses = map (λ (clause : Clause). clause.combine) clauses
 
--- the join of this number is that of the name's definitions in the grammar of this node
-pub record IsJoined (cells : List Cell) (joins : List Join) (grammar : ℕ) (name : Defined) (number : ℕ) : Type 0 where
+-- the combined definitions of this number are those of the name in the grammar of this node
+pub record IsCombined (cells : List Cell) (combined : List Combined) (grammar : ℕ) (name : Defined) (number : ℕ) : Type 0 where
   pub clauses : List Clause
   pub is_grammar : IsCell cells grammar (cell.grammar clauses)
   pub is_defined : clauses_of name clauses ≢ []
-  pub join : Join
-  pub there : slice_get joins number ≡ Some join
+  pub join : Combined
+  pub there : slice_get combined number ≡ Some join
   pub bodies_are : join.bodies.items ≡ bodies_of (clauses_of name clauses)
   pub combine_is : join.combine ≡ combine_of (combines_of (clauses_of name clauses))
 
 -- it is that of the innermost of these grammars, or of the one around that
-abbrev pub IsJoinedIn : List Cell → List Join → List ℕ → Defined → ℕ → Type 0
-IsJoinedIn cells joins [] name number = ⊥
-IsJoinedIn cells joins (grammar ∷ outers) name number = IsJoined cells joins grammar name number
+abbrev pub IsCombinedIn : List Cell → List Combined → List ℕ → Defined → ℕ → Type 0
+IsCombinedIn cells combined [] name number = ⊥
+IsCombinedIn cells combined (grammar ∷ outers) name number = IsCombined cells combined grammar name number
 
-abbrev pub IsJoinedOutside : List Cell → List Join → List ℕ → Defined → ℕ → Type 0
-IsJoinedOutside cells joins [] name number = ⊥
-IsJoinedOutside cells joins (inner ∷ outers) name number = IsJoinedIn cells joins outers name number
+abbrev pub IsCombinedOutside : List Cell → List Combined → List ℕ → Defined → ℕ → Type 0
+IsCombinedOutside cells combined [] name number = ⊥
+IsCombinedOutside cells combined (inner ∷ outers) name number = IsCombinedIn cells combined outers name number
 
--- a join is that of some name in some grammar that stands in the schema
-pub record IsOfGrammar (cells : List Cell) (root : ℕ) (joins : List Join) (number : ℕ) : Type 0 where
+-- combined definitions are those of some name in some grammar that stands in the schema
+pub record IsOfGrammar (cells : List Cell) (root : ℕ) (combined : List Combined) (number : ℕ) : Type 0 where
   pub grammar : ℕ
   pub name : Defined
   pub stands : IsStanding cells root grammar
-  pub joined : IsJoined cells joins grammar name number
+  pub joined : IsCombined cells combined grammar name number
 
 -- this node is an element that stands in the schema, and is linked to the number
 pub record IsNumbered (cells : List Cell) (root : ℕ) (found : Resolved) (number i : ℕ) : Type 0 where
@@ -75,14 +75,14 @@ pub record IsResolved (cells : List Cell) (root : ℕ) (found : Resolved) : Type
   pub all_links : length found.links.items ≡ length cells
   -- which nodes stand in the schema
   pub standing : (i : ℕ) → (scope_at found i ≢ Nowhere) ↔ IsStanding cells root i
-  -- joins
-  pub ref_joined : (outers : List ℕ) (i : ℕ) (name : List ℕ) → Stands cells root outers i → IsCell cells i (cell.ref name) →
-      IsJoinedIn cells found.joins.items outers (defined.Name name) (link_at found i)
-  pub parent_ref_joined : (outers : List ℕ) (i : ℕ) (name : List ℕ) → Stands cells root outers i → IsCell cells i (cell.parent_ref name) →
-      IsJoinedOutside cells found.joins.items outers (defined.Name name) (link_at found i)
-  pub start_joined : (i : ℕ) (clauses : List Clause) → IsStanding cells root i → IsCell cells i (cell.grammar clauses) →
-      IsJoined cells found.joins.items i defined.Start (link_at found i)
-  pub each_join : (number : ℕ) → number < length found.joins.items → IsOfGrammar cells root found.joins.items number
+  -- combined definitions
+  pub ref_combined : (outers : List ℕ) (i : ℕ) (name : List ℕ) → Stands cells root outers i → IsCell cells i (cell.ref name) →
+      IsCombinedIn cells found.combined.items outers (defined.Name name) (link_at found i)
+  pub parent_ref_combined : (outers : List ℕ) (i : ℕ) (name : List ℕ) → Stands cells root outers i → IsCell cells i (cell.parent_ref name) →
+      IsCombinedOutside cells found.combined.items outers (defined.Name name) (link_at found i)
+  pub start_combined : (i : ℕ) (clauses : List Clause) → IsStanding cells root i → IsCell cells i (cell.grammar clauses) →
+      IsCombined cells found.combined.items i defined.Start (link_at found i)
+  pub each_combined : (number : ℕ) → number < length found.combined.items → IsOfGrammar cells root found.combined.items number
   pub no_clash : (i : ℕ) (clauses : List Clause) (name : Defined) → IsStanding cells root i → IsCell cells i (cell.grammar clauses) →
       clash (combines_of (clauses_of name clauses)) ≡ false
   -- elements
@@ -90,9 +90,9 @@ pub record IsResolved (cells : List Cell) (root : ℕ) (found : Resolved) : Type
       slice_get found.elements.items (link_at found i) ≡ Some i
   pub each_number : (number i : ℕ) → slice_get found.elements.items number ≡ Some i → IsNumbered cells root found number i
 
--- ---- an order, in which join j has the number j behind the nodes
+-- ---- an order, in which combined definitions of number n have the place n behind the nodes
 
--- what a node leads to: its parts, or its join
+-- what a node leads to: its parts, or combined definitions
 abbrev pub cell_leads : ℕ → ℕ → Cell → List ℕ
 cell_leads count link (cell.element class part) = []
 cell_leads count link (cell.attribute class part) = part ∷ []
@@ -108,26 +108,26 @@ cell_leads count link (cell.grammar clauses) = (count + link) ∷ []
 cell_leads count link (cell.one_or_more part) = part ∷ []
 cell_leads count link (cell.joined sign first second) = first ∷ second ∷ []
 
-abbrev pub join_leads : Option Join → List ℕ
-join_leads (Some join) = join.bodies.items
-join_leads None = []
+abbrev pub combined_leads : Option Combined → List ℕ
+combined_leads (Some join) = join.bodies.items
+combined_leads None = []
 
 abbrev pub leads_if : List Cell → Resolved → ℕ → Option Cell → List ℕ
 leads_if cells found i (Some c) = cell_leads (length cells) (link_at found i) c
-leads_if cells found i None = join_leads (slice_get found.joins.items (i - length cells))
+leads_if cells found i None = combined_leads (slice_get found.combined.items (i - length cells))
 
--- what a node or a join leads to
+-- what a node or combined definitions lead to
 abbrev pub leads : List Cell → Resolved → ℕ → List ℕ
 leads cells found i = leads_if cells found i (slice_get cells i)
 
--- a join by its number behind the nodes
-abbrev pub IsJoinNumber : List Cell → Resolved → ℕ → Type 0
-IsJoinNumber cells found i = (number : ℕ) × (number < length found.joins.items) × (i ≡ length cells + number)
+-- combined definitions by their place behind the nodes
+abbrev pub IsCombinedNumber : List Cell → Resolved → ℕ → Type 0
+IsCombinedNumber cells found i = (number : ℕ) × (number < length found.combined.items) × (i ≡ length cells + number)
 
--- the nodes that stand in the schema and the joins are in order, each once, and behind all that it leads to
+-- the nodes that stand in the schema and the combined definitions are in order, each once, and behind all that it leads to
 pub record IsOrdered (cells : List Cell) (root : ℕ) (found : Resolved) (order : List ℕ) : Type 0 where
   pub each_node : (i : ℕ) → IsStanding cells root i → Contains order i
-  pub each_join : (number : ℕ) → number < length found.joins.items → Contains order (length cells + number)
-  pub nothing_else : (i : ℕ) → Contains order i → IsStanding cells root i ⊎ IsJoinNumber cells found i
+  pub each_combined : (number : ℕ) → number < length found.combined.items → Contains order (length cells + number)
+  pub nothing_else : (i : ℕ) → Contains order i → IsStanding cells root i ⊎ IsCombinedNumber cells found i
   pub distinct : IsDistinct (λ a b. a == b) order
   pub behind : (k i j : ℕ) → slice_get order k ≡ Some i → Contains (leads cells found i) j → Contains (take k order) j

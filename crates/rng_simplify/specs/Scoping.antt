@@ -12,7 +12,7 @@ use Rattle.rng_simplify.specs.declared.fault.SchemaFault.{SchemaFault}
 use Rattle.rng_simplify.specs.declared.fault.SchemaFault.TheVariants.{NoMemory, Unreadable}
 use Rattle.rng_simplify.specs.declared.names.Names.{Names}
 use Rattle.rng_simplify.specs.declared.node.Clause.{Clause}
-use Rattle.rng_simplify.specs.declared.resolve.Join.{Join}
+use Rattle.rng_simplify.specs.declared.resolve.Combined.{Combined}
 use Rattle.rng_simplify.specs.declared.resolve.Table.{Table}
 use Rattle.rng_simplify.specs.declared.resolve.Resolver.{Resolver}
 use Rattle.rng_simplify.specs.declared.resolve.Scope.{Scope}
@@ -24,12 +24,12 @@ use Rattle.rng_simplify.specs.Denoting.{IsCell}
 use Rattle.rng_simplify.specs.Forms.{combine_of}
 use Rattle.rng_simplify.specs.Keeping.{kept_named, kept_for}
 use Rattle.rng_simplify.specs.Standing.{bodies_of, inner_nodes, Stands, IsStanding}
-use Rattle.rng_simplify.specs.Resolving.{clauses_of, combines_of, IsJoined, IsJoinedIn, IsJoinedOutside, IsOfGrammar}
+use Rattle.rng_simplify.specs.Resolving.{clauses_of, combines_of, IsCombined, IsCombinedIn, IsCombinedOutside, IsOfGrammar}
 
--- ---- joins
+-- ---- combined definitions
 
--- how a join is joined is what these say
-pub record HasSigns (combines : List Combine) (join : Join) : Type 0 where
+-- how definitions are combined is what these say
+pub record HasSigns (combines : List Combine) (join : Combined) : Type 0 where
   pub combine_is : join.combine ≡ combine_of combines
   pub alone_is : join.has_alone ≡ list_any is_alone combines
   pub no_clash : clash combines ≡ false
@@ -44,8 +44,8 @@ both_say combine.Choice combine.Interleave = None
 both_say combine.Interleave combine.Choice = None
 both_say combine.Interleave combine.Interleave = Some combine.Interleave
 
--- one more definition in a join
-abbrev pub AddsTo : {A : Type 0} → Combine → ℕ → Join → Join → Result A SchemaFault → Type 0
+-- one more definition behind those that are combined
+abbrev pub AddsTo : {A : Type 0} → Combine → ℕ → Combined → Combined → Result A SchemaFault → Type 0
 AddsTo combine body old new (Ok done) =
     (new.bodies.items ≡ old.bodies.items ++ body ∷ []) × ((combines : List Combine) → HasSigns combines old →
     HasSigns (combines ++ combine ∷ []) new)
@@ -54,39 +54,39 @@ AddsTo combine body old new (Err (Unreadable cause.CombineClash)) = (combines : 
     clash (combines ++ combine ∷ []) ≡ true
 AddsTo combine body old new (Err other) = ⊥
 
--- the join of these definitions of a name
-pub record IsJoinOf (clauses : List Clause) (join : Join) : Type 0 where
+-- these definitions of a name, combined
+pub record IsCombinedOf (clauses : List Clause) (join : Combined) : Type 0 where
   pub some : clauses ≢ []
   pub bodies_are : join.bodies.items ≡ bodies_of clauses
   pub signs : HasSigns (combines_of clauses) join
 
--- the join of a name among definitions is behind others
-abbrev pub IsGatheredAs : ℕ → List Clause → List Join → Defined → Option ℕ → Type 0
-IsGatheredAs first clauses joins name None = clauses_of name clauses ≡ []
-IsGatheredAs first clauses joins name (Some number) =
-    (join : Join) × (first ≤ number) × (slice_get joins number ≡ Some join) × IsJoinOf (clauses_of name clauses) join
+-- the combined definitions of a name are behind others
+abbrev pub IsGatheredAs : ℕ → List Clause → List Combined → Defined → Option ℕ → Type 0
+IsGatheredAs first clauses combined name None = clauses_of name clauses ≡ []
+IsGatheredAs first clauses combined name (Some number) =
+    (join : Combined) × (first ≤ number) × (slice_get combined number ≡ Some join) × IsCombinedOf (clauses_of name clauses) join
 
--- the names that are defined have their joins, which are those from a number on
-pub record IsGathered (first : ℕ) (clauses : List Clause) (names : Names ℕ) (joins : List Join) : Type 0 where
-  pub behind : first ≤ length joins
-  pub gathered : (name : Defined) → IsGatheredAs first clauses joins name (kept_for names name)
+-- the names that are defined have their combined definitions, which are those from a number on
+pub record IsGathered (first : ℕ) (clauses : List Clause) (names : Names ℕ) (combined : List Combined) : Type 0 where
+  pub behind : first ≤ length combined
+  pub gathered : (name : Defined) → IsGatheredAs first clauses combined name (kept_for names name)
   pub apart : (name other : Defined) (number : ℕ) → kept_for names name ≡ Some number → kept_for names other ≡ Some number → name ≡ other
-  pub each : (number : ℕ) → first ≤ number → number < length joins → (name : Defined) × (kept_for names name ≡ Some number)
+  pub each : (number : ℕ) → first ≤ number → number < length combined → (name : Defined) × (kept_for names name ≡ Some number)
 
--- joins before this number are as they were
-abbrev pub KeepsFirst : ℕ → List Join → List Join → Type 0
+-- combined definitions before this number are as they were
+abbrev pub KeepsFirst : ℕ → List Combined → List Combined → Type 0
 KeepsFirst first old new = (number : ℕ) → number < first → slice_get new number ≡ slice_get old number
 
 -- one more definition is gathered
-abbrev pub GathersOne : {A : Type 0} → ℕ → List Clause → Clause → List Join → Names ℕ → List Join → Result A SchemaFault → Type 0
+abbrev pub GathersOne : {A : Type 0} → ℕ → List Clause → Clause → List Combined → Names ℕ → List Combined → Result A SchemaFault → Type 0
 GathersOne first clauses clause old names new (Ok done) = IsGathered first (clauses ++ clause ∷ []) names new × KeepsFirst first old new
 GathersOne first clauses clause old names new (Err NoMemory) = Unit {0}
 GathersOne first clauses clause old names new (Err (Unreadable cause.CombineClash))
     = clash (combines_of (clauses_of clause.name (clauses ++ clause ∷ []))) ≡ true
 GathersOne first clauses clause old names new (Err other) = ⊥
 
--- definitions are gathered behind the joins that there are
-abbrev pub Gathers : List Clause → List Join → List Join → Result (Names ℕ) SchemaFault → Type 0
+-- definitions are gathered behind the combined ones that there are
+abbrev pub Gathers : List Clause → List Combined → List Combined → Result (Names ℕ) SchemaFault → Type 0
 Gathers clauses old new (Ok names) = IsGathered (length old) clauses names new × KeepsFirst (length old) old new
 Gathers clauses old new (Err NoMemory) = Unit {0}
 Gathers clauses old new (Err (Unreadable cause.CombineClash)) = (name : Defined) × (clash (combines_of (clauses_of name clauses)) ≡ true)
@@ -98,15 +98,15 @@ pub record Findings : Type 0 where
   pub tables : List Table
   pub scopes : List Scope
   pub links : List ℕ
-  pub joins : List Join
+  pub combined : List Combined
 
 abbrev pub findings_of : Resolver → Findings
 findings_of resolver = record {
   tables = resolver.tables.items;
   scopes = resolver.scopes.items;
   links = resolver.links.items;
-  joins =
-      resolver.joins.items;
+  combined =
+      resolver.combined.items;
 }
 
 -- nothing is known but that the root stands outside of all grammars
@@ -116,7 +116,7 @@ findings_at_first count root = record {
   scopes = set (replicate count Nowhere)
       root Outside;
   links = replicate count 0;
-  joins = [];
+  combined = [];
 }
 
 -- these nodes have this scope
@@ -140,17 +140,17 @@ outer_in tables Nowhere = Outside
 outer_in tables Outside = Outside
 outer_in tables (In k) = outer_of (slice_get tables k)
 
--- the join of a name in a grammar
-abbrev pub join_of_table : List ℕ → Option Table → Option ℕ
-join_of_table name (Some table) = kept_named table.joins name
-join_of_table name None = None
+-- the combined definitions of a name in a grammar
+abbrev pub combined_of_table : List ℕ → Option Table → Option ℕ
+combined_of_table name (Some table) = kept_named table.combined name
+combined_of_table name None = None
 
-abbrev pub join_in : List Table → Scope → List ℕ → Option ℕ
-join_in tables Nowhere name = None
-join_in tables Outside name = None
-join_in tables (In k) name = join_of_table name (slice_get tables k)
+abbrev pub combined_in : List Table → Scope → List ℕ → Option ℕ
+combined_in tables Nowhere name = None
+combined_in tables Outside name = None
+combined_in tables (In k) name = combined_of_table name (slice_get tables k)
 
--- a reference is linked to this join
+-- a reference is linked to these combined definitions
 abbrev pub Links : {A : Type 0} → ℕ → Option ℕ → Findings → Findings → Result A SchemaFault → Type 0
 Links i (Some join) old new (Ok done) = new ≡ with_link i join old
 Links i None old new (Err (Unreadable cause.NoDefinition)) = Unit {0}
@@ -160,10 +160,10 @@ Links i join old new result = ⊥
 pub record HasTable (i : ℕ) (outer : Scope) (clauses : List Clause) (old new : Findings) : Type 0 where
   pub names : Names ℕ
   pub start : ℕ
-  pub gathered : IsGathered (length old.joins) clauses names new.joins
-  pub kept : KeepsFirst (length old.joins) old.joins new.joins
+  pub gathered : IsGathered (length old.combined) clauses names new.combined
+  pub kept : KeepsFirst (length old.combined) old.combined new.combined
   pub start_is : kept_for names defined.Start ≡ Some start
-  pub tables_are : new.tables ≡ old.tables ++ record { outer = outer; joins = names } ∷ []
+  pub tables_are : new.tables ≡ old.tables ++ record { outer = outer; combined = names } ∷ []
   pub scopes_are : new.scopes ≡ given (bodies_of clauses) (In (length old.tables)) old.scopes
   pub links_are : new.links ≡ set old.links i start
 
@@ -177,43 +177,43 @@ TakesGrammar i outer clauses old new (Err other) = ⊥
 
 -- a node that stands in the schema is taken, where all that comes behind is
 abbrev pub TakesCell : {A : Type 0} → ℕ → Scope → Cell → Findings → Findings → Result A SchemaFault → Type 0
-TakesCell i scope (cell.ref name) old new result = Links i (join_in old.tables scope name) old new result
-TakesCell i scope (cell.parent_ref name) old new result = Links i (join_in old.tables (outer_in old.tables scope) name) old new result
+TakesCell i scope (cell.ref name) old new result = Links i (combined_in old.tables scope name) old new result
+TakesCell i scope (cell.parent_ref name) old new result = Links i (combined_in old.tables (outer_in old.tables scope) name) old new result
 TakesCell i scope (cell.grammar clauses) old new result = TakesGrammar i scope clauses old new result
 TakesCell i scope c old new (Ok done) = new ≡ with_given (inner_nodes c) scope old
 TakesCell i scope c old new (Err other) = ⊥
 
 -- ---- what it says
 
--- the names of a grammar's table have the joins of what it defines
-abbrev pub IsKept : List Cell → List Join → ℕ → List Clause → Defined → Option ℕ → Type 0
-IsKept cells joins grammar clauses name None = clauses_of name clauses ≡ []
-IsKept cells joins grammar clauses name (Some number) = IsJoined cells joins grammar name number
+-- the names of a grammar's table have the combined definitions of what it defines
+abbrev pub IsKept : List Cell → List Combined → ℕ → List Clause → Defined → Option ℕ → Type 0
+IsKept cells combined grammar clauses name None = clauses_of name clauses ≡ []
+IsKept cells combined grammar clauses name (Some number) = IsCombined cells combined grammar name number
 
-pub record IsTable (cells : List Cell) (joins : List Join) (grammar : ℕ) (names : Names ℕ) : Type 0 where
+pub record IsTable (cells : List Cell) (combined : List Combined) (grammar : ℕ) (names : Names ℕ) : Type 0 where
   pub clauses : List Clause
   pub is_grammar : IsCell cells grammar (cell.grammar clauses)
-  pub kept : (name : Defined) → IsKept cells joins grammar clauses name (kept_for names name)
+  pub kept : (name : Defined) → IsKept cells combined grammar clauses name (kept_for names name)
 
 -- a scope is these grammars
-pub data IsScope (cells : List Cell) (joins : List Join) (tables : List Table) : Scope → List ℕ → Type 0 where
-  outside : IsScope cells joins tables Outside []
-  inside : {k grammar : ℕ} {table : Table} {outers : List ℕ} → slice_get tables k ≡ Some table → IsTable cells joins grammar table.joins →
-      IsScope cells joins tables table.outer outers → IsScope cells joins tables (In k) (grammar ∷ outers)
+pub data IsScope (cells : List Cell) (combined : List Combined) (tables : List Table) : Scope → List ℕ → Type 0 where
+  outside : IsScope cells combined tables Outside []
+  inside : {k grammar : ℕ} {table : Table} {outers : List ℕ} → slice_get tables k ≡ Some table → IsTable cells combined grammar table.combined →
+      IsScope cells combined tables table.outer outers → IsScope cells combined tables (In k) (grammar ∷ outers)
 
 -- the node stands in the schema, in the grammars of the scope
 pub record IsPosted (cells : List Cell) (root : ℕ) (now : Findings) (scope : Scope) (i : ℕ) : Type 0 where
   pub outers : List ℕ
   pub stands : Stands cells root outers i
-  pub is_scope : IsScope cells now.joins now.tables scope outers
+  pub is_scope : IsScope cells now.combined now.tables scope outers
 
 -- what is known of a node that was taken
-abbrev pub IsTaken : List Cell → List Join → List ℕ → ℕ → ℕ → Cell → Type 0
-IsTaken cells joins outers i link (cell.ref name) = IsJoinedIn cells joins outers (defined.Name name) link
-IsTaken cells joins outers i link (cell.parent_ref name) = IsJoinedOutside cells joins outers (defined.Name name) link
-IsTaken cells joins outers i link (cell.grammar clauses) =
-    IsJoined cells joins i defined.Start link × ((name : Defined) → clash (combines_of (clauses_of name clauses)) ≡ false)
-IsTaken cells joins outers i link c = Unit {0}
+abbrev pub IsTaken : List Cell → List Combined → List ℕ → ℕ → ℕ → Cell → Type 0
+IsTaken cells combined outers i link (cell.ref name) = IsCombinedIn cells combined outers (defined.Name name) link
+IsTaken cells combined outers i link (cell.parent_ref name) = IsCombinedOutside cells combined outers (defined.Name name) link
+IsTaken cells combined outers i link (cell.grammar clauses) =
+    IsCombined cells combined i defined.Start link × ((name : Defined) → clash (combines_of (clauses_of name clauses)) ≡ false)
+IsTaken cells combined outers i link c = Unit {0}
 
 -- the nodes from a number on are taken
 pub record IsMidway (cells : List Cell) (root from : ℕ) (now : Findings) : Type 0 where
@@ -226,8 +226,8 @@ pub record IsMidway (cells : List Cell) (root from : ℕ) (now : Findings) : Typ
   pub inner_known : (i j : ℕ) (c : Cell) → from ≤ i → IsStanding cells root i → IsCell cells i c → Contains (inner_nodes c) j →
       slice_index_or now.scopes j Nowhere ≢ Nowhere
   pub taken : (outers : List ℕ) (i : ℕ) (c : Cell) → from ≤ i → Stands cells root outers i → IsCell cells i c →
-      IsTaken cells now.joins outers i (slice_index now.links i) c
-  pub each_join : (number : ℕ) → number < length now.joins → IsOfGrammar cells root now.joins number
+      IsTaken cells now.combined outers i (slice_index now.links i) c
+  pub each_combined : (number : ℕ) → number < length now.combined → IsOfGrammar cells root now.combined number
 
 -- ---- the numbers of elements
 

@@ -1,11 +1,13 @@
 -- What the program's values say, and how its parts judge.
-use Rattle.std.specs.Prelude.{◌≡◌, true, false, List, [], ◌∷◌, Result, Ok, Err}
+use Rattle.std.specs.Prelude.{◌≡◌, true, false, List, [], ◌∷◌, Option, Some, None, Result, Ok, Err}
 use Rattle.nx_base.specs.declared.cause.Cause.TheVariants as cause
 use Rattle.rnc_parse.specs.declared.surface.NameClass.{NameClass}
 use Rattle.rnc_parse.specs.Views.{class_of}
 use Rattle.rnc_parse.specs.Written.{WrittenClass}
 use Rattle.rnc_parse.specs.Written as written
-use Rattle.rng_core.specs.Names.{Class}
+use Rattle.rng_core.specs.declared.name_class.NameClass.{NameClass as BuiltClass}
+use Rattle.rng_core.specs.Meaning.{class_of as built_class}
+use Rattle.rng_core.specs.Names.{Class, either}
 use Rattle.rng_simplify.specs.Classes.{has_bad_except, names_declarations, names_declarations_of_attribute}
 use Rattle.rng_simplify.specs.declared.fault.SchemaFault.{SchemaFault}
 use Rattle.rng_simplify.specs.declared.fault.SchemaFault.TheVariants.{Unreadable}
@@ -18,6 +20,11 @@ classes_behind before (next ∷ more) = classes_behind (written.either before (c
 abbrev pub written_classes : List NameClass → WrittenClass
 written_classes [] = written.no_name
 written_classes (first ∷ more) = classes_behind (class_of first) more
+
+-- the names of the classes so far, if there are some, and of the next one
+abbrev pub choice_and : Option BuiltClass → Class → Class
+choice_and None next = next
+choice_and (Some choice) next = either (built_class choice) next
 
 -- the class of an element is passed, or refused for a cause that it has
 abbrev pub JudgesElementClass : {A : Type 0} → Class → Result A SchemaFault → Type 0

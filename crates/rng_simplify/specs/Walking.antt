@@ -1,4 +1,4 @@
--- A walk over the nodes and joins of a schema, depth first, each of them behind all that it leads to.
+-- A walk over the nodes and combined definitions of a schema, depth first, each of them behind all that it leads to.
 use Rattle.std.specs.Prelude.{◌≡◌, ◌≢◌, ℕ, ◌+◌, ◌-◌, ◌*◌, ◌<◌, ◌≤◌, ◌⊎◌, Bool, true, false, List, [], ◌∷◌, ◌++◌, length, set, take, sum_by, count_by, slice_get, slice_index_or, Option, Some, None, Result, Ok, Err, Contains}
 use Rattle.nx_base.specs.declared.cause.Cause.TheVariants as cause
 use Rattle.rng_simplify.specs.declared.fault.SchemaFault.{SchemaFault}
@@ -7,18 +7,18 @@ use Rattle.rng_simplify.specs.declared.order.Mark.{Mark}
 use Rattle.rng_simplify.specs.declared.order.Mark.TheVariants.{New, Open, Done}
 use Rattle.rng_simplify.specs.declared.order.Step.{Step}
 use Rattle.rng_simplify.specs.declared.order.Walk.{Walk}
-use Rattle.rng_simplify.specs.declared.resolve.Join.{Join}
+use Rattle.rng_simplify.specs.declared.resolve.Combined.{Combined}
 use Rattle.rng_simplify.specs.declared.resolve.Resolved.{Resolved}
 use Rattle.rng_simplify.specs.Cells.{Cell}
 use Rattle.rng_simplify.specs.Cells as cell
-use Rattle.rng_simplify.specs.Resolving.{leads, IsJoinNumber}
+use Rattle.rng_simplify.specs.Resolving.{leads, IsCombinedNumber}
 use Rattle.rng_simplify.specs.Standing.{IsStanding}
 
--- a node that stands in the schema, or a join
+-- a node that stands in the schema, or combined definitions
 abbrev pub IsMet : List Cell → ℕ → Resolved → ℕ → Type 0
-IsMet cells root found i = IsStanding cells root i ⊎ IsJoinNumber cells found i
+IsMet cells root found i = IsStanding cells root i ⊎ IsCombinedNumber cells found i
 
--- a reference or a grammar, which is linked to a join
+-- a reference or a grammar, which is linked to combined definitions
 abbrev pub is_linked : Cell → Bool
 is_linked (cell.ref name) = true
 is_linked (cell.parent_ref name) = true
@@ -91,7 +91,7 @@ pub record IsWalk (cells : List Cell) (root : ℕ) (found : Resolved) (next : Op
   pub path_is : now.path ≡ path_of steps
   pub are_steps : AreSteps cells root found now next steps
   pub next_met : (i : ℕ) → next ≡ Some i → IsMet cells root found i
-  pub all_marks : length now.marks ≡ length cells + length found.joins.items
+  pub all_marks : length now.marks ≡ length cells + length found.combined.items
   -- the nodes of the path are open, and no others; those in the order are done, and no others
   pub on_path : (i : ℕ) → mark_at now i ≡ Open → (step : Step) × Contains steps step × (step.node ≡ i)
   pub done : (i : ℕ) → mark_at now i ≡ Done → Contains now.order i
@@ -110,9 +110,9 @@ is_new New = true
 is_new Open = false
 is_new Done = false
 
--- more than any node or join leads to
+-- more than any node or combined definitions lead to
 abbrev pub most : Resolved → ℕ
-most found = 4 + sum_by (λ (join : Join). length join.bodies.items) found.joins.items
+most found = 4 + sum_by (λ (join : Combined). length join.bodies.items) found.combined.items
 
 -- what is left to do at a step
 abbrev pub left_at : List Cell → Resolved → Step → ℕ

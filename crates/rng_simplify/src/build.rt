@@ -13,7 +13,7 @@ ghost use Rattle.rng_simplify.specs.Spelling.{IsReady, HasAttribute, HasType, Le
 use crate::fault::SchemaFault;
 use crate::form::Forms;
 use crate::node::{Node, Sign};
-use crate::shape::Shape;
+use crate::shape::{Shape, ShapeNumber};
 use crate::types::NodeType;
 use nx_base::memory::NoMemory;
 use nx_base::sequence::TryCopy;
@@ -27,9 +27,9 @@ use std::alloc::Global;
 #[derive(Clone, Copy, Debug)]
 enum Task {
     /// The pattern of this shape.
-    Spell(usize),
+    Spell(ShapeNumber),
     /// The pattern of this shape, whose parts are the patterns built last.
-    Wrap(usize),
+    Wrap(ShapeNumber),
 }
 
 /// What patterns are built of.

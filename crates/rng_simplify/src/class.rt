@@ -1,48 +1,61 @@
 //! Name classes as a file gives them, and those that no schema may have (ISO/IEC 19757-2, sections 7.9 and 7.17).
 
-ghost use Rattle.std.specs.Prelude.{◌≡◌, ◌||◌, IfOk};
+ghost use Rattle.std.specs.Prelude.{◌≡◌, ◌<◌, ◌||◌, length, IfOk};
 ghost use Rattle.rng_core.specs.Names.{either, without};
 ghost use Rattle.rng_core.specs.Meaning.{class_of};
 ghost use Rattle.rnc_parse.specs.Views.{class_of as written_class_of};
-ghost use Rattle.rng_simplify.specs.Classes.{class_in as class_in_file, has_any_name as has_any_name_in, has_ns_name as has_ns_name_in, may_not_lose as may_not_lose_from, has_bad_except as has_bad_except_in, names_namespace as names_namespace_in, names_xmlns as names_xmlns_in};
-ghost use Rattle.rng_simplify.specs.Seeing.{written_classes, JudgesElementClass, JudgesAttributeClass};
+ghost use Rattle.rng_simplify.specs.Breaking.{cells_of, OkOrRefused};
+ghost use Rattle.rng_simplify.specs.Cells.{cell_of};
+ghost use Rattle.rng_simplify.specs.Judging.{JudgesCell, IsGoodAt, AreGood};
+ghost use Rattle.rng_simplify.specs.Resolving.{IsResolved};
+ghost use Rattle.rng_simplify.specs.Classes.{namespace_in as namespace_in_file, class_in as class_in_file, has_any_name as has_any_name_in, has_ns_name as has_ns_name_in, may_not_lose as may_not_lose_from, has_bad_except as has_bad_except_in, names_namespace as names_namespace_in, names_xmlns as names_xmlns_in};
+ghost use Rattle.rng_simplify.specs.Seeing.{written_classes, choice_and, JudgesElementClass, JudgesAttributeClass};
 
+use crate::compose::Whole;
 use crate::fault::SchemaFault;
-use crate::mention::namespace_in;
+use crate::node::Node;
+use crate::resolve::{Resolved, Scope};
 use nx_base::cause::Cause;
 use nx_base::memory::NoMemory;
-use nx_base::name::Name;
+use nx_base::name::{Name, XMLNS_NAMESPACE};
 use nx_base::sequence::{Bytes, TryCopy};
-use rnc_parse::surface::NameClass as WrittenClass;
+use rnc_parse::surface::{NameClass as WrittenClass, Namespace};
 use rng_core::name_class::NameClass;
 use std::alloc::Global;
 
-/// The namespace of the prefix `xmlns`, in which no name is.
-const XMLNS: &str = "http://www.w3.org/2000/xmlns/";
-
-/// The same without its last `/`, as the standard has it for attributes.
+/// The namespace of the prefix `xmlns` without its last `/`, as the standard has it for attributes.
 const XMLNS_WITHOUT_SLASH: &str = "http://www.w3.org/2000/xmlns";
+
+/// A namespace of a file that inherits this one.
+fn namespace_of(inherited: &Bytes, namespace: Namespace) -> Result<Bytes, NoMemory>
+    ensures { IfOk result (λ ns. ns ≡ namespace_in_file inherited.now namespace) }
+{
+    match namespace {
+        Namespace::Inherited => inherited.copy(),
+        Namespace::Uri(uri) => Ok(uri),
+    }
+}
 
 /// The class of a file that inherits this namespace.
 #[cycle(class_in)]
 pub(crate) fn class_in(
     alloc: Global,
     inherited: &Bytes,
-    class: &WrittenClass,
+    class: WrittenClass,
 ) -> Result<NameClass, NoMemory>
-    ensures { IfOk result (λ built. class_of built ≡ class_in_file inherited.now (written_class_of class.now)) }
+    ensures { IfOk result (λ built. class_of built ≡ class_in_file inherited.now (written_class_of class)) }
 {
     match class {
         WrittenClass::AnyName => Ok(NameClass::AnyName),
-        WrittenClass::NsName(ns) => Ok(NameClass::NsName(namespace_in(inherited, ns)?)),
+        WrittenClass::NsName(ns) => Ok(NameClass::NsName(namespace_of(inherited, ns)?)),
         WrittenClass::Name(ns, local) => Ok(NameClass::Name(Name {
-            ns: namespace_in(inherited, ns)?,
-            local: local.copy()?,
+            ns: namespace_of(inherited, ns)?,
+            local,
         })),
-        WrittenClass::Choice(classes) => choice_in(alloc, inherited, classes.as_slice()),
+        WrittenClass::Choice(classes) => choice_in(alloc, inherited, classes),
         WrittenClass::Except(class, except) => {
-            let class = class_in(alloc, inherited, class)?;
-            let except = class_in(alloc, inherited, except)?;
+            let class = class_in(alloc, inherited, Box::into_inner(class))?;
+            let except = class_in(alloc, inherited, Box::into_inner(except))?;
             except_of(alloc, class, except)
         }
     }
@@ -53,19 +66,35 @@ pub(crate) fn class_in(
 fn choice_in(
     alloc: Global,
     inherited: &Bytes,
-    classes: &[WrittenClass],
+    classes: Vec<WrittenClass>,
 ) -> Result<NameClass, NoMemory>
-    ensures { IfOk result (λ built. class_of built ≡ class_in_file inherited.now (written_classes classes.now)) }
+    ensures { IfOk result (λ built. class_of built ≡ class_in_file inherited.now (written_classes classes.items)) }
 {
-    let Some((first, others)) = classes.split_first() else {
-        return except_of(alloc, NameClass::AnyName, NameClass::AnyName);
-    };
-    let mut choice = class_in(alloc, inherited, first)?;
-    for other in others {
-        let other = class_in(alloc, inherited, other)?;
-        choice = choice_of(alloc, choice, other)?;
+    let mut choice = None;
+    for class in classes {
+        choice = Some(choice_next(alloc, inherited, choice, class)?);
     }
-    Ok(choice)
+    match choice {
+        Some(choice) => Ok(choice),
+        None => except_of(alloc, NameClass::AnyName, NameClass::AnyName),
+    }
+}
+
+/// The classes so far, if there are some, and the next one.
+#[cycle(class_in)]
+fn choice_next(
+    alloc: Global,
+    inherited: &Bytes,
+    choice: Option<NameClass>,
+    next: WrittenClass,
+) -> Result<NameClass, NoMemory>
+    ensures { IfOk result (λ built. class_of built ≡ choice_and choice (class_in_file inherited.now (written_class_of next))) }
+{
+    let next = class_in(alloc, inherited, next)?;
+    match choice {
+        Some(choice) => choice_of(alloc, choice, next),
+        None => Ok(next),
+    }
 }
 
 /// The names of either class.
@@ -208,7 +237,7 @@ pub(crate) fn check_element_class(class: &NameClass) -> Result<(), SchemaFault>
     if has_bad_except(class) {
         return Err(SchemaFault::Unreadable(Cause::BadExcept));
     }
-    if names_namespace(class, XMLNS) {
+    if names_namespace(class, XMLNS_NAMESPACE) {
         return Err(SchemaFault::Unreadable(Cause::XmlnsName));
     }
     Ok(())
@@ -223,4 +252,38 @@ pub(crate) fn check_attribute_class(class: &NameClass) -> Result<(), SchemaFault
         return Err(SchemaFault::Unreadable(Cause::XmlnsName));
     }
     Ok(())
+}
+
+/// Refuses a schema that has a class that none may have.
+pub(crate) fn check_classes(whole: &Whole, found: &Resolved) -> Result<(), SchemaFault>
+    requires { IsResolved (cells_of whole.now) whole.now.root found.now }
+    ensures { OkOrRefused (cells_of whole.now) whole.now.root (λ done. AreGood (cells_of whole.now) whole.now.root) result }
+{
+    for i in 0..whole.nodes.len() {
+        check_at(whole, found, i)?;
+    }
+    Ok(())
+}
+
+/// Refuses a node that stands in the schema with a class that none may have.
+fn check_at(whole: &Whole, found: &Resolved, i: usize) -> Result<(), SchemaFault>
+    requires within { i < length whole.now.nodes.items }
+    requires resolved { IsResolved (cells_of whole.now) whole.now.root found.now }
+    ensures { OkOrRefused (cells_of whole.now) whole.now.root (λ done. IsGoodAt (cells_of whole.now) whole.now.root i) result }
+{
+    match found.scopes[i] {
+        Scope::Nowhere => Ok(()),
+        _ => check_node(&whole.nodes[i]),
+    }
+}
+
+/// Refuses a node with a class that none may have.
+fn check_node(node: &Node) -> Result<(), SchemaFault>
+    ensures { JudgesCell (cell_of node.now) result }
+{
+    match node {
+        Node::Element(class, _) => check_element_class(class),
+        Node::Attribute(class, _) => check_attribute_class(class),
+        _ => Ok(()),
+    }
 }

@@ -3,7 +3,7 @@
 //! The files that a file mentions stand before it, the last one that it mentions first. Each file leaves a piece on a stack.
 //! Where a file mentions another one, the piece of that one is the next on the stack.
 
-ghost use Rattle.std.specs.Prelude.{◌≡◌, ◌≢◌, [], Some, None, MatchOption, IfOk};
+ghost use Rattle.std.specs.Prelude.{◌≡◌, ◌≢◌, []};
 ghost use Rattle.rnc_parse.specs.Views.{pattern_of, surface_of, item_of, items_in, replacement_of, replacements_in};
 ghost use Rattle.rnc_parse.specs.Written as written;
 ghost use Rattle.rnc_parse.specs.declared.surface.FileReference.{FileReference};
@@ -12,22 +12,18 @@ ghost use Rattle.rng_simplify.specs.Cells.{cell_of};
 ghost use Rattle.rng_simplify.specs.Making.{Makes, making_of, cell_made, or_empty_made, make, make_item, make_items, make_replacement, make_anew, behind, next_pattern, next_grammar, make_row, make_next, none_made, make_file, lone_made, piece_of, whole_made, whole_made_from, files_made, file_made, no_piece, MakesWhole, IsFaultOf};
 ghost use Rattle.rnc_parse.specs.Written.{a_grammar, a_pattern};
 ghost use Rattle.rng_simplify.specs.declared.stop.Stop.TheVariants.{NoPiece};
-ghost use Rattle.rng_simplify.specs.Cells as cell;
 ghost use Rattle.rng_simplify.specs.Rows.{row_of};
-ghost use Rattle.rng_simplify.specs.Composing.{grammar_items};
-ghost use Rattle.rng_simplify.specs.declared.node.Sign.{Sign as TheSign};
 
 use crate::class::class_in;
 use crate::fault::SchemaFault;
 use crate::load::Loaded;
-use crate::node::{Clause, Node, Sign};
-use crate::replace::replaced;
+use crate::node::{Clause, Node, NodeNumber, Sign};
+use crate::replace::{put_behind, replaced};
 use crate::stop::Stop;
 use nx_base::cause::Cause;
-use nx_base::memory::NoMemory;
-use nx_base::sequence::{Bytes, TryCopy};
+use nx_base::sequence::Bytes;
 use rnc_parse::surface::{
-    Combine, Defined, Item, NameClass, Param, Params, Pattern, Replacement, Surface, TypeName,
+    Combine, Defined, Item, NameClass as WrittenClass, Pattern, Replacement, Surface,
 };
 use std::alloc::Global;
 
@@ -35,7 +31,7 @@ use std::alloc::Global;
 #[derive(Drop)]
 enum Piece {
     /// A pattern, by its node.
-    Pattern(usize),
+    Pattern(NodeNumber),
     /// A grammar, by its definitions, be it alone in a pattern.
     Grammar(Vec<Clause>),
 }
@@ -44,7 +40,7 @@ enum Piece {
 #[derive(Drop)]
 pub(crate) struct Whole {
     pub(crate) nodes: Vec<Node>,
-    pub(crate) root: usize,
+    pub(crate) root: NodeNumber,
 }
 
 /// The nodes so far, and the pieces of the files behind.
@@ -56,9 +52,9 @@ struct Composer {
 }
 
 /// The files in one piece.
-pub(crate) fn compose(alloc: Global, loaded: &[Loaded]) -> Result<Whole, SchemaFault>
-    requires { whole_made loaded.now ≢ no_piece }
-    ensures { MakesWhole loaded.now result }
+pub(crate) fn compose(alloc: Global, loaded: Vec<Loaded>) -> Result<Whole, SchemaFault>
+    requires { whole_made loaded.items ≢ no_piece }
+    ensures { MakesWhole loaded.items result }
 {
     let mut composer = Composer {
         alloc,
@@ -86,72 +82,9 @@ fn fault_of(stop: Stop) -> SchemaFault
     }
 }
 
-/// A definition's name once more.
-fn defined_copy(name: &Defined) -> Result<Defined, NoMemory>
-    ensures { IfOk result (λ copied. copied ≡ name.now) }
-{
-    match name {
-        Defined::Start => Ok(Defined::Start),
-        Defined::Name(name) => Ok(Defined::Name(name.copy()?)),
-    }
-}
-
-/// A datatype's name once more.
-fn type_copy(name: &TypeName) -> Result<TypeName, NoMemory>
-    ensures { IfOk result (λ copied. copied ≡ name.now) }
-{
-    Ok(TypeName {
-        library: name.library.copy()?,
-        name: name.name.copy()?,
-    })
-}
-
-/// The params once more.
-fn params_copy(alloc: Global, params: &Params) -> Result<Params, NoMemory>
-    ensures { IfOk result (λ copied. copied ≡ params.now) }
-{
-    let mut copies = Params::new(alloc);
-    for param in params.as_slice() {
-        copies.push(Param {
-            name: param.name.copy()?,
-            value: param.value.copy()?,
-        })?;
-    }
-    Ok(copies)
-}
-
-/// The items of the grammar that the pattern is, if it is one. A row of one pattern is that pattern.
-#[cycle(alone)]
-fn grammar_alone(pattern: &Pattern) -> Option<&[Item]>
-    ensures { MatchOption result (grammar_items (a_pattern (pattern_of pattern.now)) ≡ None) (λ items. grammar_items (a_pattern (pattern_of pattern.now)) ≡ Some (items_in items.now)) }
-{
-    match pattern {
-        Pattern::Grammar(items) => Some(items.as_slice()),
-        Pattern::Choice(patterns) => grammar_in_row(patterns.as_slice()),
-        Pattern::Group(patterns) => grammar_in_row(patterns.as_slice()),
-        Pattern::Interleave(patterns) => grammar_in_row(patterns.as_slice()),
-        _ => None,
-    }
-}
-
-/// The same of patterns that are joined by any sign.
-#[cycle(alone)]
-fn grammar_in_row(patterns: &[Pattern]) -> Option<&[Item]>
-    ensures { (by : TheSign) → MatchOption result (grammar_items (a_pattern (row_of by patterns.now)) ≡ None) (λ items. grammar_items (a_pattern (row_of by patterns.now)) ≡ Some (items_in items.now)) }
-{
-    let Some((first, others)) = patterns.split_first() else {
-        return None;
-    };
-    if others.is_empty() {
-        grammar_alone(first)
-    } else {
-        None
-    }
-}
-
 impl Composer {
     /// A further node, by its number.
-    fn node(&mut self, node: Node) -> Result<usize, Stop>
+    fn node(&mut self, node: Node) -> Result<NodeNumber, Stop>
         ensures { Makes (making_of self.new) (λ i. i) (cell_made (cell_of node) (making_of self.old)) result }
     {
         let number = self.nodes.len();
@@ -160,16 +93,16 @@ impl Composer {
     }
 
     /// All files in order, and the node of the one that is left.
-    fn whole(&mut self, loaded: &[Loaded]) -> Result<usize, Stop>
-        ensures { Makes (making_of self.new) (λ i. i) (whole_made_from loaded.now (making_of self.old)) result }
+    fn whole(&mut self, loaded: Vec<Loaded>) -> Result<NodeNumber, Stop>
+        ensures { Makes (making_of self.new) (λ i. i) (whole_made_from loaded.items (making_of self.old)) result }
     {
         self.files(loaded)?;
         self.mentioned()
     }
 
     /// Files in order.
-    fn files(&mut self, loaded: &[Loaded]) -> Result<(), Stop>
-        ensures { Makes (making_of self.new) (λ done. done) (files_made loaded.now (making_of self.old)) result }
+    fn files(&mut self, loaded: Vec<Loaded>) -> Result<(), Stop>
+        ensures { Makes (making_of self.new) (λ done. done) (files_made loaded.items (making_of self.old)) result }
     {
         for file in loaded {
             self.take(file)?;
@@ -178,8 +111,8 @@ impl Composer {
     }
 
     /// A file, which leaves its piece for what mentions it.
-    fn take(&mut self, file: &Loaded) -> Result<(), Stop>
-        ensures { Makes (making_of self.new) (λ done. done) (file_made file.now (making_of self.old)) result }
+    fn take(&mut self, file: Loaded) -> Result<(), Stop>
+        ensures { Makes (making_of self.new) (λ done. done) (file_made file (making_of self.old)) result }
     {
         let piece = self.file(file)?;
         self.pieces.push(piece)?;
@@ -187,18 +120,19 @@ impl Composer {
     }
 
     /// A whole file.
-    fn file(&mut self, file: &Loaded) -> Result<Piece, Stop>
-        ensures { Makes (making_of self.new) piece_of (make_file file.now.inherited (surface_of file.now.surface) (making_of self.old)) result }
+    fn file(&mut self, file: Loaded) -> Result<Piece, Stop>
+        ensures { Makes (making_of self.new) piece_of (make_file file.inherited (surface_of file.surface) (making_of self.old)) result }
     {
-        match &file.surface {
-            Surface::Grammar(items) => self.grammar_file(&file.inherited, items.as_slice()),
-            Surface::Pattern(pattern) => self.pattern_file(&file.inherited, pattern),
+        let Loaded { inherited, surface } = file;
+        match surface {
+            Surface::Grammar(items) => self.grammar_file(&inherited, items),
+            Surface::Pattern(pattern) => self.pattern_file(&inherited, pattern),
         }
     }
 
     /// A file of these items.
-    fn grammar_file(&mut self, inherited: &Bytes, items: &[Item]) -> Result<Piece, Stop>
-        ensures { Makes (making_of self.new) piece_of (make_file inherited.now (a_grammar (items_in items.now)) (making_of self.old)) result }
+    fn grammar_file(&mut self, inherited: &Bytes, items: Vec<Item>) -> Result<Piece, Stop>
+        ensures { Makes (making_of self.new) piece_of (make_file inherited.now (a_grammar (items_in items.items)) (making_of self.old)) result }
     {
         let mut clauses = Vec::new(self.alloc);
         self.items(inherited, items, &mut clauses)?;
@@ -206,25 +140,50 @@ impl Composer {
     }
 
     /// A file that is this pattern, which may be a grammar alone.
-    fn pattern_file(&mut self, inherited: &Bytes, pattern: &Pattern) -> Result<Piece, Stop>
-        ensures { Makes (making_of self.new) piece_of (make_file inherited.now (a_pattern (pattern_of pattern.now)) (making_of self.old)) result }
+    #[cycle(file)]
+    fn pattern_file(&mut self, inherited: &Bytes, pattern: Pattern) -> Result<Piece, Stop>
+        ensures { Makes (making_of self.new) piece_of (make_file inherited.now (a_pattern (pattern_of pattern)) (making_of self.old)) result }
     {
-        match grammar_alone(pattern) {
-            Some(items) => self.grammar_file(inherited, items),
-            None => self.lone_pattern(inherited, pattern),
+        match pattern {
+            Pattern::Grammar(items) => self.grammar_file(inherited, items),
+            Pattern::Choice(patterns) => self.row_file(inherited, Sign::Choice, patterns),
+            Pattern::Group(patterns) => self.row_file(inherited, Sign::Group, patterns),
+            Pattern::Interleave(patterns) => self.row_file(inherited, Sign::Interleave, patterns),
+            other => self.lone_pattern(inherited, other),
+        }
+    }
+
+    /// A file that is these patterns joined by a sign. One alone stands for itself.
+    #[cycle(file)]
+    fn row_file(
+        &mut self,
+        inherited: &Bytes,
+        sign: Sign,
+        patterns: Vec<Pattern>,
+    ) -> Result<Piece, Stop>
+        ensures { Makes (making_of self.new) piece_of (make_file inherited.now (a_pattern (row_of sign patterns.items)) (making_of self.old)) result }
+    {
+        if patterns.len() != 1 {
+            let root = self.joined(inherited, sign, patterns)?;
+            return Ok(Piece::Pattern(root));
+        }
+        let mut patterns = patterns;
+        match patterns.pop() {
+            Some(only) => self.pattern_file(inherited, only),
+            None => unreachable!(),
         }
     }
 
     /// A file that is this pattern, and no grammar alone.
-    fn lone_pattern(&mut self, inherited: &Bytes, pattern: &Pattern) -> Result<Piece, Stop>
-        ensures { Makes (making_of self.new) piece_of (lone_made inherited.now (pattern_of pattern.now) (making_of self.old)) result }
+    fn lone_pattern(&mut self, inherited: &Bytes, pattern: Pattern) -> Result<Piece, Stop>
+        ensures { Makes (making_of self.new) piece_of (lone_made inherited.now (pattern_of pattern) (making_of self.old)) result }
     {
         let root = self.pattern(inherited, pattern)?;
         Ok(Piece::Pattern(root))
     }
 
     /// The pattern of the file that is mentioned next.
-    fn mentioned(&mut self) -> Result<usize, Stop>
+    fn mentioned(&mut self) -> Result<NodeNumber, Stop>
         ensures { Makes (making_of self.new) (λ i. i) (next_pattern (making_of self.old)) result }
     {
         match self.pieces.pop() {
@@ -247,55 +206,57 @@ impl Composer {
 
     /// A pattern of a file that inherits the namespace.
     #[cycle(compose)]
-    fn pattern(&mut self, inherited: &Bytes, pattern: &Pattern) -> Result<usize, Stop>
-        ensures { Makes (making_of self.new) (λ i. i) (make inherited.now (pattern_of pattern.now) (making_of self.old)) result }
+    fn pattern(&mut self, inherited: &Bytes, pattern: Pattern) -> Result<NodeNumber, Stop>
+        ensures { Makes (making_of self.new) (λ i. i) (make inherited.now (pattern_of pattern) (making_of self.old)) result }
     {
         match pattern {
-            Pattern::Element(class, content) => self.element(inherited, content, class),
-            Pattern::Attribute(class, value) => self.attribute(inherited, value, class),
+            Pattern::Element(class, content) => {
+                self.element(inherited, Box::into_inner(content), class)
+            }
+            Pattern::Attribute(class, value) => {
+                self.attribute(inherited, Box::into_inner(value), class)
+            }
             Pattern::List(body) => {
-                let body = self.pattern(inherited, body)?;
+                let body = self.pattern(inherited, Box::into_inner(body))?;
                 self.node(Node::List(body))
             }
             Pattern::Mixed(body) => {
                 let text = self.node(Node::Text)?;
-                let body = self.pattern(inherited, body)?;
+                let body = self.pattern(inherited, Box::into_inner(body))?;
                 self.node(Node::Joined(Sign::Interleave, text, body))
             }
-            Pattern::Ref(name) => self.node(Node::Ref(name.copy()?)),
-            Pattern::ParentRef(name) => self.node(Node::ParentRef(name.copy()?)),
+            Pattern::Ref(name) => self.node(Node::Ref(name)),
+            Pattern::ParentRef(name) => self.node(Node::ParentRef(name)),
             Pattern::Empty => self.node(Node::Empty),
             Pattern::Text => self.node(Node::Text),
             Pattern::NotAllowed => self.node(Node::NotAllowed),
-            Pattern::Value(name, text) => self.node(Node::Value(type_copy(name)?, text.copy()?)),
+            Pattern::Value(name, text) => self.node(Node::Value(name, text)),
             Pattern::Data(name, params) => {
                 let except = self.node(Node::NotAllowed)?;
-                self.typed(name, params, except)
+                self.node(Node::Typed(name, params, except))
             }
             Pattern::DataExcept(name, params, except) => {
-                let except = self.pattern(inherited, except)?;
-                self.typed(name, params, except)
+                let except = self.pattern(inherited, Box::into_inner(except))?;
+                self.node(Node::Typed(name, params, except))
             }
             Pattern::External(_) => self.mentioned(),
-            Pattern::Grammar(items) => self.grammar(inherited, items.as_slice()),
+            Pattern::Grammar(items) => self.grammar(inherited, items),
             Pattern::Optional(body) => {
-                let body = self.pattern(inherited, body)?;
+                let body = self.pattern(inherited, Box::into_inner(body))?;
                 self.or_empty(body)
             }
             Pattern::ZeroOrMore(body) => {
-                let body = self.pattern(inherited, body)?;
+                let body = self.pattern(inherited, Box::into_inner(body))?;
                 let repeated = self.node(Node::OneOrMore(body))?;
                 self.or_empty(repeated)
             }
             Pattern::OneOrMore(body) => {
-                let body = self.pattern(inherited, body)?;
+                let body = self.pattern(inherited, Box::into_inner(body))?;
                 self.node(Node::OneOrMore(body))
             }
-            Pattern::Choice(patterns) => self.joined(inherited, Sign::Choice, patterns.as_slice()),
-            Pattern::Group(patterns) => self.joined(inherited, Sign::Group, patterns.as_slice()),
-            Pattern::Interleave(patterns) => {
-                self.joined(inherited, Sign::Interleave, patterns.as_slice())
-            }
+            Pattern::Choice(patterns) => self.joined(inherited, Sign::Choice, patterns),
+            Pattern::Group(patterns) => self.joined(inherited, Sign::Group, patterns),
+            Pattern::Interleave(patterns) => self.joined(inherited, Sign::Interleave, patterns),
         }
     }
 
@@ -303,10 +264,10 @@ impl Composer {
     fn element(
         &mut self,
         inherited: &Bytes,
-        content: &Pattern,
-        class: &NameClass,
-    ) -> Result<usize, Stop>
-        ensures { Makes (making_of self.new) (λ i. i) (make inherited.now (written.element (written_class_of class.now) (pattern_of content.now)) (making_of self.old)) result }
+        content: Pattern,
+        class: WrittenClass,
+    ) -> Result<NodeNumber, Stop>
+        ensures { Makes (making_of self.new) (λ i. i) (make inherited.now (written.element (written_class_of class) (pattern_of content)) (making_of self.old)) result }
     {
         let class = class_in(self.alloc, inherited, class)?;
         let content = self.pattern(inherited, content)?;
@@ -317,27 +278,18 @@ impl Composer {
     fn attribute(
         &mut self,
         inherited: &Bytes,
-        value: &Pattern,
-        class: &NameClass,
-    ) -> Result<usize, Stop>
-        ensures { Makes (making_of self.new) (λ i. i) (make inherited.now (written.attribute (written_class_of class.now) (pattern_of value.now)) (making_of self.old)) result }
+        value: Pattern,
+        class: WrittenClass,
+    ) -> Result<NodeNumber, Stop>
+        ensures { Makes (making_of self.new) (λ i. i) (make inherited.now (written.attribute (written_class_of class) (pattern_of value)) (making_of self.old)) result }
     {
         let class = class_in(self.alloc, inherited, class)?;
         let value = self.pattern(inherited, value)?;
         self.node(Node::Attribute(class, value))
     }
 
-    /// A type from which the pattern is taken.
-    fn typed(&mut self, name: &TypeName, params: &Params, except: usize) -> Result<usize, Stop>
-        ensures { Makes (making_of self.new) (λ i. i) (cell_made (cell.typed name.now params.now except) (making_of self.old)) result }
-    {
-        let name = type_copy(name)?;
-        let params = params_copy(self.alloc, params)?;
-        self.node(Node::Typed(name, params, except))
-    }
-
     /// The choice of the pattern and nothing at all.
-    fn or_empty(&mut self, body: usize) -> Result<usize, Stop>
+    fn or_empty(&mut self, body: NodeNumber) -> Result<NodeNumber, Stop>
         ensures { Makes (making_of self.new) (λ i. i) (or_empty_made body (making_of self.old)) result }
     {
         let empty = self.node(Node::Empty)?;
@@ -346,36 +298,44 @@ impl Composer {
 
     /// Patterns joined by a sign; they nest to the left. None joined are what leaves no trace among others.
     #[cycle(compose)]
-    fn joined(&mut self, inherited: &Bytes, sign: Sign, patterns: &[Pattern]) -> Result<usize, Stop>
-        ensures { Makes (making_of self.new) (λ i. i) (make_row inherited.now sign patterns.now (making_of self.old)) result }
+    fn joined(
+        &mut self,
+        inherited: &Bytes,
+        sign: Sign,
+        patterns: Vec<Pattern>,
+    ) -> Result<NodeNumber, Stop>
+        ensures { Makes (making_of self.new) (λ i. i) (make_row inherited.now sign patterns.items (making_of self.old)) result }
     {
-        let Some((first, others)) = patterns.split_first() else {
-            return self.none_joined(sign);
-        };
-        let mut joined = self.pattern(inherited, first)?;
-        for other in others {
-            joined = self.joined_next(inherited, sign, joined, other)?;
+        let mut joined = None;
+        for pattern in patterns {
+            joined = Some(self.joined_next(inherited, sign, joined, pattern)?);
         }
-        Ok(joined)
+        match joined {
+            Some(joined) => Ok(joined),
+            None => self.none_joined(sign),
+        }
     }
 
-    /// A pattern joined to the next one.
+    /// The patterns so far, if there are some, and the next one.
     #[cycle(compose)]
     fn joined_next(
         &mut self,
         inherited: &Bytes,
         sign: Sign,
-        first: usize,
-        next: &Pattern,
-    ) -> Result<usize, Stop>
-        ensures { Makes (making_of self.new) (λ i. i) (make_next inherited.now sign first next.now (making_of self.old)) result }
+        joined: Option<NodeNumber>,
+        next: Pattern,
+    ) -> Result<NodeNumber, Stop>
+        ensures { Makes (making_of self.new) (λ i. i) (make_next inherited.now sign joined next (making_of self.old)) result }
     {
         let next = self.pattern(inherited, next)?;
-        self.node(Node::Joined(sign, first, next))
+        match joined {
+            Some(first) => self.node(Node::Joined(sign, first, next)),
+            None => Ok(next),
+        }
     }
 
     /// No patterns joined by a sign.
-    fn none_joined(&mut self, sign: Sign) -> Result<usize, Stop>
+    fn none_joined(&mut self, sign: Sign) -> Result<NodeNumber, Stop>
         ensures { Makes (making_of self.new) (λ i. i) (none_made sign (making_of self.old)) result }
     {
         match sign {
@@ -386,8 +346,8 @@ impl Composer {
     }
 
     #[cycle(compose)]
-    fn grammar(&mut self, inherited: &Bytes, items: &[Item]) -> Result<usize, Stop>
-        ensures { Makes (making_of self.new) (λ i. i) (make inherited.now (written.grammar (items_in items.now)) (making_of self.old)) result }
+    fn grammar(&mut self, inherited: &Bytes, items: Vec<Item>) -> Result<NodeNumber, Stop>
+        ensures { Makes (making_of self.new) (λ i. i) (make inherited.now (written.grammar (items_in items.items)) (making_of self.old)) result }
     {
         let mut clauses = Vec::new(self.alloc);
         self.items(inherited, items, &mut clauses)?;
@@ -399,10 +359,10 @@ impl Composer {
     fn items(
         &mut self,
         inherited: &Bytes,
-        items: &[Item],
+        items: Vec<Item>,
         clauses: &mut Vec<Clause>,
     ) -> Result<(), Stop>
-        ensures { Makes (making_of self.new) (λ _. clauses.new.items) (behind clauses.old.items (make_items inherited.now (items_in items.now) (making_of self.old))) result }
+        ensures { Makes (making_of self.new) (λ _. clauses.new.items) (behind clauses.old.items (make_items inherited.now (items_in items.items) (making_of self.old))) result }
     {
         for item in items {
             self.item(inherited, item, clauses)?;
@@ -412,22 +372,15 @@ impl Composer {
 
     /// Adds those of an item.
     #[cycle(compose)]
-    fn item(
-        &mut self,
-        inherited: &Bytes,
-        item: &Item,
-        clauses: &mut Vec<Clause>,
-    ) -> Result<(), Stop>
-        ensures { Makes (making_of self.new) (λ _. clauses.new.items) (behind clauses.old.items (make_item inherited.now (item_of item.now) (making_of self.old))) result }
+    fn item(&mut self, inherited: &Bytes, item: Item, clauses: &mut Vec<Clause>) -> Result<(), Stop>
+        ensures { Makes (making_of self.new) (λ _. clauses.new.items) (behind clauses.old.items (make_item inherited.now (item_of item) (making_of self.old))) result }
     {
         match item {
             Item::Define(name, combine, pattern) => {
-                self.definition(inherited, name, *combine, pattern, clauses)
+                self.definition(inherited, name, combine, pattern, clauses)
             }
-            Item::Div(inside) => self.items(inherited, inside.as_slice(), clauses),
-            Item::Include(_, replacements) => {
-                self.inclusion(inherited, replacements.as_slice(), clauses)
-            }
+            Item::Div(inside) => self.items(inherited, inside, clauses),
+            Item::Include(_, replacements) => self.inclusion(inherited, replacements, clauses),
         }
     }
 
@@ -436,16 +389,16 @@ impl Composer {
     fn inclusion(
         &mut self,
         inherited: &Bytes,
-        replacements: &[Replacement],
+        replacements: Vec<Replacement>,
         clauses: &mut Vec<Clause>,
     ) -> Result<(), Stop>
-        ensures { (reference : FileReference) → Makes (making_of self.new) (λ _. clauses.new.items) (behind clauses.old.items (make_item inherited.now (written.include reference (replacements_in replacements.now)) (making_of self.old))) result }
+        ensures { (reference : FileReference) → Makes (making_of self.new) (λ _. clauses.new.items) (behind clauses.old.items (make_item inherited.now (written.include reference (replacements_in replacements.items)) (making_of self.old))) result }
     {
         let old = self.included()?;
         let mut new = Vec::new(self.alloc);
         self.replacements(inherited, replacements, &mut new)?;
-        let mut kept = replaced(self.alloc, old, new)?;
-        clauses.append(&mut kept)?;
+        let kept = replaced(self.alloc, old, new)?;
+        put_behind(clauses, kept)?;
         Ok(())
     }
 
@@ -454,10 +407,10 @@ impl Composer {
     fn replacements(
         &mut self,
         inherited: &Bytes,
-        replacements: &[Replacement],
+        replacements: Vec<Replacement>,
         clauses: &mut Vec<Clause>,
     ) -> Result<(), Stop>
-        ensures { Makes (making_of self.new) (λ _. clauses.new.items) (behind clauses.old.items (make_anew inherited.now (replacements_in replacements.now) (making_of self.old))) result }
+        ensures { Makes (making_of self.new) (λ _. clauses.new.items) (behind clauses.old.items (make_anew inherited.now (replacements_in replacements.items) (making_of self.old))) result }
     {
         for replacement in replacements {
             self.replacement(inherited, replacement, clauses)?;
@@ -470,16 +423,16 @@ impl Composer {
     fn replacement(
         &mut self,
         inherited: &Bytes,
-        replacement: &Replacement,
+        replacement: Replacement,
         clauses: &mut Vec<Clause>,
     ) -> Result<(), Stop>
-        ensures { Makes (making_of self.new) (λ _. clauses.new.items) (behind clauses.old.items (make_replacement inherited.now (replacement_of replacement.now) (making_of self.old))) result }
+        ensures { Makes (making_of self.new) (λ _. clauses.new.items) (behind clauses.old.items (make_replacement inherited.now (replacement_of replacement) (making_of self.old))) result }
     {
         match replacement {
             Replacement::Define(name, combine, pattern) => {
-                self.definition(inherited, name, *combine, pattern, clauses)
+                self.definition(inherited, name, combine, pattern, clauses)
             }
-            Replacement::Div(inside) => self.replacements(inherited, inside.as_slice(), clauses),
+            Replacement::Div(inside) => self.replacements(inherited, inside, clauses),
         }
     }
 
@@ -488,14 +441,13 @@ impl Composer {
     fn definition(
         &mut self,
         inherited: &Bytes,
-        name: &Defined,
+        name: Defined,
         combine: Combine,
-        pattern: &Pattern,
+        pattern: Pattern,
         clauses: &mut Vec<Clause>,
     ) -> Result<(), Stop>
-        ensures { Makes (making_of self.new) (λ _. clauses.new.items) (behind clauses.old.items (make_item inherited.now (written.define name.now combine (pattern_of pattern.now)) (making_of self.old))) result }
+        ensures { Makes (making_of self.new) (λ _. clauses.new.items) (behind clauses.old.items (make_item inherited.now (written.define name combine (pattern_of pattern)) (making_of self.old))) result }
     {
-        let name = defined_copy(name)?;
         let body = self.pattern(inherited, pattern)?;
         clauses.push(Clause {
             name,

@@ -3,22 +3,23 @@
 ghost use Rattle.std.specs.Prelude.{◌≡◌, ◌+◌, ◌<◌, ℕ, length, map, slice_index, slice_get, Some, Contains};
 ghost use Rattle.rng_simplify.specs.Cells.{cell_of};
 ghost use Rattle.rng_simplify.specs.Forms.{join_of};
-ghost use Rattle.rng_simplify.specs.Forming.{IsKnown, IsRoom, IsInOrder, MakesCell, MakesJoin, JoinsAll, Makes, Places, MakesForms};
+ghost use Rattle.rng_simplify.specs.Forming.{IsKnown, IsRoom, IsInOrder, MakesCell, MakesCombined, JoinsAll, Makes, Places, MakesForms};
 ghost use Rattle.rng_simplify.specs.Resolving.{cell_leads, leads};
 ghost use Rattle.rng_simplify.specs.Shown.{joined_of};
 
 use crate::fault::SchemaFault;
-use crate::node::{Node, Sign};
-use crate::resolve::{Join, Resolved};
-use crate::shape::{Shape, Shapes};
+use crate::node::{Node, NodeNumber, Sign};
+use crate::order::Place;
+use crate::resolve::{Combined, CombinedNumber, Resolved, Target};
+use crate::shape::{Shape, ShapeNumber, Shapes};
 use rnc_parse::surface::Combine;
 use std::alloc::Global;
 
-/// Shapes, and that of each node and each join.
+/// Shapes, and that of each node and of all combined definitions.
 #[derive(Drop)]
 pub(crate) struct Forms {
     pub(crate) shapes: Shapes,
-    of: Vec<usize>,
+    of: Vec<ShapeNumber>,
 }
 
 /// The forms of nodes in an order in which each stands behind those of which its form is made.
@@ -26,12 +27,12 @@ pub(crate) fn forms_of(
     alloc: Global,
     nodes: &[Node],
     found: &Resolved,
-    order: &[usize],
+    order: &[Place],
 ) -> Result<Forms, SchemaFault>
     requires { IsInOrder (map cell_of nodes.now) found.now order.now }
     ensures { MakesForms (map cell_of nodes.now) found.now order.now result }
 {
-    let mut forms = Forms::new(alloc, nodes.len() + found.joins.len())?;
+    let mut forms = Forms::new(alloc, nodes.len() + found.combined.len())?;
     for i in order {
         forms.place(nodes, found, *i)?;
     }
@@ -50,7 +51,7 @@ fn sign_of(combine: Combine) -> Sign
 }
 
 impl Forms {
-    /// Room for the shapes of so many nodes and joins.
+    /// Room for the shapes of so many nodes and combined definitions.
     fn new(alloc: Global, count: usize) -> Result<Forms, SchemaFault>
         ensures { IsRoom count result }
     {
@@ -64,27 +65,28 @@ impl Forms {
         })
     }
 
-    /// The shape of a node.
-    pub(crate) fn of(&self, node: usize) -> usize
-        requires { node < length self.now.of.items }
-        ensures { result ≡ slice_index self.now.of.items node }
+    /// The shape of a node, or of combined definitions.
+    pub(crate) fn of(&self, place: Place) -> ShapeNumber
+        requires { place < length self.now.of.items }
+        ensures { result ≡ slice_index self.now.of.items place }
     {
-        self.of[node]
+        self.of[place]
     }
 
-    /// The shape of the join of this number.
-    fn linked(&self, count: usize, join: usize) -> usize
-        requires { IsKnown self.now.shapes self.now.of.items (count + join) }
-        ensures { result ≡ slice_index self.now.of.items (count + join) }
+    /// The shape of the combined definitions of this number, which stand behind so many nodes.
+    fn linked(&self, count: usize, number: CombinedNumber) -> ShapeNumber
+        requires { IsKnown self.now.shapes self.now.of.items (count + number) }
+        ensures { result ≡ slice_index self.now.of.items (count + number) }
     {
+        // Asking for the length shows that the sum fits.
         let _all = self.of.len();
-        self.of(count + join)
+        self.of(count + number)
     }
 
-    /// Gives a node or a join its shape, where those of what it leads to are known.
-    fn place(&mut self, nodes: &[Node], found: &Resolved, i: usize) -> Result<(), SchemaFault>
-        requires within { i < length nodes.now + length found.now.joins.items }
-        requires all { length self.old.of.items ≡ length nodes.now + length found.now.joins.items }
+    /// Gives a node or combined definitions their shape, where those of what it leads to are known.
+    fn place(&mut self, nodes: &[Node], found: &Resolved, i: Place) -> Result<(), SchemaFault>
+        requires within { i < length nodes.now + length found.now.combined.items }
+        requires all { length self.old.of.items ≡ length nodes.now + length found.now.combined.items }
         requires all_links { length found.now.links.items ≡ length nodes.now }
         requires known { (j : ℕ) → Contains (leads (map cell_of nodes.now) found.now i) j → IsKnown self.old.shapes self.old.of.items j }
         ensures { Places (map cell_of nodes.now) found.now i self.old self.new result }
@@ -94,9 +96,14 @@ impl Forms {
         Ok(())
     }
 
-    /// The shape of a node or a join, where those of what it leads to are known.
-    fn made(&mut self, nodes: &[Node], found: &Resolved, i: usize) -> Result<usize, SchemaFault>
-        requires within { i < length nodes.now + length found.now.joins.items }
+    /// The shape of a node or of combined definitions, where those of what it leads to are known.
+    fn made(
+        &mut self,
+        nodes: &[Node],
+        found: &Resolved,
+        i: Place,
+    ) -> Result<ShapeNumber, SchemaFault>
+        requires within { i < length nodes.now + length found.now.combined.items }
         requires all_links { length found.now.links.items ≡ length nodes.now }
         requires known { (j : ℕ) → Contains (leads (map cell_of nodes.now) found.now i) j → IsKnown self.old.shapes self.old.of.items j }
         ensures made { Makes (map cell_of nodes.now) found.now i self.old.shapes self.new.shapes self.old.of.items result }
@@ -105,7 +112,7 @@ impl Forms {
         if i < nodes.len() {
             self.node(nodes.len(), i, found.links[i], &nodes[i])
         } else {
-            self.join(&found.joins[i - nodes.len()])
+            self.combined(&found.combined[i - nodes.len()])
         }
     }
 
@@ -113,10 +120,10 @@ impl Forms {
     fn node(
         &mut self,
         count: usize,
-        i: usize,
-        link: usize,
+        i: NodeNumber,
+        link: Target,
         node: &Node,
-    ) -> Result<usize, SchemaFault>
+    ) -> Result<ShapeNumber, SchemaFault>
         requires { (j : ℕ) → Contains (cell_leads count link (cell_of node.now)) j → IsKnown self.old.shapes self.old.of.items j }
         ensures made { MakesCell self.old.shapes self.new.shapes self.old.of.items count i link (cell_of node.now) result }
         ensures of_stays { self.new.of ≡ self.old.of }
@@ -151,23 +158,28 @@ impl Forms {
         }
     }
 
-    /// The shape of definitions that are joined, which nest to the left.
-    fn join(&mut self, join: &Join) -> Result<usize, SchemaFault>
-        requires { (j : ℕ) → Contains join.now.bodies.items j → IsKnown self.old.shapes self.old.of.items j }
-        ensures made { MakesJoin self.old.shapes self.new.shapes self.old.of.items join.now.combine join.now.bodies.items result }
+    /// The shape of combined definitions, which nest to the left.
+    fn combined(&mut self, all: &Combined) -> Result<ShapeNumber, SchemaFault>
+        requires { (j : ℕ) → Contains all.now.bodies.items j → IsKnown self.old.shapes self.old.of.items j }
+        ensures made { MakesCombined self.old.shapes self.new.shapes self.old.of.items all.now.combine all.now.bodies.items result }
         ensures of_stays { self.new.of ≡ self.old.of }
     {
-        match join.bodies.as_slice().split_first() {
+        match all.bodies.as_slice().split_first() {
             Some((first, others)) => {
                 let shape = self.of(*first);
-                self.behind(sign_of(join.combine), shape, others)
+                self.behind(sign_of(all.combine), shape, others)
             }
             None => self.shapes.add(Shape::NotAllowed),
         }
     }
 
     /// A shape with those of others joined to it, one by one.
-    fn behind(&mut self, sign: Sign, first: usize, others: &[usize]) -> Result<usize, SchemaFault>
+    fn behind(
+        &mut self,
+        sign: Sign,
+        first: ShapeNumber,
+        others: &[NodeNumber],
+    ) -> Result<ShapeNumber, SchemaFault>
         requires one { first < length self.old.shapes }
         requires known { (j : ℕ) → Contains others.now j → IsKnown self.old.shapes self.old.of.items j }
         ensures made { JoinsAll self.old.shapes self.new.shapes self.old.of.items sign first others.now result }

@@ -1,21 +1,34 @@
 //! Schema files simplified to one grammar (ISO/IEC 19757-2, section 7).
 //!
-//! Files are fetched and read (`load`), put into one piece of numbered nodes (`compose`), and their references are resolved
-//! to what grammars define (`resolve`). Then each node gets its simple form, behind those of which it is made (`order`,
-//! `form`, `shape`), names of types become types (`types`), and the grammar is spelled out, unless it is too large (`limit`,
-//! `build`). Nothing goes from file to file or from reference to reference by recursion.
+//! `simplify` goes through these steps. None of them goes from file to file or from reference to reference by recursion.
 //!
-//! What `simplify` answers stands in specs/Simplified.antt, over the definitions of specs/Composing.antt, Simple.antt, Whole.antt
-//! and Broken.antt and those below them; specs/Agreeing.antt has their laws. The other files of specs/ are between the code and
-//! these. docs/ARCHITECTURE.md has a worked example.
+//! 1. `load`: files are fetched and read, depth first, with those that they mention (`mention`).
+//! 2. `compose`: they are put into one piece of numbered nodes (`node`). There each name has its namespace (`class`), what is
+//!    short is written out, and definitions that an include replaces are left out (`replace`).
+//! 3. `resolve`: definitions of one name in one grammar are combined (`names`), and references lead to them. Name classes that
+//!    no schema may have are refused (`class`).
+//! 4. `order`: nodes, and combined definitions behind them, are brought into an order in which each comes behind those of which
+//!    its simple form is made. Where there is none, a reference leads back to itself.
+//! 5. `form`: in that order each gets its simple form, as a shape that others share (`shape`). So a form of very many nodes is
+//!    known by few shapes, and its size before it is spelled out.
+//! 6. `types`: names of types become types, with what is taken from them.
+//! 7. `limit`, `copies`: a grammar that is too large is refused, and one for which too much would be copied.
+//! 8. `build`: what is left is spelled out as patterns, with a definition for each element.
+//!
+//! Numbers are of four kinds: a node's (`NodeNumber`), combined definitions' (`CombinedNumber`), the place of either in the order
+//! (`Place`) and a shape's (`ShapeNumber`).
+//!
+//! What `simplify` answers stands in specs/Simplified.antt. To believe it one reads that file and the ten on which it stands:
+//! Composed, Classes, Composing, References, Forms, Simple, Places, Whole, Datatypes and Broken; Agreeing.antt has their laws.
+//! All other files of specs/ say what the parts of the code do, for the proof. docs/ARCHITECTURE.md has a worked example.
 #![tactic(auto)]
 
 mod build;
 mod class;
 mod compose;
+pub mod copies;
 pub mod fault;
 mod form;
-mod judge;
 pub mod law;
 pub mod limit;
 mod load;
@@ -31,4 +44,3 @@ mod stop;
 #[cfg(test)]
 mod tests;
 pub mod types;
-mod whole;

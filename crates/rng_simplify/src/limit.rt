@@ -36,7 +36,7 @@ pub(crate) fn check_size(
 }
 
 /// The content of an element.
-fn content(nodes: &[Node], element: usize) -> usize
+pub(crate) fn content(nodes: &[Node], element: usize) -> usize
     requires { IsElement (map cell_of nodes.now) element }
     ensures { result ≡ content_of (map cell_of nodes.now) element }
 {

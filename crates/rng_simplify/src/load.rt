@@ -6,10 +6,11 @@ ghost use Rattle.std.specs.Str.{bytes_eq};
 ghost use Rattle.rng_simplify.specs.declared.load.Link.{Link as TheLink};
 ghost use Rattle.rng_simplify.specs.Loading.{Loads, unread_as, SaysBytes, IsAbsence, Fetches, ReadsFile};
 ghost use Rattle.rng_simplify.specs.Mentioning.{IsTextMention};
-ghost use Rattle.rng_simplify.specs.Following.{IsAdded, IsUnderWay, uris_of, JoinsUri, IsBadText, NextUri, OpensFile, GoesOn, Follows, IsTextLink, AreTextLinks};
+ghost use Rattle.rng_simplify.specs.Following.{IsAdded, IsUnderWay, uris_of, JoinsUri, IsBadText, NextUri, OpensFile, GoesOn, Follows, IsTextLink, AreTextLinks, AreOpened};
 
 use crate::fault::SchemaFault;
 use crate::mention::{Mention, mentions_of};
+use crate::names::Names;
 use nx_base::cause::Cause;
 use nx_base::memory::NoMemory;
 use nx_base::sequence::{Bytes, TryCopy};
@@ -43,6 +44,9 @@ struct Loader {
     alloc: Global,
     chain: Vec<Link>,
     loaded: Vec<Loaded>,
+    /// The URIs of all files that were opened, those of the chain among them. Most files are new, and so need no look at the
+    /// chain.
+    opened: Names<()>,
 }
 
 /// The file and all that it leads to. They are read in the order in which they are mentioned, an outer file before those that
@@ -59,6 +63,7 @@ pub(crate) fn load<F: Files>(
         alloc,
         chain: Vec::new(alloc),
         loaded: Vec::new(alloc),
+        opened: Names::new(alloc),
     };
     let first = Bytes::from_vec(Vec::from_slice(alloc, uri.as_bytes())?);
     loader.open(first, Bytes::new(alloc), files)?;
@@ -144,7 +149,7 @@ fn file_at<F: Files>(alloc: Global, uri: &Bytes, files: &mut F) -> Result<Surfac
 }
 
 /// The URI that the text denotes in the file of that URI.
-fn joined(alloc: Global, base: &Bytes, text: &Bytes) -> Result<Bytes, SchemaFault>
+fn resolved(alloc: Global, base: &Bytes, text: &Bytes) -> Result<Bytes, SchemaFault>
     requires base_is_text { IsUtf8 base.now }
     requires text_is_text { IsUtf8 text.now }
     ensures { JoinsUri base.now text.now result }
@@ -174,7 +179,9 @@ impl Loader {
         inherited: Bytes,
         files: &mut F,
     ) -> Result<(), SchemaFault>
-        requires { IsUtf8 uri }
+        requires text { IsUtf8 uri }
+        requires known { AreOpened self.old.opened (reverse self.old.chain.items) }
+        ensures known { IfOk result (λ _. AreOpened self.new.opened (reverse self.new.chain.items)) }
         ensures opened { OpensFile (F.told files.old) uri inherited (F.faults files.old) (F.faults files.new) self.old.chain.items self.new.chain.items self.old.loaded.items self.new.loaded.items result }
         ensures map { F.told files.new ≡ F.told files.old }
     {
@@ -185,9 +192,12 @@ impl Loader {
 
     /// Adds a file that was read.
     fn add(&mut self, uri: Bytes, inherited: Bytes, surface: Surface) -> Result<(), NoMemory>
-        ensures { IfOk result (λ _. IsAdded uri inherited surface self.old.chain.items self.new.chain.items self.old.loaded.items self.new.loaded.items) }
+        requires { AreOpened self.old.opened (reverse self.old.chain.items) }
+        ensures known { IfOk result (λ _. AreOpened self.new.opened (reverse self.new.chain.items)) }
+        ensures added { IfOk result (λ _. IsAdded uri inherited surface self.old.chain.items self.new.chain.items self.old.loaded.items self.new.loaded.items) }
     {
         let waiting = mentions_of(self.alloc, &inherited, &surface)?;
+        self.opened.add_named(&uri, ())?;
         self.loaded.push(Loaded { inherited, surface })?;
         self.chain.push(Link { uri, waiting })?;
         Ok(())
@@ -196,7 +206,8 @@ impl Loader {
     /// Reads what the files of the chain mention, and what that leads to. Each turn reads a file or ends one, and a file
     /// takes memory.
     fn follow<F: Files>(&mut self, files: &mut F) -> Result<(), SchemaFault>
-        requires { AreTextLinks (reverse self.old.chain.items) }
+        requires texts { AreTextLinks (reverse self.old.chain.items) }
+        requires known { AreOpened self.old.opened (reverse self.old.chain.items) }
         ensures followed { (uri : List ℕ) → IsUnderWay (F.told files.old) uri (reverse self.old.chain.items) self.old.loaded.items
             → Follows (F.told files.old) uri (F.faults files.old) (F.faults files.new) self.new.loaded.items result }
         ensures map { F.told files.new ≡ F.told files.old }
@@ -214,6 +225,8 @@ impl Loader {
     fn go_on<F: Files>(&mut self, link: Link, files: &mut F) -> Result<(), SchemaFault>
         requires link { IsTextLink link }
         requires chain { AreTextLinks (reverse self.old.chain.items) }
+        requires known { AreOpened self.old.opened (link ∷ reverse self.old.chain.items) }
+        ensures known { IfOk result (λ _. AreOpened self.new.opened (reverse self.new.chain.items)) }
         ensures texts { IfOk result (λ _. AreTextLinks (reverse self.new.chain.items)) }
         ensures goes_on { (uri : List ℕ) → IsUnderWay (F.told files.old) uri (link ∷ reverse self.old.chain.items) self.old.loaded.items
             → GoesOn (F.told files.old) uri (F.faults files.old) (F.faults files.new) (reverse self.new.chain.items) self.new.loaded.items result }
@@ -237,6 +250,8 @@ impl Loader {
         requires link { IsTextLink link }
         requires mention { IsTextMention mention }
         requires chain { AreTextLinks (reverse self.old.chain.items) }
+        requires known { AreOpened self.old.opened (link ∷ reverse self.old.chain.items) }
+        ensures known { IfOk result (λ _. AreOpened self.new.opened (reverse self.new.chain.items)) }
         ensures texts { IfOk result (λ _. AreTextLinks (reverse self.new.chain.items)) }
         ensures goes_on { (uri : List ℕ) (before : TheLink) → before.uri ≡ link.uri → reverse before.waiting.items ≡ mention ∷ reverse link.waiting.items
             → IsUnderWay (F.told files.old) uri (before ∷ reverse self.old.chain.items) self.old.loaded.items
@@ -253,9 +268,10 @@ impl Loader {
     fn next_uri(&self, base: &Bytes, text: &Bytes) -> Result<Bytes, SchemaFault>
         requires base_is_text { IsUtf8 base.now }
         requires text_is_text { IsUtf8 text.now }
+        requires known { AreOpened self.now.opened (reverse self.now.chain.items) }
         ensures { NextUri (uris_of (reverse self.now.chain.items)) base.now text.now result }
     {
-        let uri = joined(self.alloc, base, text)?;
+        let uri = resolved(self.alloc, base, text)?;
         if uri.as_slice() == base.as_slice() || self.leads_from(&uri) {
             return Err(SchemaFault::Unreadable(Cause::IncludeLoop));
         }
@@ -264,6 +280,17 @@ impl Loader {
 
     /// Whether the URI is that of a file of the chain.
     fn leads_from(&self, uri: &Bytes) -> bool
+        requires { AreOpened self.now.opened (reverse self.now.chain.items) }
+        ensures { result ≡ list_any (λ link. bytes_eq uri.now link.uri) (reverse self.now.chain.items) }
+    {
+        match self.opened.named(uri) {
+            Some(_) => self.stands_in_chain(uri),
+            None => false,
+        }
+    }
+
+    /// The same by a look at each file of the chain.
+    fn stands_in_chain(&self, uri: &Bytes) -> bool
         ensures { result ≡ list_any (λ link. bytes_eq uri.now link.uri) (reverse self.now.chain.items) }
     {
         self.chain

@@ -18,6 +18,7 @@ pub(crate) struct Names<T> {
 
 impl<T: Drop> Names<T> {
     ghost use Rattle.rnc_parse.specs.declared.surface.Defined.{Defined};
+    ghost use Rattle.rnc_parse.specs.declared.surface.Defined.TheVariants as defined;
     ghost use Rattle.rng_simplify.specs.Keeping.{kept_named, kept_for, KeepsOne};
 
     /// Nothing for any name.
@@ -61,11 +62,17 @@ impl<T: Drop> Names<T> {
     {
         match name {
             Defined::Start => self.start = Some(value),
-            Defined::Name(name) => {
-                let key = Vec::from_slice(self.alloc, name.as_slice())?;
-                self.names.insert(key, value)?;
-            }
+            Defined::Name(name) => self.add_named(name, value)?,
         }
+        Ok(())
+    }
+
+    /// Keeps this for the name of a reference.
+    pub(crate) fn add_named(&mut self, name: &Bytes, value: T) -> Result<(), NoMemory>
+        ensures { OnOk result (KeepsOne self.old (defined.Name name.now) value self.new) }
+    {
+        let key = Vec::from_slice(self.alloc, name.as_slice())?;
+        self.names.insert(key, value)?;
         Ok(())
     }
 }

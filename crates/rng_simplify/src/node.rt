@@ -6,6 +6,9 @@ use nx_base::sequence::Bytes;
 use rnc_parse::surface::{Combine, Defined, Params, TypeName};
 use rng_core::name_class::NameClass;
 
+/// A node, by its place among the nodes.
+pub(crate) type NodeNumber = usize;
+
 /// How two patterns are joined.
 #[derive(Clone, Copy, Debug, PartialEq, Eq)]
 pub(crate) enum Sign {
@@ -18,11 +21,11 @@ pub(crate) enum Sign {
 #[derive(Drop)]
 pub(crate) enum Node {
     /// An element of these names, with this content.
-    Element(NameClass, usize),
+    Element(NameClass, NodeNumber),
     /// An attribute of these names, with this value.
-    Attribute(NameClass, usize),
+    Attribute(NameClass, NodeNumber),
     /// Words.
-    List(usize),
+    List(NodeNumber),
     /// What the grammar around the node defines under the name.
     Ref(Bytes),
     /// What the grammar around that one defines under the name.
@@ -33,13 +36,13 @@ pub(crate) enum Node {
     /// A literal of a datatype.
     Value(TypeName, Bytes),
     /// A datatype with its params, and what is taken away: nothing, where that is not allowed.
-    Typed(TypeName, Params, usize),
+    Typed(TypeName, Params, NodeNumber),
     /// A grammar of its own.
     Grammar(Vec<Clause>),
     /// One or more.
-    OneOrMore(usize),
+    OneOrMore(NodeNumber),
     /// The two joined.
-    Joined(Sign, usize, usize),
+    Joined(Sign, NodeNumber, NodeNumber),
 }
 
 /// A definition in a grammar.
@@ -47,5 +50,5 @@ pub(crate) enum Node {
 pub(crate) struct Clause {
     pub(crate) name: Defined,
     pub(crate) combine: Combine,
-    pub(crate) body: usize,
+    pub(crate) body: NodeNumber,
 }

@@ -1,7 +1,7 @@
 //! An order in which nodes can be simplified, each behind those of which its simple form is made; there is none where a
 //! pattern's form would be a part of itself (ISO/IEC 19757-2, section 7.20).
 //!
-//! The joins of definitions take part in it as further nodes: join `j` has the number `nodes.len() + j`.
+//! Combined definitions take part in it too, each at a place behind those of all nodes.
 
 ghost use Rattle.std.specs.Prelude.{◌≡◌, ◌≢◌, ℕ, ◌+◌, ◌-◌, ◌<◌, ◌^◌, [], ◌∷◌, length, slice_get, Some, None, IfOk, IfSome, OnOk};
 ghost use Rattle.rng_simplify.specs.declared.order.Mark.TheVariants.{New as NotMet};
@@ -13,13 +13,16 @@ ghost use Rattle.rng_simplify.specs.Walking.{IsMet, is_linked as is_linked_cell,
 
 use crate::compose::Whole;
 use crate::fault::SchemaFault;
-use crate::node::Node;
-use crate::resolve::{Join, Resolved, Scope};
+use crate::node::{Node, NodeNumber};
+use crate::resolve::{Combined, Resolved, Scope};
 use nx_base::cause::Cause;
 use nx_base::memory::NoMemory;
 use std::alloc::Global;
 
-/// How far the walk is with a node.
+/// A node by its number, or combined definitions behind all nodes: those of number `n` are at `nodes.len() + n`.
+pub(crate) type Place = usize;
+
+/// How far the walk is with a place.
 #[derive(Clone, Copy, Debug, PartialEq, Eq)]
 enum Mark {
     /// It wasn't met.
@@ -30,10 +33,10 @@ enum Mark {
     Done,
 }
 
-/// A node on the path of the walk, and how many of those that it leads to were met.
+/// A place on the path of the walk, and how many of those that it leads to were met.
 #[derive(Drop)]
 struct Step {
-    node: usize,
+    node: Place,
     met: usize,
 }
 
@@ -42,28 +45,28 @@ struct Step {
 struct Walk {
     marks: Vec<Mark>,
     path: Vec<Step>,
-    order: Vec<usize>,
+    order: Vec<Place>,
 }
 
-/// The nodes that stand in the schema, and all joins, in order.
+/// The places of the nodes that stand in the schema, and of all combined definitions, in order.
 pub(crate) fn order(
     alloc: Global,
     whole: &Whole,
     found: &Resolved,
-) -> Result<Vec<usize>, SchemaFault>
+) -> Result<Vec<Place>, SchemaFault>
     requires formed { AreWellFormed (cells_of whole.now) whole.now.root }
     requires resolved { IsResolved (cells_of whole.now) whole.now.root found.now }
     ensures { OkOrRefused (cells_of whole.now) whole.now.root (λ order. IsOrdered (cells_of whole.now) whole.now.root found.now order.items) result }
 {
-    let mut walk = Walk::begin(alloc, whole.nodes.len() + found.joins.len())?;
+    let mut walk = Walk::begin(alloc, whole.nodes.len() + found.combined.len())?;
     walk.nodes(whole, found)?;
-    walk.joins(whole, found)?;
+    walk.combined(whole, found)?;
     let Walk { order, .. } = walk;
     Ok(order)
 }
 
 /// A part of a node by its place among the parts.
-fn part(node: &Node, k: usize) -> Option<usize>
+fn part(node: &Node, k: usize) -> Option<NodeNumber>
     ensures { result ≡ slice_get (cell_parts (cell_of node.now)) k }
 {
     match node {
@@ -87,7 +90,7 @@ fn only(it: usize, k: usize) -> Option<usize>
     if k == 0 { Some(it) } else { None }
 }
 
-/// Whether a node is linked to a join.
+/// Whether a node leads to combined definitions.
 fn is_linked(node: &Node) -> bool
     ensures { result ≡ is_linked_cell (cell_of node.now) }
 {
@@ -99,20 +102,20 @@ fn is_linked(node: &Node) -> bool
     }
 }
 
-/// A body of a join by its place.
-fn body(join: &Join, k: usize) -> Option<usize>
-    ensures body_is { result ≡ slice_get join.now.bodies.items k }
+/// One of combined definitions by its place among them.
+fn body(all: &Combined, k: usize) -> Option<NodeNumber>
+    ensures body_is { result ≡ slice_get all.now.bodies.items k }
     ensures more { IfSome result (λ _. k + 1 < 2 ^ 64) }
 {
-    join.bodies.get(k).copied()
+    all.bodies.get(k).copied()
 }
 
-/// The node of this number among those to which a node or a join leads.
-fn next(whole: &Whole, found: &Resolved, node: usize, k: usize) -> Option<usize>
+/// The place of this number among those to which the place of a node or of combined definitions leads.
+fn next(whole: &Whole, found: &Resolved, node: Place, k: usize) -> Option<Place>
     requires formed { AreWellFormed (cells_of whole.now) whole.now.root }
     requires resolved { IsResolved (cells_of whole.now) whole.now.root found.now }
     requires met { IsMet (cells_of whole.now) whole.now.root found.now node }
-    requires room { length whole.now.nodes.items + length found.now.joins.items < 2 ^ 64 }
+    requires room { length whole.now.nodes.items + length found.now.combined.items < 2 ^ 64 }
     ensures next_is { result ≡ slice_get (leads (cells_of whole.now) found.now node) k }
     ensures more { IfSome result (λ _. k + 1 < 2 ^ 64) }
 {
@@ -124,7 +127,7 @@ fn next(whole: &Whole, found: &Resolved, node: usize, k: usize) -> Option<usize>
             part(here, k)
         }
     } else {
-        body(&found.joins[node - whole.nodes.len()], k)
+        body(&found.combined[node - whole.nodes.len()], k)
     }
 }
 
@@ -173,15 +176,15 @@ impl Walk {
         }
     }
 
-    /// Walks from each join.
-    fn joins(&mut self, whole: &Whole, found: &Resolved) -> Result<(), SchemaFault>
+    /// Walks from all combined definitions.
+    fn combined(&mut self, whole: &Whole, found: &Resolved) -> Result<(), SchemaFault>
         requires formed { AreWellFormed (cells_of whole.now) whole.now.root }
         requires resolved { IsResolved (cells_of whole.now) whole.now.root found.now }
         requires here { IsWalk (cells_of whole.now) whole.now.root found.now None (walking_of self.old) }
         requires at_rest { (walking_of self.old).path ≡ [] }
-        ensures { OkOrRefused (cells_of whole.now) whole.now.root (λ done. IsWalk (cells_of whole.now) whole.now.root found.now None (walking_of self.new) × ((walking_of self.new).path ≡ []) × KeepsMarks (walking_of self.old) (walking_of self.new) × ((number : ℕ) → number < length found.now.joins.items → mark_at (walking_of self.new) (length whole.now.nodes.items + number) ≢ NotMet)) result }
+        ensures { OkOrRefused (cells_of whole.now) whole.now.root (λ done. IsWalk (cells_of whole.now) whole.now.root found.now None (walking_of self.new) × ((walking_of self.new).path ≡ []) × KeepsMarks (walking_of self.old) (walking_of self.new) × ((number : ℕ) → number < length found.now.combined.items → mark_at (walking_of self.new) (length whole.now.nodes.items + number) ≢ NotMet)) result }
     {
-        for j in 0..found.joins.len() {
+        for j in 0..found.combined.len() {
             self.go(whole, found, whole.nodes.len() + j)?;
         }
         Ok(())

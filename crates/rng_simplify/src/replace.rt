@@ -1,6 +1,6 @@
 //! Definitions of an included grammar, some of them replaced (ISO/IEC 19757-2, section 7.8).
 
-ghost use Rattle.std.specs.Prelude.{◌≡◌, is_some, not, filter, IfOk};
+ghost use Rattle.std.specs.Prelude.{◌≡◌, ◌++◌, is_some, not, filter, IfOk, OnOk};
 ghost use Rattle.std.specs.List.{list_all};
 ghost use Rattle.rnc_parse.specs.declared.surface.Defined.{Defined};
 ghost use Rattle.rng_simplify.specs.Keeping.{kept_for};
@@ -40,6 +40,20 @@ fn without(clauses: Vec<Clause>, names: &Names<()>) -> Vec<Clause>
     kept
 }
 
+/// Puts definitions behind others. An include often stands before all else, and a chain of files does no more for each of them
+/// than to hand its definitions on.
+pub(crate) fn put_behind(clauses: &mut Vec<Clause>, more: Vec<Clause>) -> Result<(), NoMemory>
+    ensures { OnOk result (clauses.new.items ≡ clauses.old.items ++ more.items) }
+{
+    if clauses.is_empty() {
+        *clauses = more;
+        return Ok(());
+    }
+    let mut more = more;
+    clauses.append(&mut more)?;
+    Ok(())
+}
+
 /// The definitions of a grammar, but for those of names that are defined anew, and behind them the new ones. The grammar must
 /// define each of these names.
 pub(crate) fn replaced(
@@ -49,6 +63,9 @@ pub(crate) fn replaced(
 ) -> Result<Vec<Clause>, Stop>
     ensures { IsReplaced old.items new.items result }
 {
+    if new.is_empty() {
+        return Ok(old);
+    }
     let names = names_of(alloc, old.as_slice())?;
     if !are_of(new.as_slice(), &names) {
         return Err(Stop::Unreadable(Cause::NoDefinition));

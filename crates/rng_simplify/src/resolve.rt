@@ -10,13 +10,13 @@ ghost use Rattle.rng_simplify.specs.Breaking.{cells_of, OkOrRefused};
 ghost use Rattle.rng_simplify.specs.Cells.{cell_of};
 ghost use Rattle.rng_simplify.specs.Keeping.{kept_for};
 ghost use Rattle.rng_simplify.specs.Resolving.{IsResolved};
-ghost use Rattle.rng_simplify.specs.Scoping.{AddsTo, both_say, HasSigns, IsGathered, GathersOne, Gathers, given, with_given, findings_of, findings_at_first, outer_in, join_in, Links, TakesGrammar, TakesCell, IsMidway, numbering_of, with_number, with_numbered, AreNumbered};
+ghost use Rattle.rng_simplify.specs.Scoping.{AddsTo, both_say, HasSigns, IsGathered, GathersOne, Gathers, given, with_given, findings_of, findings_at_first, outer_in, combined_in, Links, TakesGrammar, TakesCell, IsMidway, numbering_of, with_number, with_numbered, AreNumbered};
 ghost use Rattle.rng_simplify.specs.Standing.{AreWellFormed, bodies_of, inner_nodes};
 
 use crate::compose::Whole;
 use crate::fault::SchemaFault;
 use crate::names::Names;
-use crate::node::{Clause, Node};
+use crate::node::{Clause, Node, NodeNumber};
 use nx_base::cause::Cause;
 use nx_base::memory::NoMemory;
 use nx_base::sequence::Bytes;
@@ -34,15 +34,22 @@ pub(crate) enum Scope {
     In(usize),
 }
 
-/// The definitions of one name in one grammar, joined.
+/// Combined definitions, by their place among all of them.
+pub(crate) type CombinedNumber = usize;
+
+/// To what a node leads beside its parts: a reference to the combined definitions of its name, by their number; a grammar to
+/// those of its start; an element to its definition, by its number in the grammar. Of other nodes it means nothing.
+pub(crate) type Target = usize;
+
+/// The definitions of one name in one grammar, combined.
 #[derive(Drop)]
-pub(crate) struct Join {
-    /// How they are joined; nothing is said where one stands alone.
+pub(crate) struct Combined {
+    /// How they are combined; nothing is said where one stands alone.
     pub(crate) combine: Combine,
-    /// Whether one of them says nothing of how it is joined.
+    /// Whether one of them says nothing of how it is combined.
     has_alone: bool,
     /// Their nodes, in order.
-    pub(crate) bodies: Vec<usize>,
+    pub(crate) bodies: Vec<NodeNumber>,
 }
 
 /// A grammar that was met.
@@ -50,19 +57,18 @@ pub(crate) struct Join {
 struct Table {
     /// The grammar around it.
     outer: Scope,
-    /// The join of each name.
-    joins: Names<usize>,
+    /// The number of the combined definitions of each name.
+    combined: Names<CombinedNumber>,
 }
 
 /// What is known of each node.
 #[derive(Drop)]
 pub(crate) struct Resolved {
     pub(crate) scopes: Vec<Scope>,
-    /// For a reference its join, for a grammar that of its start, for an element the number of its definition.
-    pub(crate) links: Vec<usize>,
-    pub(crate) joins: Vec<Join>,
+    pub(crate) links: Vec<Target>,
+    pub(crate) combined: Vec<Combined>,
     /// The elements' nodes by the numbers of their definitions.
-    pub(crate) elements: Vec<usize>,
+    pub(crate) elements: Vec<NodeNumber>,
 }
 
 /// A walk over the nodes.
@@ -71,8 +77,8 @@ struct Resolver {
     alloc: Global,
     tables: Vec<Table>,
     scopes: Vec<Scope>,
-    links: Vec<usize>,
-    joins: Vec<Join>,
+    links: Vec<Target>,
+    combined: Vec<Combined>,
 }
 
 /// A list of so many times the same value.
@@ -96,7 +102,7 @@ pub(crate) fn resolve(alloc: Global, whole: &Whole) -> Result<Resolved, SchemaFa
     let Resolver {
         scopes,
         links,
-        joins,
+        combined,
         ..
     } = resolver;
     let mut links = links;
@@ -104,7 +110,7 @@ pub(crate) fn resolve(alloc: Global, whole: &Whole) -> Result<Resolved, SchemaFa
     Ok(Resolved {
         scopes,
         links,
-        joins,
+        combined,
         elements,
     })
 }
@@ -164,7 +170,7 @@ fn number_standing(
     }
 }
 
-/// How definitions are joined; nothing, where some are joined in the one way and another in the other way.
+/// How definitions are combined; nothing, where some are combined in the one way and another in the other way.
 fn both(before: Combine, combine: Combine) -> Option<Combine>
     ensures { result ≡ both_say before combine }
 {
@@ -177,7 +183,7 @@ fn both(before: Combine, combine: Combine) -> Option<Combine>
     }
 }
 
-/// Whether a definition says nothing of how it is joined.
+/// Whether a definition says nothing of how it is combined.
 fn is_alone(combine: Combine) -> bool
     ensures { result ≡ says_nothing combine }
 {
@@ -187,28 +193,28 @@ fn is_alone(combine: Combine) -> bool
     }
 }
 
-/// Whether one of several definitions, or one more, says nothing of how it is joined.
+/// Whether one of several definitions, or one more, says nothing of how it is combined.
 fn one_alone(has_alone: bool, combine: Combine) -> bool
     ensures { result ≡ (has_alone || says_nothing combine) }
 {
     has_alone || is_alone(combine)
 }
 
-/// Whether one of several definitions and one more say nothing of how they are joined.
+/// Whether one of several definitions and one more say nothing of how they are combined.
 fn two_alone(has_alone: bool, combine: Combine) -> bool
     ensures { result ≡ (has_alone && says_nothing combine) }
 {
     has_alone && is_alone(combine)
 }
 
-impl Join {
-    /// The join of one definition.
-    fn of(alloc: Global, combine: Combine, body: usize) -> Result<Join, NoMemory>
+impl Combined {
+    /// One definition alone.
+    fn of(alloc: Global, combine: Combine, body: usize) -> Result<Combined, NoMemory>
         ensures { IfOk result (λ join. (join.bodies.items ≡ body ∷ []) × HasSigns (combine ∷ []) join) }
     {
         let mut bodies = Vec::new(alloc);
         bodies.push(body)?;
-        Ok(Join {
+        Ok(Combined {
             combine,
             has_alone: is_alone(combine),
             bodies,
@@ -238,34 +244,34 @@ impl Join {
 fn gather(
     alloc: Global,
     names: &mut Names<usize>,
-    joins: &mut Vec<Join>,
+    combined: &mut Vec<Combined>,
     clause: &Clause,
 ) -> Result<(), SchemaFault>
-    requires { (number : ℕ) → kept_for names.old clause.now.name ≡ Some number → number < length joins.old.items }
-    ensures { (first : ℕ) (before : List Clause) → IsGathered first before names.old joins.old.items → GathersOne first before clause.now joins.old.items names.new joins.new.items result }
+    requires { (number : ℕ) → kept_for names.old clause.now.name ≡ Some number → number < length combined.old.items }
+    ensures { (first : ℕ) (before : List Clause) → IsGathered first before names.old combined.old.items → GathersOne first before clause.now combined.old.items names.new combined.new.items result }
 {
     match names.get(&clause.name).copied() {
-        Some(number) => joins[number].add(clause.combine, clause.body),
+        Some(number) => combined[number].add(clause.combine, clause.body),
         None => {
-            let join = Join::of(alloc, clause.combine, clause.body)?;
-            names.add(&clause.name, joins.len())?;
-            joins.push(join)?;
+            let alone = Combined::of(alloc, clause.combine, clause.body)?;
+            names.add(&clause.name, combined.len())?;
+            combined.push(alone)?;
             Ok(())
         }
     }
 }
 
-/// The joins of definitions, by names.
+/// Combines definitions; the answer has their numbers by their names.
 fn gathered(
     alloc: Global,
-    joins: &mut Vec<Join>,
+    combined: &mut Vec<Combined>,
     clauses: &[Clause],
 ) -> Result<Names<usize>, SchemaFault>
-    ensures { Gathers clauses.now joins.old.items joins.new.items result }
+    ensures { Gathers clauses.now combined.old.items combined.new.items result }
 {
     let mut names = Names::new(alloc);
     for clause in clauses {
-        gather(alloc, &mut names, joins, clause)?;
+        gather(alloc, &mut names, combined, clause)?;
     }
     Ok(names)
 }
@@ -294,7 +300,7 @@ impl Resolver {
             tables: Vec::new(alloc),
             scopes,
             links,
-            joins: Vec::new(alloc),
+            combined: Vec::new(alloc),
         })
     }
 
@@ -370,48 +376,48 @@ impl Resolver {
         }
     }
 
-    /// The join of a name in a grammar.
-    fn join_of(&self, scope: Scope, name: &Bytes) -> Option<usize>
-        ensures { result ≡ join_in (findings_of self.now).tables scope name.now }
+    /// The combined definitions of a name in a grammar.
+    fn combined_of(&self, scope: Scope, name: &Bytes) -> Option<CombinedNumber>
+        ensures { result ≡ combined_in (findings_of self.now).tables scope name.now }
     {
         match scope {
             Scope::In(grammar) => match self.tables.get(grammar) {
-                Some(table) => table.joins.named(name).copied(),
+                Some(table) => table.combined.named(name).copied(),
                 None => None,
             },
             Scope::Outside | Scope::Nowhere => None,
         }
     }
 
-    /// Links a reference to the join of the name in a grammar.
+    /// Links a reference to the combined definitions of the name in a grammar.
     fn refer(&mut self, i: usize, scope: Scope, name: &Bytes) -> Result<(), SchemaFault>
         requires { i < length (findings_of self.old).links }
-        ensures { Links i (join_in (findings_of self.old).tables scope name.now) (findings_of self.old) (findings_of self.new) result }
+        ensures { Links i (combined_in (findings_of self.old).tables scope name.now) (findings_of self.old) (findings_of self.new) result }
     {
-        match self.join_of(scope, name) {
-            Some(join) => {
-                self.links[i] = join;
+        match self.combined_of(scope, name) {
+            Some(number) => {
+                self.links[i] = number;
                 Ok(())
             }
             None => Err(SchemaFault::Unreadable(Cause::NoDefinition)),
         }
     }
 
-    /// Takes a grammar, and links it to the join of its start.
+    /// Takes a grammar, and links it to the combined definitions of its start.
     fn grammar(&mut self, i: usize, outer: Scope, clauses: &[Clause]) -> Result<(), SchemaFault>
         requires known { i < length (findings_of self.old).links }
         requires within { (body : ℕ) → Contains (bodies_of clauses.now) body → body < length (findings_of self.old).scopes }
         ensures { TakesGrammar i outer clauses.now (findings_of self.old) (findings_of self.new) result }
     {
         let scope = Scope::In(self.tables.len());
-        let names = gathered(self.alloc, &mut self.joins, clauses)?;
+        let names = gathered(self.alloc, &mut self.combined, clauses)?;
         match names.get(&Defined::Start).copied() {
             Some(start) => {
                 give(&mut self.scopes, clauses, scope);
                 self.links[i] = start;
                 self.tables.push(Table {
                     outer,
-                    joins: names,
+                    combined: names,
                 })?;
                 Ok(())
             }

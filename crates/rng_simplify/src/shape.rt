@@ -11,9 +11,12 @@ ghost use Rattle.rng_simplify.specs.declared.shape.Shape.TheVariants as variant;
 ghost use Rattle.rng_simplify.specs.declared.node.Sign.TheVariants as signs;
 
 use crate::fault::SchemaFault;
-use crate::node::Sign;
+use crate::node::{NodeNumber, Sign};
 use std::alloc::Global;
 use std::marker::Model;
+
+/// A shape, by its place among the shapes.
+pub(crate) type ShapeNumber = usize;
 
 /// A form, whose parts are shapes with smaller numbers.
 #[derive(Clone, Copy, Debug, PartialEq, Eq)]
@@ -22,16 +25,16 @@ pub(crate) enum Shape {
     Empty,
     Text,
     /// The value of a node.
-    Value(usize),
+    Value(NodeNumber),
     /// The type of a node.
-    Typed(usize),
+    Typed(NodeNumber),
     /// An element by the number of its definition.
     Ref(usize),
-    List(usize),
+    List(ShapeNumber),
     /// An attribute with the class of a node.
-    Attribute(usize, usize),
-    OneOrMore(usize),
-    Joined(Sign, usize, usize),
+    Attribute(NodeNumber, ShapeNumber),
+    OneOrMore(ShapeNumber),
+    Joined(Sign, ShapeNumber, ShapeNumber),
 }
 
 /// How large a form is. Numbers stop at the greatest.
@@ -155,8 +158,15 @@ impl Shapes {
         }
     }
 
+    /// How many shapes there are.
+    pub(crate) fn len(&self) -> usize
+        ensures { result ≡ length self.now }
+    {
+        self.entries.len()
+    }
+
     /// The shape of a number.
-    pub(crate) fn shape(&self, number: usize) -> Shape
+    pub(crate) fn shape(&self, number: ShapeNumber) -> Shape
         requires { number < length self.now }
         ensures there { slice_get self.now number ≡ Some result }
         ensures behind { IsBehindParts number result }
@@ -165,7 +175,7 @@ impl Shapes {
     }
 
     /// Its size.
-    pub(crate) fn size(&self, number: usize) -> Size
+    pub(crate) fn size(&self, number: ShapeNumber) -> Size
         requires { number < length self.now }
         ensures { IsSizeAt self.now number result }
     {
@@ -194,7 +204,7 @@ impl Shapes {
     }
 
     /// A further shape, by its number.
-    pub(crate) fn add(&mut self, shape: Shape) -> Result<usize, SchemaFault>
+    pub(crate) fn add(&mut self, shape: Shape) -> Result<ShapeNumber, SchemaFault>
         requires { IsBehindParts (length self.old) shape }
         ensures { Adds self.old self.new shape result }
     {
@@ -205,7 +215,7 @@ impl Shapes {
     }
 
     /// What a form counts for in others.
-    fn head(&self, number: usize) -> Head
+    fn head(&self, number: ShapeNumber) -> Head
         requires { number < length self.now }
         ensures { IsHeadAt self.now number result }
     {
@@ -213,7 +223,7 @@ impl Shapes {
     }
 
     /// Words of this form.
-    pub(crate) fn list(&mut self, part: usize) -> Result<usize, SchemaFault>
+    pub(crate) fn list(&mut self, part: ShapeNumber) -> Result<ShapeNumber, SchemaFault>
         requires { part < length self.old }
         ensures { Shows self.old self.new variant.Empty (λ cells at. list_of (at part)) result }
     {
@@ -225,7 +235,11 @@ impl Shapes {
     }
 
     /// An attribute with the class of the node and this value.
-    pub(crate) fn attribute(&mut self, node: usize, part: usize) -> Result<usize, SchemaFault>
+    pub(crate) fn attribute(
+        &mut self,
+        node: NodeNumber,
+        part: ShapeNumber,
+    ) -> Result<ShapeNumber, SchemaFault>
         requires { part < length self.old }
         ensures { Shows self.old self.new (variant.Attribute node part) (λ cells at. attribute_of (class_in (slice_get cells node)) (at part)) result }
     {
@@ -237,7 +251,7 @@ impl Shapes {
     }
 
     /// One or more of this form.
-    pub(crate) fn one_or_more(&mut self, part: usize) -> Result<usize, SchemaFault>
+    pub(crate) fn one_or_more(&mut self, part: ShapeNumber) -> Result<ShapeNumber, SchemaFault>
         requires { part < length self.old }
         ensures { Shows self.old self.new variant.Empty (λ cells at. one_or_more_of (at part)) result }
     {
@@ -252,9 +266,9 @@ impl Shapes {
     pub(crate) fn joined(
         &mut self,
         sign: Sign,
-        first: usize,
-        second: usize,
-    ) -> Result<usize, SchemaFault>
+        first: ShapeNumber,
+        second: ShapeNumber,
+    ) -> Result<ShapeNumber, SchemaFault>
         requires one { first < length self.old }
         requires other { second < length self.old }
         ensures { Shows self.old self.new variant.Empty (λ cells at. joined_of sign (at first) (at second)) result }
@@ -267,7 +281,11 @@ impl Shapes {
     }
 
     /// Either of the two.
-    fn choice(&mut self, first: usize, second: usize) -> Result<usize, SchemaFault>
+    fn choice(
+        &mut self,
+        first: ShapeNumber,
+        second: ShapeNumber,
+    ) -> Result<ShapeNumber, SchemaFault>
         requires one { first < length self.old }
         requires other { second < length self.old }
         ensures { Shows self.old self.new variant.Empty (λ cells at. joined_of signs.Choice (at first) (at second)) result }
@@ -288,7 +306,12 @@ impl Shapes {
     }
 
     /// The two of them, by a sign that is no choice.
-    fn both(&mut self, sign: Sign, first: usize, second: usize) -> Result<usize, SchemaFault>
+    fn both(
+        &mut self,
+        sign: Sign,
+        first: ShapeNumber,
+        second: ShapeNumber,
+    ) -> Result<ShapeNumber, SchemaFault>
         requires no_choice { sign ≢ signs.Choice }
         requires one { first < length self.old }
         requires other { second < length self.old }

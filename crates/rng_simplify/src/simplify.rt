@@ -1,22 +1,24 @@
 //! The grammar that schema files define.
 
-ghost use Rattle.std.specs.Prelude.{◌≡◌, ℕ, List};
+ghost use Rattle.std.specs.Prelude.{◌≡◌};
 ghost use Rattle.rng_simplify.specs.Breaking.{cells_of};
 ghost use Rattle.rng_simplify.specs.CellTexts.{AreTexts};
-ghost use Rattle.rng_simplify.specs.Grammars.{GivesGrammar, IsSorted, HasForms, HasTypes, IsMeasured};
+ghost use Rattle.rng_simplify.specs.Composition.{GivesWhole};
+ghost use Rattle.rng_simplify.specs.Grammars.{GivesGrammar};
 ghost use Rattle.rng_simplify.specs.Simplified.{Answers};
 ghost use Rattle.rng_simplify.specs.Standing.{AreWellFormed};
 
 use crate::build::Builder;
-use crate::compose::Whole;
+use crate::class::check_classes;
+use crate::compose::{Whole, compose};
+use crate::copies::check_copies;
 use crate::fault::SchemaFault;
-use crate::form::{Forms, forms_of};
-use crate::judge::check_classes;
+use crate::form::forms_of;
 use crate::limit::check_size;
+use crate::load::load;
 use crate::order::order;
-use crate::resolve::{Resolved, resolve};
-use crate::types::{NodeType, types_of};
-use crate::whole::whole_schema;
+use crate::resolve::resolve;
+use crate::types::types_of;
 use nx_host::files::Files;
 use rng_core::grammar::Grammar;
 use std::alloc::Global;
@@ -31,7 +33,16 @@ pub fn simplify<F: Files>(alloc: Global, uri: &str, files: &mut F) -> Result<Gra
     grammar_of(alloc, &whole)
 }
 
-/// The grammar of a schema in one piece.
+/// The files that are reached from the URI, in one piece.
+fn whole_schema<F: Files>(alloc: Global, uri: &str, files: &mut F) -> Result<Whole, SchemaFault>
+    ensures gives { GivesWhole (F.told files.old) uri.now (F.faults files.old) (F.faults files.new) result }
+    ensures map { F.told files.new ≡ F.told files.old }
+{
+    let loaded = load(alloc, uri, files)?;
+    compose(alloc, loaded)
+}
+
+/// The grammar of a schema in one piece. Forms are known, and how large they are, before any of them is spelled out.
 fn grammar_of(alloc: Global, whole: &Whole) -> Result<Grammar, SchemaFault>
     requires formed { AreWellFormed (cells_of whole.now) whole.now.root }
     requires texts { AreTexts (cells_of whole.now) }
@@ -40,74 +51,19 @@ fn grammar_of(alloc: Global, whole: &Whole) -> Result<Grammar, SchemaFault>
     let found = resolve(alloc, whole)?;
     check_classes(whole, &found)?;
     let order = order(alloc, whole, &found)?;
-    of_order(alloc, whole, &found, order.as_slice())
-}
-
-/// The grammar of a schema whose nodes are in order.
-fn of_order(
-    alloc: Global,
-    whole: &Whole,
-    found: &Resolved,
-    order: &[usize],
-) -> Result<Grammar, SchemaFault>
-    requires { IsSorted (cells_of whole.now) whole.now.root found.now order.now }
-    ensures { GivesGrammar (cells_of whole.now) whole.now.root result }
-{
-    let forms = forms_of(alloc, whole.nodes.as_slice(), found, order)?;
-    of_forms(alloc, whole, found, order, &forms)
-}
-
-/// The grammar of a schema whose nodes have these forms.
-fn of_forms(
-    alloc: Global,
-    whole: &Whole,
-    found: &Resolved,
-    order: &[usize],
-    forms: &Forms,
-) -> Result<Grammar, SchemaFault>
-    requires { HasForms (cells_of whole.now) whole.now.root found.now order.now forms.now }
-    ensures { GivesGrammar (cells_of whole.now) whole.now.root result }
-{
-    let types = types_of(alloc, whole.nodes.as_slice(), forms, order)?;
-    of_types(alloc, whole, found, forms, types.as_slice())
-}
-
-/// The grammar of a schema whose nodes have these forms and types.
-fn of_types(
-    alloc: Global,
-    whole: &Whole,
-    found: &Resolved,
-    forms: &Forms,
-    types: &[Option<NodeType>],
-) -> Result<Grammar, SchemaFault>
-    requires { (order : List ℕ) × HasTypes (cells_of whole.now) whole.now.root found.now order forms.now types.now }
-    ensures { GivesGrammar (cells_of whole.now) whole.now.root result }
-{
-    check_size(
-        whole.nodes.as_slice(),
-        forms,
-        whole.root,
-        found.elements.as_slice(),
-    )?;
-    spelled(alloc, whole, found, forms, types)
-}
-
-/// The grammar of a schema whose forms are within the limits.
-fn spelled(
-    alloc: Global,
-    whole: &Whole,
-    found: &Resolved,
-    forms: &Forms,
-    types: &[Option<NodeType>],
-) -> Result<Grammar, SchemaFault>
-    requires { (order : List ℕ) × IsMeasured (cells_of whole.now) whole.now.root found.now order forms.now types.now }
-    ensures { GivesGrammar (cells_of whole.now) whole.now.root result }
-{
+    let nodes = whole.nodes.as_slice();
+    let ordered = order.as_slice();
+    let forms = forms_of(alloc, nodes, &found, ordered)?;
+    let node_types = types_of(alloc, nodes, &forms, ordered)?;
+    let types = node_types.as_slice();
+    let elements = found.elements.as_slice();
+    check_size(nodes, &forms, whole.root, elements)?;
+    check_copies(alloc, nodes, types, &forms, whole.root, elements)?;
     let builder = Builder {
         alloc,
-        nodes: whole.nodes.as_slice(),
-        forms,
+        nodes,
+        forms: &forms,
         types,
     };
-    builder.grammar(whole.root, found.elements.as_slice())
+    builder.grammar(whole.root, elements)
 }

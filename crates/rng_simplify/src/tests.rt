@@ -949,6 +949,20 @@ fn other_excepts_have_a_limit(rt: HostRuntime) -> Result<(), Fail> {
     compare_doubled(&rt, rt.alloc(), OTHER_EXCEPTS, "xsd:int \"7\"", "|")
 }
 
+/// Starts over 2 to the power of n attributes of 1,000 names as `xn`.
+const COPIES: &str = "element a { x2 }
+=> a grammar
+
+element a { x13 }
+=> NoMemory";
+
+#[test]
+fn copies_have_a_limit(rt: HostRuntime) -> Result<(), Fail> {
+    let names = " | n".repeat(rt.alloc(), 999)?;
+    let first = format!(in rt.alloc(); "attribute (n{names}) {{ text }}")?;
+    compare_doubled(&rt, rt.alloc(), COPIES, first.as_str(), "|")
+}
+
 /// Adds a file that includes the next one.
 fn add_link(alloc: Global, files: &mut SureFiles, i: usize) -> Result<(), Fail> {
     let next = i.saturating_add(1);

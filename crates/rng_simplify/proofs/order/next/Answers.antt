@@ -19,7 +19,7 @@ index-requires-else-node-len c =
     let nodes = c.args.whole.now.nodes.items in
     let past : length nodes ≤ c.args.node = omega (arith, c.if-node-len.false, c.len.ensures, c.args.whole.now.nodes.ok.0) in
     let there = join_there nodes c.args.whole.now.root c.args.found.now c.args.node c.requires.formed c.requires.met past in
-    omega (arith, there, c.len-else-node-len.ensures, c.args.whole.now.nodes.ok.0, c.args.found.now.joins.ok.0)
+    omega (arith, there, c.len-else-node-len.ensures, c.args.whole.now.nodes.ok.0, c.args.found.now.combined.ok.0)
 
 pub returns-then-is_linked-clause-next_is : goal.returns-then-is_linked-clause-next_is
 returns-then-is_linked-clause-next_is c =

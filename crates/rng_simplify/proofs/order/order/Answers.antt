@@ -4,4 +4,4 @@ use Rattle.rng_simplify.proofs.order.order.Goals as goal
 
 pub returns : goal.returns
 returns c =
-    nodes_ordered c.args.whole.now.nodes.items c.args.whole.now.root c.args.found.now (walking_of c.nodes.new.self) (walking_of c.joins.new.self) c.in_ok-nodes.ensures.2 c.in_ok-joins.ensures.0 c.in_ok-joins.ensures.1 c.in_ok-joins.ensures.2 c.in_ok-joins.ensures.3
+    nodes_ordered c.args.whole.now.nodes.items c.args.whole.now.root c.args.found.now (walking_of c.nodes.new.self) (walking_of c.combined.new.self) c.in_ok-nodes.ensures.2 c.in_ok-combined.ensures.0 c.in_ok-combined.ensures.1 c.in_ok-combined.ensures.2 c.in_ok-combined.ensures.3

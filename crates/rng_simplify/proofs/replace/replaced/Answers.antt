@@ -1,11 +1,18 @@
-use Rattle.std.proofs.Common.{◌≡◌, ap, sym, ◌∙◌, is_some, ◌++◌}
+use Rattle.std.proofs.Common.{◌≡◌, ap, sym, ◌∙◌, is_some, ◌++◌, vec_len, arith}
+use Rattle.std.proofs.lemmas.Bool.{eqb-true}
 use Rattle.std.specs.List.{list_all}
 use Rattle.std.specs.Prelude.{not}
 use Rattle.rnc_parse.specs.declared.surface.Defined.{Defined}
 use Rattle.rng_simplify.specs.Keeping.{kept_for}
 use Rattle.rng_simplify.specs.Making.{is_defined}
 use Rattle.rng_simplify.proofs.Entries.{all_same, filter_same}
+use Rattle.rng_simplify.proofs.Replacing.{none_replaced}
 use Rattle.rng_simplify.proofs.replace.replaced.Goals as goal
+
+pub returns-then-is_empty : goal.returns-then-is_empty
+returns-then-is_empty c =
+    let none = eqb-true (vec_len c.args.new) 0 (sym c.is_empty.ensures ∙ c.if-is_empty.true) in
+    none_replaced c.args.old.items c.args.new.items (omega (arith, none, c.args.new.ok.0))
 
 pub returns : goal.returns
 returns c =

@@ -5,6 +5,6 @@ use Rattle.rng_simplify.proofs.resolve.gathered.Given as goal
 
 abbrev pub invariant-loop-clause : goal.invariant-loop-clause
 invariant-loop-clause l = record {
-  so_far : IsGathered (length l.initial.joins.items) (take l.clause-index l.clauses) l.names l.joins.items;
-  kept : KeepsFirst (length l.initial.joins.items) l.initial.joins.items l.joins.items;
+  so_far : IsGathered (length l.initial.combined.items) (take l.clause-index l.clauses) l.names l.combined.items;
+  kept : KeepsFirst (length l.initial.combined.items) l.initial.combined.items l.combined.items;
 }
