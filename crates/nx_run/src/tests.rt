@@ -25,7 +25,7 @@ struct Row {
     status: Status,
 }
 
-const ROWS: [Row; 24] = [
+const ROWS: [Row; 26] = [
     Row {
         script: "insert 0 \"ab\"\ndelete 0 1\nprint\n",
         output: "b\n",
@@ -94,6 +94,16 @@ const ROWS: [Row; 24] = [
     Row {
         script: "insert 0 \"<a><b </a>\"\nerrors\n",
         output: "errors: 1\n3-6 BadMarkup\n",
+        status: Status::Done,
+    },
+    Row {
+        script: "insert 0 \"abc\nerrors 1\nslice 0\n",
+        output: "line 1 refused: BadCommand\nline 2 refused: BadCommand\nfrontier 0 of 0\n",
+        status: Status::Refused,
+    },
+    Row {
+        script: "insert 0 \"<a><b/></a>\"\nslice 1\nslice 1\nstats\nerrors\nstats\ninsert 11 \"x\"\nerrors\nstats\nslice 99\nstats\n",
+        output: "frontier 3 of 11\nfrontier 7 of 11\ntaken 1\nerrors: 0\ntaken 1\nerrors: 1\n11-12 TextOutside\ntaken 4\nfrontier 12 of 12\ntaken 0\n",
         status: Status::Done,
     },
     Row {
