@@ -14,9 +14,10 @@ use Rattle.rng_simplify.specs.Cells.{Cell}
 use Rattle.rng_simplify.specs.Composition.{IsOnePiece, GivesWhole}
 use Rattle.rng_simplify.specs.Grammars.{IsGrammarOf, IsBrokenSchema, GivesGrammar}
 use Rattle.rng_simplify.specs.Simplified.{Simplifies, IfTold, Answers}
+use Rattle.rng_simplify.proofs.Causes.{schema_cause}
 
 -- where the one piece is broken, so are the files
-piece_broken : (files : FileMap) (uri : List ℕ) (why : Cause) → PieceIsBroken files uri why → IsBroken files uri why
+pub piece_broken : (files : FileMap) (uri : List ℕ) (why : Cause) → PieceIsBroken files uri why → IsBroken files uri why
 piece_broken files uri cause.BadEscape h = absurd h.broken
 piece_broken files uri cause.BadLiteral h = absurd h.broken
 piece_broken files uri cause.BadCharacter h = absurd h.broken
@@ -61,7 +62,7 @@ pub answers_so : (told : Option FileMap) (uri : List ℕ) (before after : ℕ) (
 answers_so told uri before after whole (Ok grammar) one h =
     (simplified_if uri (cells_of whole) whole.root told one.2 grammar h, h.sound, one.3)
 answers_so told uri before after whole (Err (fault.Unreadable why)) one h =
-    (broken_if uri (cells_of whole) whole.root told one.2 why h, one.3)
+    (schema_cause one.0 why h, broken_if uri (cells_of whole) whole.root told one.2 why h, one.3)
 answers_so told uri before after whole (Err fault.NoMemory) one h = one.3
 answers_so told uri before after whole (Err fault.Failed) one h = absurd h
 answers_so told uri before after whole (Err (fault.Absent a)) one h = absurd h

@@ -50,3 +50,4 @@ pub mod Renumbered
 pub mod Alike
 pub mod Returning
 pub mod Sizes
+pub mod Causes

@@ -76,13 +76,13 @@ module _ (told : Option FileMap) (uri : List ℕ) where
     where
       refused : (why : Cause) → IsOfReading why → IfTold told (λ files. IsRefused files uri why) → after ≡ before →
           Answers told uri before after (Err (Unreadable why))
-      refused cause.BadEscape of_reading broken same = (broken, same)
-      refused cause.BadLiteral of_reading broken same = (broken, same)
-      refused cause.BadCharacter of_reading broken same = (broken, same)
-      refused cause.Syntax of_reading broken same = (broken, same)
-      refused cause.TooDeep of_reading broken same = (broken, same)
-      refused cause.UndeclaredPrefix of_reading broken same = (broken, same)
-      refused cause.Twice of_reading broken same = (broken, same)
+      refused cause.BadEscape of_reading broken same = (tt, broken, same)
+      refused cause.BadLiteral of_reading broken same = (tt, broken, same)
+      refused cause.BadCharacter of_reading broken same = (tt, broken, same)
+      refused cause.Syntax of_reading broken same = (tt, broken, same)
+      refused cause.TooDeep of_reading broken same = (tt, broken, same)
+      refused cause.UndeclaredPrefix of_reading broken same = (tt, broken, same)
+      refused cause.Twice of_reading broken same = (tt, broken, same)
       refused why of_reading broken same = absurd of_reading
 
   -- ---- the chain
@@ -253,7 +253,7 @@ module _ (told : Option FileMap) (uri : List ℕ) where
         Answers told uri count count (Err fault)
     not_next count (BadUri bad) is_text h = (subst (λ t. IsUtf8 t) (sym h.0) is_text, subst (λ t. IfTold told (λ files. HasBadUri files uri t)) (sym h.0) (bad_uri count h.1), refl)
     not_next count NoMemory is_text h = refl
-    not_next count (Unreadable cause.IncludeLoop) is_text h = (loop_at h.0 h.1 h.2, refl)
+    not_next count (Unreadable cause.IncludeLoop) is_text h = (tt, loop_at h.0 h.1 h.2, refl)
     not_next count fault is_text h = absurd h
 
     -- the file where the mention leads is reached

@@ -36,19 +36,19 @@ use Rattle.rng_simplify.proofs.Sizes.{depth_same, starts, same_total}
 
 -- ---- lists
 
-record IsFrom {A B : Type 0} (f : A → B) (xs : List A) (y : B) : Type 0 where
-  from : A
-  among : Contains xs from
-  is : f from ≡ y
+pub record IsFrom {A B : Type 0} (f : A → B) (xs : List A) (y : B) : Type 0 where
+  pub from : A
+  pub among : Contains xs from
+  pub is : f from ≡ y
 
-among_from : {A B : Type 0} (f : A → B) (xs : List A) (y : B) → Contains (map f xs) y → IsFrom f xs y
+pub among_from : {A B : Type 0} (f : A → B) (xs : List A) (y : B) → Contains (map f xs) y → IsFrom f xs y
 among_from f [] y h = absurd (in_none h)
 among_from f (x ∷ xs) y h = elim (in_cases (f x) (map f xs) y h) [
   | inl is ↦ record { from = x; among = in_first x xs; is = is }
   | inr more ↦ let rest = among_from f xs y more in record { from = rest.from; among = in_more x xs rest.from rest.among; is = rest.is }
 ]
 
-among_map : {A B : Type 0} (f : A → B) (xs : List A) (x : A) → Contains xs x → Contains (map f xs) (f x)
+pub among_map : {A B : Type 0} (f : A → B) (xs : List A) (x : A) → Contains xs x → Contains (map f xs) (f x)
 among_map f [] x h = absurd (in_none h)
 among_map {B = B} f (first ∷ xs) x h = elim (in_cases first xs x h) [
   | inl is ↦ let P : B → Type 0 = λ y. Contains (f first ∷ map f xs) y in subst P (ap f is) (in_first (f first) (map f xs))
@@ -366,4 +366,4 @@ no_refusal decided files uri before after grammar (fault.NotUtf8 wrong at) h r =
 no_refusal decided files uri before after grammar (fault.BadUri text) h r =
     absurd ((are_passed decided files uri h.0.whole h.0.composed).no_bad_uri text r.1)
 no_refusal decided files uri before after grammar (fault.Unreadable why) h r =
-    absurd (never_broken decided files uri (pattern_of grammar.start) (definitions_of grammar) h.0 why r.0)
+    absurd (never_broken decided files uri (pattern_of grammar.start) (definitions_of grammar) h.0 why r.1)

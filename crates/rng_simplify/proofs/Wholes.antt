@@ -13,6 +13,7 @@ use Rattle.rng_simplify.specs.Composition.{IsOnePiece, GivesWhole}
 use Rattle.rng_simplify.specs.Loading.{AllLoaded}
 use Rattle.rng_simplify.specs.Making.{MakesWhole, whole_made, refused}
 use Rattle.rng_simplify.specs.Simplified.{IfTold}
+use Rattle.rng_simplify.proofs.Causes.{composing_cause}
 use Rattle.rng_simplify.proofs.OnePiece.{made_is_composed}
 use Rattle.rng_simplify.proofs.Refusing.{refused_is_broken}
 use Rattle.rng_simplify.proofs.Walking.{made_is_well_formed}
@@ -38,6 +39,6 @@ module _ (uri : List ℕ) (loaded : List Loaded) where
     composed_if told all whole makes,
     refl,
   )
-  gives_whole told count (Err (Unreadable why)) all makes = (broken_if told all why makes, refl)
+  gives_whole told count (Err (Unreadable why)) all makes = (composing_cause loaded why makes, broken_if told all why makes, refl)
   gives_whole told count (Err NoMemory) all makes = refl
   gives_whole told count (Err fault) all makes = absurd makes

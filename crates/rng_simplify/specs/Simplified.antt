@@ -1,6 +1,7 @@
 -- The grammar that schema files define, and what `simplify` answers.
 use Rattle.std.specs.Prelude.{◌≡◌, ℕ, List, Option, Some, None, Result, Ok, Err, IsUtf8}
 use Rattle.nx_base.specs.declared.cause.Cause.{Cause}
+use Rattle.nx_base.specs.declared.cause.Cause.TheVariants as cause
 use Rattle.nx_host.specs.Count.{Rose}
 use Rattle.nx_host.specs.Files.{FileMap}
 use Rattle.rng_core.specs.declared.grammar.Grammar.{Grammar}
@@ -33,8 +34,20 @@ abbrev pub IfTold : Option FileMap → (FileMap → Type 0) → Type 0
 IfTold None holds = Unit {0}
 IfTold (Some files) holds = holds files
 
+-- a cause that simplification has: none of the restrictions on a grammar, nor that no document is valid
+abbrev pub IsOfSimplification : Cause → Type 0
+IsOfSimplification cause.Path = ⊥
+IsOfSimplification cause.Mixture = ⊥
+IsOfSimplification cause.AttributeOverlap = ⊥
+IsOfSimplification cause.WildcardOnce = ⊥
+IsOfSimplification cause.InterleaveOverlap = ⊥
+IsOfSimplification cause.TextTwice = ⊥
+IsOfSimplification cause.NothingValid = ⊥
+IsOfSimplification why = Unit {0}
+
 -- What `simplify` may answer, where the files told this and the count of faults went from `before` to `after`. A grammar is
--- sound, and the texts of a refusal are UTF-8, whatever the files tell; want of memory is free.
+-- sound, the texts of a refusal are UTF-8, and a cause is one of simplification, whatever the files tell; want of memory is
+-- free.
 abbrev pub Answers : Option FileMap → List ℕ → ℕ → ℕ → Result Grammar SchemaFault → Type 0
 Answers told uri before after (Ok grammar) =
     IfTold told (λ files. Simplifies files uri (pattern_of grammar.start) (definitions_of grammar)) × IsSound grammar × (after ≡ before)
@@ -44,4 +57,5 @@ Answers told uri before after (Err (NotUtf8 wrong at)) = IsUtf8 wrong × IfTold 
 Answers told uri before after (Err (BadUri text)) = IsUtf8 text × IfTold told (λ files. HasBadUri files uri text) × (after ≡ before)
 Answers told uri before after (Err Failed) = Rose before after
 Answers told uri before after (Err NoMemory) = after ≡ before
-Answers told uri before after (Err (Unreadable why)) = IfTold told (λ files. IsBroken files uri why) × (after ≡ before)
+Answers told uri before after (Err (Unreadable why)) =
+    IsOfSimplification why × IfTold told (λ files. IsBroken files uri why) × (after ≡ before)
