@@ -259,13 +259,13 @@ type_cell (is_one_or_more at part) = tt
 type_cell {cells = cells} {number = number} {i = i} (is_joined {p = p} {q = q} by at first second) = joined_type_cell cells number i by p q
 
 -- a name has one type, or none
-not_both : (datatype : Datatype) (why : TypeFault) (named : Result Datatype TypeFault) → named ≡ Ok datatype → named ≡ Err why → ⊥
+pub not_both : (datatype : Datatype) (why : TypeFault) (named : Result Datatype TypeFault) → named ≡ Ok datatype → named ≡ Err why → ⊥
 not_both datatype why named is isnt =
     let same : ◌≡◌ {A = Result Datatype TypeFault} (Ok datatype) (Err why) = sym is ∙ isnt in
     let never : ⊥ = cc in
     never
 
-one_type : (datatype other : Datatype) (named : Result Datatype TypeFault) → named ≡ Ok datatype → named ≡ Ok other → datatype ≡ other
+pub one_type : (datatype other : Datatype) (named : Result Datatype TypeFault) → named ≡ Ok datatype → named ≡ Ok other → datatype ≡ other
 one_type datatype other named is also =
     let same : ◌≡◌ {A = Result Datatype TypeFault} (Ok datatype) (Ok other) = sym is ∙ also in
     cc

@@ -51,3 +51,12 @@ pub mod Alike
 pub mod Returning
 pub mod Sizes
 pub mod Causes
+pub mod Numbering
+pub mod Deciding
+pub mod Ending
+pub mod Decisions
+pub mod Typable
+pub mod Defining
+pub mod Exact
+pub mod Freely
+pub mod Composable

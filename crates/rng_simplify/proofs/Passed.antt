@@ -27,7 +27,7 @@ names_then : (first more : Clauses) → names_of (then_clauses first more) ≡ n
 names_then end_of_clauses more = refl
 names_then (clause_then name combine p first) more = ap (λ names. name ∷ names) (names_then first more)
 
-names_gathered : {files : FileMap} {context : Context} {replacements : WrittenReplacements} {new : Clauses} →
+pub names_gathered : {files : FileMap} {context : Context} {replacements : WrittenReplacements} {new : Clauses} →
     GathersAnew files context replacements new → names_of new ≡ names_anew replacements
 names_gathered none_anew = refl
 names_gathered (definition_anew {name = name} part more) = ap (λ names. name ∷ names) (names_gathered more)

@@ -17,12 +17,12 @@ use Rattle.rng_simplify.proofs.Nodes.{in_none, in_cases, in_first, in_more, in_o
 
 -- ---- so many numbers below a bound are not all different
 
-record IsTwice (f : ℕ → ℕ) (last : ℕ) : Type 0 where
-  first : ℕ
-  second : ℕ
-  before : first < second
-  within : second ≤ last
-  same : f first ≡ f second
+pub record IsTwice (f : ℕ → ℕ) (last : ℕ) : Type 0 where
+  pub first : ℕ
+  pub second : ℕ
+  pub before : first < second
+  pub within : second ≤ last
+  pub same : f first ≡ f second
 
 -- a value comes again behind the first place, or not
 comes_again : (f : ℕ → ℕ) (v last : ℕ) → ((j : ℕ) × (j < last) × (f (suc j) ≡ v)) ⊎ ((j : ℕ) → j < last → f (suc j) ≡ v → ⊥)
@@ -57,7 +57,7 @@ left_same v n m (inl a) (inr b) other also is = elim (cases_lt m v) [ inl smalle
 left_same v n m (inr a) (inl b) other also is = elim (cases_lt n v) [ inl smaller ↦ omega arith | inr most ↦ absurd (other (omega arith)) ]
 left_same v n m (inr a) (inr b) other also is = is
 
-some_twice : (bound : ℕ) (f : ℕ → ℕ) → ((i : ℕ) → i ≤ bound → f i < bound) → IsTwice f bound
+pub some_twice : (bound : ℕ) (f : ℕ → ℕ) → ((i : ℕ) → i ≤ bound → f i < bound) → IsTwice f bound
 some_twice zero f below = let less = below 0 (omega arith) in absurd (omega arith)
 some_twice (suc bound) f below = elim (comes_again f (f 0) (suc bound)) [
   | inl h ↦ record { first = 0; second = suc h.0; before = omega arith; within = (let less = h.1 in omega arith); same = sym h.2 }
@@ -78,7 +78,7 @@ some_twice (suc bound) f below = elim (comes_again f (f 0) (suc bound)) [
 -- ---- the places of a schema
 
 abbrev mutual
-  places : List Clauses → Composed → List Place
+  pub places : List Clauses → Composed → List Place
   places scopes (composed.element number class p) = place scopes (composed.element number class p) ∷ places scopes p
   places scopes (composed.attribute class p) = place scopes (composed.attribute class p) ∷ places scopes p
   places scopes (composed.listed p) = place scopes (composed.listed p) ∷ places scopes p
@@ -95,7 +95,7 @@ abbrev mutual
   places scopes (composed.group p q) = place scopes (composed.group p q) ∷ (places scopes p ++ places scopes q)
   places scopes (composed.interleave p q) = place scopes (composed.interleave p q) ∷ (places scopes p ++ places scopes q)
 
-  places_in : List Clauses → Clauses → List Place
+  pub places_in : List Clauses → Clauses → List Place
   places_in scopes end_of_clauses = []
   places_in scopes (clause_then name combine p more) = places scopes p ++ places_in scopes more
 
@@ -243,7 +243,7 @@ mutual
         | inr second ↦ Contains-append_right (places scopes p) (places_in scopes more) inner (in_places_in scopes more at inner second within)
       ]
 
-occurs_among : {whole : Composed} {at : Place} → Occurs whole at → Contains (places [] whole) at
+pub occurs_among : {whole : Composed} {at : Place} → Occurs whole at → Contains (places [] whole) at
 occurs_among {whole = whole} the_whole = own_place [] whole
 occurs_among {whole = whole} (further_in {outer = outer} {inner = inner} occurs within) =
     in_places [] whole outer inner (occurs_among occurs) within
@@ -340,11 +340,11 @@ alike_steps (in_more_steps step more) other alike =
 
 -- ---- what is led to stands in the schema
 
-abbrev OuterOccurs : Composed → List Clauses → Type 0
+abbrev pub OuterOccurs : Composed → List Clauses → Type 0
 OuterOccurs whole [] = Unit {0}
 OuterOccurs whole (scope ∷ outer) = Occurs whole (place outer (composed.grammar scope))
 
-outer_occurs : {whole : Composed} {at : Place} → Occurs whole at → OuterOccurs whole at.scopes
+pub outer_occurs : {whole : Composed} {at : Place} → Occurs whole at → OuterOccurs whole at.scopes
 outer_occurs the_whole = tt
 outer_occurs (further_in occurs (a_part within)) = outer_occurs occurs
 outer_occurs (further_in occurs a_content) = outer_occurs occurs
@@ -359,13 +359,13 @@ defining_among_if true name c p rest more q further among = elim (in_cases p (bo
 ]
 defining_among_if false name c p rest more q further among = in_more p (bodies more) q (further among)
 
-defining_among : (name : Defined) (clauses : Clauses) (q : Composed) → Contains (bodies (defining name clauses)) q →
+pub defining_among : (name : Defined) (clauses : Clauses) (q : Composed) → Contains (bodies (defining name clauses)) q →
     Contains (bodies clauses) q
 defining_among name end_of_clauses q among = among
 defining_among name (clause_then other c p more) q among =
     defining_among_if (same_defined name other) other c p (defining name more) more q (defining_among name more q) among
 
-occurs_lead : {whole : Composed} {from to : Place} → LeadsTo from to → Occurs whole from → Occurs whole to
+pub occurs_lead : {whole : Composed} {from to : Place} → LeadsTo from to → Occurs whole from → Occurs whole to
 occurs_lead (to_part within) occurs = further_in occurs (a_part within)
 occurs_lead (to_definition {scope = scope} {name = name} {p = p} within) occurs =
     further_in (outer_occurs occurs) (a_definition (defining_among (defined.Name name) scope p within))
@@ -378,7 +378,7 @@ occurs_leads : {whole : Composed} {from to : Place} → LeadsOn from to → Occu
 occurs_leads (in_one_step step) occurs = occurs_lead step occurs
 occurs_leads (in_more_steps step more) occurs = occurs_leads more (occurs_lead step occurs)
 
-leads_then : {from mid to : Place} → LeadsOn from mid → LeadsOn mid to → LeadsOn from to
+pub leads_then : {from mid to : Place} → LeadsOn from mid → LeadsOn mid to → LeadsOn from to
 leads_then (in_one_step step) more = in_more_steps step more
 leads_then (in_more_steps step rest) more = in_more_steps step (leads_then rest more)
 

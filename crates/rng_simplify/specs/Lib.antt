@@ -35,3 +35,4 @@ pub mod Spelling
 pub mod Grammars
 pub mod Unnumbered
 pub mod Agreeing
+pub mod Exact

@@ -1,10 +1,12 @@
 //! Laws of composing and of simple forms. Nothing here runs.
 
 ghost use Rattle.rng_simplify.specs.Agreeing.{SimpleFormIsOne, SchemaFormIsOne, GrammarIsOne, PieceIsOne, ComposedArePassed, SimplifiedIsNotBroken, GrammarIsNoRefusal};
+ghost use Rattle.rng_simplify.specs.Exact.{PieceIsSimplifiedOrBroken, NumbersAreFree, SimplifiedOrBroken};
 ghost use Rattle.rng_simplify.specs.Composition.{NoPieceIsMissing, MadeIsWellFormed, MadeIsText, WellFormedDenotes, MadeIsComposed, RefusedIsBroken};
 ghost use Rattle.rng_simplify.specs.Supplying.{PatternsAreComposed};
 
 use nx_host::uri::joins_is_decided;
+use rnc_parse::law::texts_are_read_or_refused;
 
 /// What is made of a pattern, with pieces for the files that it mentions, is that pattern in one piece.
 pub fn patterns_are_composed()
@@ -82,4 +84,21 @@ pub fn grammar_is_no_refusal()
     ensures { GrammarIsNoRefusal }
 {
     joins_is_decided();
+}
+
+/// A schema in one piece has a grammar, or it is broken for some cause.
+pub fn piece_is_simplified_or_broken()
+    ensures { PieceIsSimplifiedOrBroken }
+{}
+
+/// A piece that files make is one that they make whatever numbers its elements have.
+pub fn numbers_are_free()
+    ensures { NumbersAreFree }
+{}
+
+/// Files that are text, refer to files by URIs and are among so many have a grammar, or they are broken for some cause.
+pub fn simplified_or_broken()
+    ensures { SimplifiedOrBroken }
+{
+    texts_are_read_or_refused();
 }
