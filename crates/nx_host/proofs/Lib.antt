@@ -1,3 +1,4 @@
 pub mod DiskPathLemmas
 pub mod TableLemmas
 pub mod TextFronts
+pub mod JoinsOrBad

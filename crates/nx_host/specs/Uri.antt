@@ -40,6 +40,10 @@ JoinsIsDecided =
     ((base text uri : List ℕ) → Joins base text uri → ¬ IsBadUri base text)
     × ((base text first second : List ℕ) → Joins base text first → Joins base text second → first ≡ second)
 
+-- each text denotes a URI, or is a bad one: the parser, as it is defined, never wants room
+abbrev pub TextsJoinOrAreBad : Type 0
+TextsJoinOrAreBad = (base text : List ℕ) → ((uri : List ℕ) × Joins base text uri) ⊎ IsBadUri base text
+
 -- `url`'s want of room is want of memory, and each of its other errors makes the URI a bad one
 abbrev pub FaultOf : ParseError → UriFault → Type 0
 FaultOf error Bad = ¬ IsOutOfRoom error

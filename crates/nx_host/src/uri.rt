@@ -2,7 +2,7 @@
 
 ghost use Rattle.std.specs.Prelude.{◌≡◌, Err, IfOk, IsAscii, IsUtf8};
 ghost use Rattle.nx_host.specs.declared.uri.UriFault.TheVariants.{Bad};
-ghost use Rattle.nx_host.specs.Uri.{Joins, IsBadUri, JoinsIsDecided};
+ghost use Rattle.nx_host.specs.Uri.{Joins, IsBadUri, JoinsIsDecided, TextsJoinOrAreBad};
 
 use nx_base::sequence::Bytes;
 use std::alloc::{AllocError, Global};
@@ -67,6 +67,11 @@ impl From<AllocError> for UriFault {
 /// No text denotes a URI and is a bad one, and no text denotes two URIs.
 pub fn joins_is_decided()
     ensures { JoinsIsDecided }
+{}
+
+/// Each text denotes a URI against a base, or it is a bad one.
+pub fn texts_join_or_are_bad()
+    ensures { TextsJoinOrAreBad }
 {}
 
 #[cfg(test)]

@@ -7,6 +7,7 @@ use Rattle.std.proofs.lemmas.Option.{same_Some, none-some, slice_get-get_or}
 use Rattle.nx_base.specs.declared.cause.Cause.{Cause}
 use Rattle.nx_base.specs.declared.cause.Cause.TheVariants as cause
 use Rattle.nx_host.specs.Files.{FileMap}
+use Rattle.nx_host.specs.Uri.{TextsJoinOrAreBad}
 use Rattle.rnc_parse.specs.declared.surface.Defined.{Defined}
 use Rattle.rnc_parse.specs.declared.surface.FileReference.{FileReference}
 use Rattle.rnc_parse.specs.Laws.{TextsAreReadOrRefused}
@@ -57,8 +58,8 @@ all_among [] uris i other each also = also
 all_among (x ∷ xs) uris zero other each also = each x (in_first x xs)
 all_among (x ∷ xs) uris (suc i) other each also = all_among xs uris i other (λ uri among. each uri (in_more x xs uri among)) also
 
-module _ (read_or_refused : TextsAreReadOrRefused) (files : FileMap) (uri : List ℕ) (uris : List (List ℕ))
-    (are : AreWithin files uri uris) where
+module _ (joins_or_bad : TextsJoinOrAreBad) (read_or_refused : TextsAreReadOrRefused) (files : FileMap) (uri : List ℕ)
+    (uris : List (List ℕ)) (are : AreWithin files uri uris) where
   -- ---- how long a chain is
 
   chain_within : {context : Context} → Reached files uri context → (other : List ℕ) → Contains context.chain other → Contains uris other
@@ -328,9 +329,9 @@ module _ (read_or_refused : TextsAreReadOrRefused) (files : FileMap) (uri : List
       replacement_gatherable : (replacement : WrittenReplacement) (replacements : WrittenReplacements) →
           AllOpened (mentions_of_replacement replacement) → Or (NewClausesOf replacements) →
           Or (NewClausesOf (written.replacement_then replacement replacements))
-      replacement_gatherable (written.define_anew name combine p) replacements all more =
+      replacement_gatherable (written.define_anew name combine p) others all more =
           or_both (composable p all) (λ h. or_both more (λ k. inl (clause_then name combine h.0 k.0, definition_anew h.1 k.1)))
-      replacement_gatherable (written.div_anew inside) replacements all more =
+      replacement_gatherable (written.div_anew inside) others all more =
           or_both (anew_gatherable inside all) (λ h. or_both more (λ k. inl (then_clauses h.0 k.0, division_anew h.1 k.1 refl)))
 
     file_composable : (other : WrittenSurface) → AllOpened (mentions_of other) → Or ((q : Composed) × ComposesFile files context other q)
@@ -351,29 +352,32 @@ module _ (read_or_refused : TextsAreReadOrRefused) (files : FileMap) (uri : List
   opened_or fuel from context reached surface says mention among short =
       let mentioned : Mentions files uri context mention =
       record { reached = reached; surface = surface; says = says; mentioned = among } in
-      let joined = are.joins context mention mentioned in
-      elim (uri_decided context.chain joined.0) [
-        | inl back ↦ inr (
-          cause.IncludeLoop,
-          record {
-            context = context;
-            mention = mention;
-            mentioned = mentioned;
-            other = joined.0;
-            joined = joined.1;
-            leads_here = back;
-          },
-        )
-        | inr apart ↦
-            let inner : Context = referred context (reference_of mention) joined.0 in
-            let further : Reached files uri inner = a_further reached says among joined.1 apart in
-            or_both (said inner further) (λ s. or_both (from inner further s.0 s.1 (omega (arith, short))) (λ h. inl (record {
-              inner = inner;
-              surface = s.0;
-              piece = h.0;
-              opens = record { uri = joined.0; joined = joined.1; inner_is = refl; no_loop = apart; says = s.1 };
-              composes = h.1;
-            })))
+      elim (joins_or_bad context.uri (reference_of mention).uri) [
+        | inr bad ↦ absurd (are.no_bad_uri (reference_of mention).uri
+            (record { context = context; mention = mention; mentioned = mentioned; text_is = refl; bad = bad }))
+        | inl joined ↦ elim (uri_decided context.chain joined.0) [
+          | inl back ↦ inr (
+            cause.IncludeLoop,
+            record {
+              context = context;
+              mention = mention;
+              mentioned = mentioned;
+              other = joined.0;
+              joined = joined.1;
+              leads_here = back;
+            },
+          )
+          | inr apart ↦
+              let inner : Context = referred context (reference_of mention) joined.0 in
+              let further : Reached files uri inner = a_further reached says among joined.1 apart in
+              or_both (said inner further) (λ s. or_both (from inner further s.0 s.1 (omega (arith, short))) (λ h. inl (record {
+                inner = inner;
+                surface = s.0;
+                piece = h.0;
+                opens = record { uri = joined.0; joined = joined.1; inner_is = refl; no_loop = apart; says = s.1 };
+                composes = h.1;
+              })))
+        ]
       ]
 
   files_from : (fuel : ℕ) → FilesFrom fuel
@@ -415,5 +419,5 @@ module _ (read_or_refused : TextsAreReadOrRefused) (files : FileMap) (uri : List
   files_or : Or ((start : Pattern) × (definitions : List Definition) × Simplifies files uri start definitions)
   files_or = or_both schema_or (λ h. grammar_or h.0 h.1)
 
-pub files_simplified_or_broken : TextsAreReadOrRefused → SimplifiedOrBroken
-files_simplified_or_broken read_or_refused files uri uris are = files_or read_or_refused files uri uris are
+pub files_simplified_or_broken : TextsJoinOrAreBad → TextsAreReadOrRefused → SimplifiedOrBroken
+files_simplified_or_broken joins_or_bad read_or_refused files uri uris are = files_or joins_or_bad read_or_refused files uri uris are

@@ -2,13 +2,12 @@
 use Rattle.std.specs.Prelude.{◌≡◌, ◌⊎◌, ℕ, List, Some, Contains, IsUtf8}
 use Rattle.nx_base.specs.declared.cause.Cause.{Cause}
 use Rattle.nx_host.specs.Files.{FileMap}
-use Rattle.nx_host.specs.Uri.{Joins}
 use Rattle.rng_core.specs.Patterns.{Pattern, Definition}
-use Rattle.rng_simplify.specs.Broken.{WholeIsBroken, IsBroken}
+use Rattle.rng_simplify.specs.Broken.{HasBadUri, WholeIsBroken, IsBroken}
 use Rattle.rng_simplify.specs.Composed.{Composed}
 use Rattle.rng_simplify.specs.Composing.{Context, ComposesSchema}
 use Rattle.rng_simplify.specs.Grammars.{IsSimplified}
-use Rattle.rng_simplify.specs.References.{Mention, reference_of, Reached, Mentions}
+use Rattle.rng_simplify.specs.References.{Reached}
 use Rattle.rng_simplify.specs.Simplified.{Simplifies}
 use Rattle.rng_simplify.specs.Unnumbered.{unnumbered}
 
@@ -30,12 +29,11 @@ NumbersAreFree =
     (files : FileMap) (uri : List ℕ) (piece other : Composed) → ComposesSchema files uri piece → unnumbered other ≡ unnumbered piece →
     ComposesSchema files uri other
 
--- all files that are reached from the URI lie among these, are there and are text, and refer to files by texts that denote URIs
+-- all files that are reached from the URI lie among these, are there and are text, and no bad URI stands in one
 pub record AreWithin (files : FileMap) (uri : List ℕ) (uris : List (List ℕ)) : Type 0 where
   pub within : (context : Context) → Reached files uri context → Contains uris context.uri
   pub texts : (context : Context) → Reached files uri context → (bytes : List ℕ) × (files context.uri ≡ Some bytes) × IsUtf8 bytes
-  pub joins : (context : Context) (mention : Mention) → Mentions files uri context mention →
-      (other : List ℕ) × Joins context.uri (reference_of mention).uri other
+  pub no_bad_uri : (text : List ℕ) → HasBadUri files uri text → ⊥
 
 -- such files define a grammar, or they are broken for a cause
 abbrev pub SimplifiedOrBroken : Type 0

@@ -5,7 +5,7 @@ ghost use Rattle.rng_simplify.specs.Exact.{PieceIsSimplifiedOrBroken, NumbersAre
 ghost use Rattle.rng_simplify.specs.Composition.{NoPieceIsMissing, MadeIsWellFormed, MadeIsText, WellFormedDenotes, MadeIsComposed, RefusedIsBroken};
 ghost use Rattle.rng_simplify.specs.Supplying.{PatternsAreComposed};
 
-use nx_host::uri::joins_is_decided;
+use nx_host::uri::{joins_is_decided, texts_join_or_are_bad};
 use rnc_parse::law::texts_are_read_or_refused;
 
 /// What is made of a pattern, with pieces for the files that it mentions, is that pattern in one piece.
@@ -96,9 +96,11 @@ pub fn numbers_are_free()
     ensures { NumbersAreFree }
 {}
 
-/// Files that are text, refer to files by URIs and are among so many have a grammar, or they are broken for some cause.
+/// Where the files that are reached are finitely many, are there and are text, and hold no bad URI, they define a grammar, or
+/// they are broken for some cause.
 pub fn simplified_or_broken()
     ensures { SimplifiedOrBroken }
 {
+    texts_join_or_are_bad();
     texts_are_read_or_refused();
 }
