@@ -10,8 +10,8 @@ use nx_base::sequence::{Bytes, Sequence};
 use rng_types::datatype::{Datatype, Excepts};
 
 /// A pattern of the simple form. Simplification bounds a path in it at 8,000 nodes. It is let go in a loop, whatever its
-/// shape. What walks over a pattern calls itself for each second side of a path at least: for a path of second sides alone,
-/// which a schema can have, the 8 MB of stack that a program's first thread has suffice.
+/// shape. What walks over a pattern calls itself for each second side of a path at least, for which 2 MB of stack suffice:
+/// a path of second sides alone is copied and compared in 512 KB, and judged in 1 MB.
 pub enum Pat {
     /// Nothing at all matches.
     NotAllowed,

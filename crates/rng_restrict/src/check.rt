@@ -15,7 +15,7 @@ use std::alloc::Global;
 ///
 /// A refusal comes exactly where its restriction is broken and none before it is, in the order of `RestrictFault`.
 /// Only the start and what it reaches are judged. The walks call themselves as deep as a pattern is; simplification
-/// bounds a path in it at 8,000 nodes, for which the 8 MB of stack that a program's first thread has suffice.
+/// bounds a path in it at 8,000 nodes, for which 2 MB of stack suffice.
 pub fn check(alloc: Global, grammar: &Grammar) -> Result<(), RestrictFault>
     ensures { ChecksGrammar grammar.now result }
 {
