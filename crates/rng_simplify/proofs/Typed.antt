@@ -1,12 +1,14 @@
 -- What spells out a shape is its form with types, and sound.
 use Rattle.std.proofs.Common.{◌≡◌, refl, sym, ap, ◌∙◌, subst, ℕ, zero, suc, ◌+◌, ◌^◌, ◌<◌, ◌≤◌, inl, inr, ◌⊎◌, List, [], ◌∷◌, length, map, set, slice_get, Option, Some, None, Ok, arith}
-use Rattle.std.specs.Prelude.{slice_index}
+use Rattle.std.specs.Prelude.{slice_index, IsTrue}
 use Rattle.std.specs.List.{AllByRecursion, fold}
 use Rattle.std.proofs.lemmas.Bool.{cases_lt}
 use Rattle.std.proofs.lemmas.List.{length-set, get_or-set_same, get_or-set_other}
 use Rattle.std.proofs.lemmas.Option.{same_Some, slice_get_within, slice_get-get_or, get_or_from_slice_get}
 use Rattle.rnc_parse.specs.declared.surface.TypeName.{TypeName}
 use Rattle.rnc_parse.specs.declared.surface.Param.{Param}
+use Rattle.rng_types.specs.declared.datatype.Datatype.{Datatype}
+use Rattle.rng_types.specs.WellMade.{is_well_made}
 use Rattle.rng_types.proofs.Made.{named_are_well_made}
 use Rattle.rng_core.specs.Names.{Class}
 use Rattle.rng_core.specs.Patterns.{Pattern, Definition}
@@ -21,7 +23,7 @@ use Rattle.rng_simplify.specs.declared.shape.Shape.TheVariants as shape
 use Rattle.rng_simplify.specs.declared.types.NodeType.{NodeType}
 use Rattle.rng_simplify.specs.Cells.{Cell}
 use Rattle.rng_simplify.specs.Cells as cell
-use Rattle.rng_simplify.specs.Datatypes.{datatype_of, AreExcepts, Typed, typed_not_allowed, typed_empty, typed_text, typed_value, typed_type, typed_list, typed_attribute, typed_ref, typed_one_or_more, typed_choice, typed_group, typed_interleave, AreTyped, none_typed, next_typed}
+use Rattle.rng_simplify.specs.Datatypes.{datatype_of, params_of, AreExcepts, Typed, typed_not_allowed, typed_empty, typed_text, typed_value, typed_type, typed_list, typed_attribute, typed_ref, typed_one_or_more, typed_choice, typed_group, typed_interleave, AreTyped, none_typed, next_typed}
 use Rattle.rng_simplify.specs.Denoting.{IsCell}
 use Rattle.rng_simplify.specs.Forms.{Form, FormDefinition, Value, values_of, nodes}
 use Rattle.rng_simplify.specs.Forms as form
@@ -35,6 +37,10 @@ use Rattle.rng_simplify.proofs.Forming.{none_before, before_later}
 use Rattle.rng_simplify.proofs.Showing.{shows_by_parts}
 use Rattle.rng_simplify.proofs.Spelling.{some_nodes}
 use Rattle.rng_simplify.proofs.Simplifying.{taken_of, part_in, values_or_none}
+
+-- the type of a name and params is well made
+made_by : (type : TypeName) (params : List Param) (datatype : Datatype) → datatype_of type params ≡ Ok datatype → IsTrue (is_well_made datatype)
+made_by type params datatype named = named_are_well_made type.library type.name (params_of params) datatype named
 
 -- these values are taken from the type, so
 pub record IsTakenSo (type : TypeName) (params : List Param) (values : List Value) (known : Option NodeType) : Type 0 where
@@ -74,7 +80,7 @@ module _ (cells : List Cell) (types : List (Option NodeType)) (shapes : List Sha
       let also : q ≡ pattern.literal known.node_type.datatype literal.text = literal.is ∙ ap (λ (t : NodeType). pattern.literal t.datatype literal.text) (sym same) in
       so_typed _ (form.value (record { type = literal.type; text = literal.text })) q (pattern.literal known.node_type.datatype literal.text)
       (form_is n (shape.Value i) is ∙ ap (λ o. form.value (value_in o)) literal.is_cell) also
-      (record { typed = typed_value known.named; sound = sound_value (named_are_well_made _ _ _ _ known.named) known.may_write.accepted known.may_write.of_chars })
+      (record { typed = typed_value known.named; sound = sound_value (made_by literal.type [] known.node_type.datatype known.named) known.may_write.accepted known.may_write.of_chars })
 
   type_typed : (n i : ℕ) (q : Pattern) → IsShape shapes n (shape.Typed i) → IsTyped types i q → IsTypedSound (form_at cells taken shapes n) q
   type_typed n i q is of_type =
@@ -84,7 +90,7 @@ module _ (cells : List Cell) (types : List (Option NodeType)) (shapes : List Sha
       let also : q ≡ pattern.typed known.node_type.datatype known.node_type.excepts = of_type.is ∙ ap (λ (t : NodeType). pattern.typed t.datatype t.excepts) (sym same) in
       so_typed _ (form.typed cell_is.0 cell_is.1 (taken i)) q (pattern.typed known.node_type.datatype known.node_type.excepts)
       (form_is n (shape.Typed i) is ∙ ap (λ o. form.typed (type_in o) (params_in o) (taken i)) cell_is.3) also
-      (record { typed = typed_type known.named known.takes; sound = sound_data (named_are_well_made _ _ _ _ known.named) known.few known.sound })
+      (record { typed = typed_type known.named known.takes; sound = sound_data (made_by cell_is.0 cell_is.1 known.node_type.datatype known.named) known.few known.sound })
 
   attribute_typed : (n i part : ℕ) (value q : Pattern) → IsShape shapes n (shape.Attribute i part) → IsTypedSound (form_at cells taken shapes part) value → IsAttribute cells i value q → IsTypedSound (form_at cells taken shapes n) q
   attribute_typed n i part value q is h of_class =
