@@ -92,4 +92,5 @@ MissingPartsGoOn = (g : Language) (p : Pattern) (h : List Move) (x : Residual) �
 
 -- the residual tells whether a start tag is open
 abbrev pub TagsAreTold : Type 0
-TagsAreTold = (g : Language) (p : Pattern) (h : List Move) (x : Residual) → AreLive g.definitions → Stands g p h x → is_in_tag x ≡ is_tag_open h
+TagsAreTold = (g : Language) (p : Pattern) (h : List Move) (x : Residual) → AreLive g.definitions → Stands g p h x
+    → is_in_tag x ≡ is_tag_open h
