@@ -1,5 +1,5 @@
 -- Moves: the text's own events, and what stands in for events that a schema doesn't admit.
-use Rattle.std.specs.Prelude.{◌≡◌, ℕ, List, [], ◌∷◌, false, IsTrue}
+use Rattle.std.specs.Prelude.{◌≡◌, ℕ, suc, ◌-◌, Bool, true, false, List, [], ◌∷◌, IsTrue}
 use Rattle.std.specs.List.{AllByRecursion}
 use Rattle.nx_base.specs.declared.name.Name.{Name}
 use Rattle.nx_base.specs.Characters.{is_blank, is_of_chars}
@@ -40,6 +40,24 @@ attributes_after l _ = []
 abbrev pub attributes_of : List Move → List Name
 attributes_of [] = []
 attributes_of (m ∷ h) = attributes_after (attributes_of h) m
+
+-- whether a start tag is open behind moves
+abbrev pub is_tag_open : List Move → Bool
+is_tag_open [] = false
+is_tag_open (take (Enter n) ∷ h) = true
+is_tag_open (take (Att n v) ∷ h) = true
+is_tag_open (skip_to n ∷ h) = true
+is_tag_open (any_value n ∷ h) = true
+is_tag_open (_ ∷ h) = false
+
+-- how many elements are open behind moves
+abbrev pub open_elements : List Move → ℕ
+open_elements [] = 0
+open_elements (take (Enter n) ∷ h) = suc (open_elements h)
+open_elements (skip_to n ∷ h) = suc (open_elements h)
+open_elements (take Leave ∷ h) = open_elements h - 1
+open_elements (missing_content ∷ h) = open_elements h - 1
+open_elements (_ ∷ h) = open_elements h
 
 -- the text's own events among moves have strings of UTF-8
 abbrev pub IsTextMove : Move → Type 0

@@ -1,5 +1,6 @@
 -- Residuals: what may still come behind events. Each is a choice of ways to go on, and takes the lists of events that one of them takes.
-use Rattle.std.specs.Prelude.{◌≡◌, List, [], ◌∷◌, Bool, true}
+use Rattle.std.specs.Prelude.{◌≡◌, List, [], ◌∷◌, Bool, true, false}
+use Rattle.std.specs.List.{list_any}
 use Rattle.nx_base.specs.Trees.{Attribute, Children, nil, without_blanks, Event, TagEnd, Leave, children_flat, attributes_flat}
 use Rattle.rng_core.specs.Patterns.{Pattern, Definition}
 use Rattle.rng_core.specs.Matching.{Matches, Weakly}
@@ -19,6 +20,14 @@ pub data Way : Type 0 where
 -- the ways to go on
 abbrev pub Residual : Type 0
 Residual = List Way
+
+-- whether a start tag is open
+abbrev pub is_tag : Way → Bool
+is_tag (among here) = false
+is_tag (in_tag content outer) = true
+
+abbrev pub is_in_tag : Residual → Bool
+is_in_tag x = list_any is_tag x
 
 -- attributes and children that a content matches weakly
 pub record MatchesWeakly (g : List Definition) (p : Pattern) (a : List Attribute) (k : Children) : Type 0 where

@@ -33,3 +33,4 @@ pub mod Members
 pub mod Required
 pub mod Unmentioned
 pub mod Restricted
+pub mod Missing

@@ -1,14 +1,14 @@
 -- The residuals that a matcher's calls answer with stand for the lists that are kept behind the calls' moves.
-use Rattle.std.specs.Prelude.{◌≡◌, List, [], ◌++◌, false, Option, IsSome}
+use Rattle.std.specs.Prelude.{◌≡◌, List, [], ◌++◌, ◌≤◌, true, false, Option, IsSome}
 use Rattle.nx_base.specs.declared.name.Name.{Name}
 use Rattle.nx_base.specs.Trees.{Event, Enter, Att, TagEnd, Chars, Leave, AreWritable}
 use Rattle.rng_core.specs.Patterns.{Pattern, Definition, Language}
 use Rattle.rng_core.specs.Validity.{Valid, Viable}
 use Rattle.rng_kept.specs.Events.{IsAmong, IsText, AreText, IsDistinct}
-use Rattle.rng_kept.specs.Moves.{Move, take, skip_to, any_value, any_string, missing_attributes, missing_content, attributes_of}
+use Rattle.rng_kept.specs.Moves.{Move, take, skip_to, any_value, any_string, missing_attributes, missing_content, attributes_of, is_tag_open, open_elements}
 use Rattle.rng_kept.specs.KeptLists.{IsRestOf, CanMove}
 use Rattle.rng_kept.specs.SmallPatterns.{is_not_allowed}
-use Rattle.rng_kept.specs.Residuals.{Residual, Takes}
+use Rattle.rng_kept.specs.Residuals.{Residual, is_in_tag, Takes}
 use Rattle.rng_kept.specs.Merging.{answered}
 use Rattle.rng_kept.specs.Entering.{enter, enter_skip}
 use Rattle.rng_kept.specs.Content.{chars, chars_any, leave, leave_skip}
@@ -83,3 +83,14 @@ abbrev pub RestsAreTaken : Type 0
 RestsAreTaken = (g : Language) (p : Pattern) (h : List Move) (x : Residual) → Stands g p h x → (s : List Event) → AreWritable s
     → (IsRestOf g p h s → Takes g.definitions x s × IsDistinct (attributes_of h) s)
     × (Takes g.definitions x s → IsDistinct (attributes_of h) s → IsRestOf g p h s)
+
+-- what is missing can always be made up for: attributes where a start tag is open, content where none is but an element
+abbrev pub MissingPartsGoOn : Type 0
+MissingPartsGoOn = (g : Language) (p : Pattern) (h : List Move) (x : Residual) → AreLive g.definitions → Stands g p h x →
+    (is_tag_open h ≡ true → CanMove g p h missing_attributes)
+    × (is_tag_open h ≡ false → 1 ≤ open_elements h → CanMove g p h missing_content)
+
+-- the residual tells whether a start tag is open
+abbrev pub TagsAreTold : Type 0
+TagsAreTold = (g : Language) (p : Pattern) (h : List Move) (x : Residual) → AreLive g.definitions → Stands g p h x
+    → is_in_tag x ≡ is_tag_open h

@@ -2,7 +2,7 @@
 
 ghost use Rattle.rng_residual.specs.Derivatives.{DerivesStrings, DerivesAttributes};
 ghost use Rattle.rng_residual.specs.Merging.{MergedTakeTheSame};
-ghost use Rattle.rng_residual.specs.Moves.{FramesStand, KnownIsTold, KnownFramesBegin, MovesStand, FrontsAreViable, StandingGoesOn, AnswersTellMoves, RestsAreTaken};
+ghost use Rattle.rng_residual.specs.Moves.{FramesStand, KnownIsTold, KnownFramesBegin, MovesStand, FrontsAreViable, StandingGoesOn, AnswersTellMoves, RestsAreTaken, TagsAreTold, MissingPartsGoOn};
 ghost use Rattle.rng_residual.specs.Openings.{OpensExactly};
 ghost use Rattle.rng_residual.specs.Required.{OnlyIsExact, RequiredIsExact};
 ghost use Rattle.rng_residual.specs.Restricted.{RestrictedIsApart};
@@ -80,6 +80,13 @@ pub fn rests_are_taken()
 #[tactic(auto, using(crate::proofs::Standing::standing_goes_on))]
 pub fn standing_goes_on()
     ensures { StandingGoesOn }
+{}
+
+/// A residual tells whether a start tag is open, and what is missing can always be made up for: attributes where one is open,
+/// content inside of an element.
+pub fn missing_parts_go_on()
+    ensures told { TagsAreTold }
+    ensures go_on { MissingPartsGoOn }
 {}
 
 /// What text begins and text makes valid can also be made valid by what can be written.
