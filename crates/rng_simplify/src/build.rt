@@ -115,7 +115,9 @@ impl Builder<'_> {
         built: &mut Vec<Pat>,
     ) -> Result<(), SchemaFault>
         requires ready { IsReady (map cell_of self.now.nodes.now) self.now.types.now self.now.forms.now.shapes }
-        requires under_way { (root : ℕ) × IsUnderWay (map cell_of self.now.nodes.now) self.now.types.now self.now.forms.now.shapes root (tasks.old.items ++ task ∷ []) built.old.items }
+        requires under_way { (root : ℕ) × IsUnderWay
+            (map cell_of self.now.nodes.now) self.now.types.now self.now.forms.now.shapes root
+            (tasks.old.items ++ task ∷ []) built.old.items }
         ensures { Does (map cell_of self.now.nodes.now) self.now.types.now self.now.forms.now.shapes task tasks.old.items tasks.new.items built.old.items built.new.items result }
     {
         match task {
@@ -133,7 +135,8 @@ impl Builder<'_> {
     ) -> Result<(), SchemaFault>
         requires ready { IsReady (map cell_of self.now.nodes.now) self.now.types.now self.now.forms.now.shapes }
         requires within { shape < length self.now.forms.now.shapes }
-        ensures { Does (map cell_of self.now.nodes.now) self.now.types.now self.now.forms.now.shapes (Spell shape) tasks.old.items tasks.new.items built.old.items built.new.items result }
+        ensures { Does (map cell_of self.now.nodes.now) self.now.types.now self.now.forms.now.shapes
+            (Spell shape) tasks.old.items tasks.new.items built.old.items built.new.items result }
     {
         match self.forms.shapes.shape(shape) {
             Shape::NotAllowed => {
@@ -170,8 +173,11 @@ impl Builder<'_> {
     /// Builds a shape around the parts that were built last.
     fn wrap(&self, shape: usize, built: &mut Vec<Pat>) -> Result<(), SchemaFault>
         requires ready { IsReady (map cell_of self.now.nodes.now) self.now.types.now self.now.forms.now.shapes }
-        requires under_way { (root : ℕ) × (tasks : List TaskOf) × IsUnderWay (map cell_of self.now.nodes.now) self.now.types.now self.now.forms.now.shapes root (tasks ++ Wrap shape ∷ []) built.old.items }
-        ensures { (tasks : List TaskOf) → Does (map cell_of self.now.nodes.now) self.now.types.now self.now.forms.now.shapes (Wrap shape) tasks tasks built.old.items built.new.items result }
+        requires under_way { (root : ℕ) × (tasks : List TaskOf) × IsUnderWay
+            (map cell_of self.now.nodes.now) self.now.types.now self.now.forms.now.shapes root
+            (tasks ++ Wrap shape ∷ []) built.old.items }
+        ensures { (tasks : List TaskOf) → Does (map cell_of self.now.nodes.now) self.now.types.now self.now.forms.now.shapes
+            (Wrap shape) tasks tasks built.old.items built.new.items result }
     {
         match self.forms.shapes.shape(shape) {
             Shape::List(_) => {
@@ -243,7 +249,8 @@ impl Builder<'_> {
     fn definition(&self, element: usize) -> Result<Def, SchemaFault>
         requires ready { IsReady (map cell_of self.now.nodes.now) self.now.types.now self.now.forms.now.shapes }
         requires element { IsElement (map cell_of self.now.nodes.now) element }
-        requires content { IsKnown self.now.forms.now.shapes self.now.forms.now.of.items (content_of (map cell_of self.now.nodes.now) element) }
+        requires content { IsKnown self.now.forms.now.shapes self.now.forms.now.of.items
+            (content_of (map cell_of self.now.nodes.now) element) }
         ensures { BuildsDefinition (map cell_of self.now.nodes.now) self.now.types.now self.now.forms.now element result }
     {
         match &self.nodes[element] {

@@ -132,7 +132,8 @@ impl Composer {
 
     /// A file of these items.
     fn grammar_file(&mut self, inherited: &Bytes, items: Vec<Item>) -> Result<Piece, Stop>
-        ensures { Makes (making_of self.new) piece_of (make_file inherited.now (a_grammar (items_in items.items)) (making_of self.old)) result }
+        ensures { Makes (making_of self.new) piece_of
+            (make_file inherited.now (a_grammar (items_in items.items)) (making_of self.old)) result }
     {
         let mut clauses = Vec::new(self.alloc);
         self.items(inherited, items, &mut clauses)?;
@@ -142,7 +143,8 @@ impl Composer {
     /// A file that is this pattern, which may be a grammar alone.
     #[cycle(file)]
     fn pattern_file(&mut self, inherited: &Bytes, pattern: Pattern) -> Result<Piece, Stop>
-        ensures { Makes (making_of self.new) piece_of (make_file inherited.now (a_pattern (pattern_of pattern)) (making_of self.old)) result }
+        ensures { Makes (making_of self.new) piece_of
+            (make_file inherited.now (a_pattern (pattern_of pattern)) (making_of self.old)) result }
     {
         match pattern {
             Pattern::Grammar(items) => self.grammar_file(inherited, items),
@@ -161,7 +163,8 @@ impl Composer {
         sign: Sign,
         patterns: Vec<Pattern>,
     ) -> Result<Piece, Stop>
-        ensures { Makes (making_of self.new) piece_of (make_file inherited.now (a_pattern (row_of sign patterns.items)) (making_of self.old)) result }
+        ensures { Makes (making_of self.new) piece_of
+            (make_file inherited.now (a_pattern (row_of sign patterns.items)) (making_of self.old)) result }
     {
         if patterns.len() != 1 {
             let root = self.joined(inherited, sign, patterns)?;
@@ -267,7 +270,8 @@ impl Composer {
         content: Pattern,
         class: WrittenClass,
     ) -> Result<NodeNumber, Stop>
-        ensures { Makes (making_of self.new) (λ i. i) (make inherited.now (written.element (written_class_of class) (pattern_of content)) (making_of self.old)) result }
+        ensures { Makes (making_of self.new) (λ i. i)
+            (make inherited.now (written.element (written_class_of class) (pattern_of content)) (making_of self.old)) result }
     {
         let class = class_in(self.alloc, inherited, class)?;
         let content = self.pattern(inherited, content)?;
@@ -281,7 +285,8 @@ impl Composer {
         value: Pattern,
         class: WrittenClass,
     ) -> Result<NodeNumber, Stop>
-        ensures { Makes (making_of self.new) (λ i. i) (make inherited.now (written.attribute (written_class_of class) (pattern_of value)) (making_of self.old)) result }
+        ensures { Makes (making_of self.new) (λ i. i)
+            (make inherited.now (written.attribute (written_class_of class) (pattern_of value)) (making_of self.old)) result }
     {
         let class = class_in(self.alloc, inherited, class)?;
         let value = self.pattern(inherited, value)?;
@@ -347,7 +352,8 @@ impl Composer {
 
     #[cycle(compose)]
     fn grammar(&mut self, inherited: &Bytes, items: Vec<Item>) -> Result<NodeNumber, Stop>
-        ensures { Makes (making_of self.new) (λ i. i) (make inherited.now (written.grammar (items_in items.items)) (making_of self.old)) result }
+        ensures { Makes (making_of self.new) (λ i. i)
+            (make inherited.now (written.grammar (items_in items.items)) (making_of self.old)) result }
     {
         let mut clauses = Vec::new(self.alloc);
         self.items(inherited, items, &mut clauses)?;
@@ -362,7 +368,8 @@ impl Composer {
         items: Vec<Item>,
         clauses: &mut Vec<Clause>,
     ) -> Result<(), Stop>
-        ensures { Makes (making_of self.new) (λ _. clauses.new.items) (behind clauses.old.items (make_items inherited.now (items_in items.items) (making_of self.old))) result }
+        ensures { Makes (making_of self.new) (λ _. clauses.new.items)
+            (behind clauses.old.items (make_items inherited.now (items_in items.items) (making_of self.old))) result }
     {
         for item in items {
             self.item(inherited, item, clauses)?;
@@ -373,7 +380,8 @@ impl Composer {
     /// Adds those of an item.
     #[cycle(compose)]
     fn item(&mut self, inherited: &Bytes, item: Item, clauses: &mut Vec<Clause>) -> Result<(), Stop>
-        ensures { Makes (making_of self.new) (λ _. clauses.new.items) (behind clauses.old.items (make_item inherited.now (item_of item) (making_of self.old))) result }
+        ensures { Makes (making_of self.new) (λ _. clauses.new.items)
+            (behind clauses.old.items (make_item inherited.now (item_of item) (making_of self.old))) result }
     {
         match item {
             Item::Define(name, combine, pattern) => {
@@ -392,7 +400,10 @@ impl Composer {
         replacements: Vec<Replacement>,
         clauses: &mut Vec<Clause>,
     ) -> Result<(), Stop>
-        ensures { (reference : FileReference) → Makes (making_of self.new) (λ _. clauses.new.items) (behind clauses.old.items (make_item inherited.now (written.include reference (replacements_in replacements.items)) (making_of self.old))) result }
+        ensures { (reference : FileReference) → Makes (making_of self.new) (λ _. clauses.new.items)
+            (behind clauses.old.items
+            (make_item inherited.now (written.include reference (replacements_in replacements.items)) (making_of self.old)))
+            result }
     {
         let old = self.included()?;
         let mut new = Vec::new(self.alloc);
@@ -410,7 +421,8 @@ impl Composer {
         replacements: Vec<Replacement>,
         clauses: &mut Vec<Clause>,
     ) -> Result<(), Stop>
-        ensures { Makes (making_of self.new) (λ _. clauses.new.items) (behind clauses.old.items (make_anew inherited.now (replacements_in replacements.items) (making_of self.old))) result }
+        ensures { Makes (making_of self.new) (λ _. clauses.new.items)
+            (behind clauses.old.items (make_anew inherited.now (replacements_in replacements.items) (making_of self.old))) result }
     {
         for replacement in replacements {
             self.replacement(inherited, replacement, clauses)?;
@@ -426,7 +438,8 @@ impl Composer {
         replacement: Replacement,
         clauses: &mut Vec<Clause>,
     ) -> Result<(), Stop>
-        ensures { Makes (making_of self.new) (λ _. clauses.new.items) (behind clauses.old.items (make_replacement inherited.now (replacement_of replacement) (making_of self.old))) result }
+        ensures { Makes (making_of self.new) (λ _. clauses.new.items)
+            (behind clauses.old.items (make_replacement inherited.now (replacement_of replacement) (making_of self.old))) result }
     {
         match replacement {
             Replacement::Define(name, combine, pattern) => {
@@ -446,7 +459,9 @@ impl Composer {
         pattern: Pattern,
         clauses: &mut Vec<Clause>,
     ) -> Result<(), Stop>
-        ensures { Makes (making_of self.new) (λ _. clauses.new.items) (behind clauses.old.items (make_item inherited.now (written.define name combine (pattern_of pattern)) (making_of self.old))) result }
+        ensures { Makes (making_of self.new) (λ _. clauses.new.items)
+            (behind clauses.old.items
+            (make_item inherited.now (written.define name combine (pattern_of pattern)) (making_of self.old))) result }
     {
         let body = self.pattern(inherited, pattern)?;
         clauses.push(Clause {

@@ -182,7 +182,8 @@ impl Loader {
         requires text { IsUtf8 uri }
         requires known { AreOpened self.old.opened (reverse self.old.chain.items) }
         ensures known { IfOk result (λ _. AreOpened self.new.opened (reverse self.new.chain.items)) }
-        ensures opened { OpensFile (F.told files.old) uri inherited (F.faults files.old) (F.faults files.new) self.old.chain.items self.new.chain.items self.old.loaded.items self.new.loaded.items result }
+        ensures opened { OpensFile (F.told files.old) uri inherited (F.faults files.old)
+            (F.faults files.new) self.old.chain.items self.new.chain.items self.old.loaded.items self.new.loaded.items result }
         ensures map { F.told files.new ≡ F.told files.old }
     {
         let surface = file_at(self.alloc, &uri, files)?;
@@ -253,7 +254,8 @@ impl Loader {
         requires known { AreOpened self.old.opened (link ∷ reverse self.old.chain.items) }
         ensures known { IfOk result (λ _. AreOpened self.new.opened (reverse self.new.chain.items)) }
         ensures texts { IfOk result (λ _. AreTextLinks (reverse self.new.chain.items)) }
-        ensures goes_on { (uri : List ℕ) (before : TheLink) → before.uri ≡ link.uri → reverse before.waiting.items ≡ mention ∷ reverse link.waiting.items
+        ensures goes_on { (uri : List ℕ) (before : TheLink) → before.uri ≡ link.uri
+            → reverse before.waiting.items ≡ mention ∷ reverse link.waiting.items
             → IsUnderWay (F.told files.old) uri (before ∷ reverse self.old.chain.items) self.old.loaded.items
             → GoesOn (F.told files.old) uri (F.faults files.old) (F.faults files.new) (reverse self.new.chain.items) self.new.loaded.items result }
         ensures faults { IfOk result (λ _. F.faults files.new ≡ F.faults files.old) }

@@ -50,7 +50,8 @@ fn add_surface(
     surface: &Surface,
     found: &mut Vec<Mention>,
 ) -> Result<(), NoMemory>
-    ensures { IfOk result (λ _. found.new.items ≡ found.old.items ++ kept_of_all inherited.now (mentions_of_file (surface_of surface.now))) }
+    ensures { IfOk result (λ _. found.new.items ≡ found.old.items ++ kept_of_all inherited.now
+        (mentions_of_file (surface_of surface.now))) }
 {
     match surface {
         Surface::Pattern(pattern) => add_pattern(inherited, pattern, found),
@@ -153,7 +154,8 @@ fn add_replacements(
     replacements: &[Replacement],
     found: &mut Vec<Mention>,
 ) -> Result<(), NoMemory>
-    ensures { IfOk result (λ _. found.new.items ≡ found.old.items ++ kept_of_all inherited.now (mentions_anew (replacements_in replacements.now))) }
+    ensures { IfOk result (λ _. found.new.items ≡ found.old.items ++ kept_of_all inherited.now
+        (mentions_anew (replacements_in replacements.now))) }
 {
     for replacement in replacements {
         add_replacement(inherited, replacement, found)?;
@@ -168,7 +170,8 @@ fn add_replacement(
     replacement: &Replacement,
     found: &mut Vec<Mention>,
 ) -> Result<(), NoMemory>
-    ensures { IfOk result (λ _. found.new.items ≡ found.old.items ++ kept_of_all inherited.now (mentions_of_replacement (replacement_of replacement.now))) }
+    ensures { IfOk result (λ _. found.new.items ≡ found.old.items ++ kept_of_all inherited.now
+        (mentions_of_replacement (replacement_of replacement.now))) }
 {
     match replacement {
         Replacement::Define(_, _, pattern) => add_pattern(inherited, pattern, found),

@@ -56,7 +56,8 @@ pub(crate) fn order(
 ) -> Result<Vec<Place>, SchemaFault>
     requires formed { AreWellFormed (cells_of whole.now) whole.now.root }
     requires resolved { IsResolved (cells_of whole.now) whole.now.root found.now }
-    ensures { OkOrRefused (cells_of whole.now) whole.now.root (λ order. IsOrdered (cells_of whole.now) whole.now.root found.now order.items) result }
+    ensures { OkOrRefused (cells_of whole.now) whole.now.root
+        (λ order. IsOrdered (cells_of whole.now) whole.now.root found.now order.items) result }
 {
     let mut walk = Walk::begin(alloc, whole.nodes.len() + found.combined.len())?;
     walk.nodes(whole, found)?;
@@ -134,7 +135,8 @@ fn next(whole: &Whole, found: &Resolved, node: Place, k: usize) -> Option<Place>
 impl Walk {
     /// A walk that met nothing of so many nodes.
     fn begin(alloc: Global, count: usize) -> Result<Walk, NoMemory>
-        ensures { IfOk result (λ walk. (length (walking_of walk).marks ≡ count) × ((i : ℕ) → mark_at (walking_of walk) i ≡ NotMet) × ((walking_of walk).path ≡ []) × ((walking_of walk).order ≡ [])) }
+        ensures { IfOk result (λ walk. (length (walking_of walk).marks ≡ count) × ((i : ℕ) → mark_at (walking_of walk) i ≡ NotMet) ×
+            ((walking_of walk).path ≡ []) × ((walking_of walk).order ≡ [])) }
     {
         let mut marks = Vec::with_capacity(alloc, count)?;
         for _ in 0..count {
@@ -153,7 +155,10 @@ impl Walk {
         requires resolved { IsResolved (cells_of whole.now) whole.now.root found.now }
         requires here { IsWalk (cells_of whole.now) whole.now.root found.now None (walking_of self.old) }
         requires at_rest { (walking_of self.old).path ≡ [] }
-        ensures { OkOrRefused (cells_of whole.now) whole.now.root (λ done. IsWalk (cells_of whole.now) whole.now.root found.now None (walking_of self.new) × ((walking_of self.new).path ≡ []) × ((i : ℕ) → IsStanding (cells_of whole.now) whole.now.root i → mark_at (walking_of self.new) i ≢ NotMet)) result }
+        ensures { OkOrRefused (cells_of whole.now) whole.now.root
+            (λ done. IsWalk (cells_of whole.now) whole.now.root found.now None (walking_of self.new) ×
+            ((walking_of self.new).path ≡ []) ×
+            ((i : ℕ) → IsStanding (cells_of whole.now) whole.now.root i → mark_at (walking_of self.new) i ≢ NotMet)) result }
     {
         for i in 0..whole.nodes.len() {
             self.node(whole, found, i)?;
@@ -168,7 +173,8 @@ impl Walk {
         requires resolved { IsResolved (cells_of whole.now) whole.now.root found.now }
         requires here { IsWalk (cells_of whole.now) whole.now.root found.now None (walking_of self.old) }
         requires at_rest { (walking_of self.old).path ≡ [] }
-        ensures { OkOrRefused (cells_of whole.now) whole.now.root (λ done. IsPassed (cells_of whole.now) whole.now.root found.now i (walking_of self.old) (walking_of self.new)) result }
+        ensures { OkOrRefused (cells_of whole.now) whole.now.root
+            (λ done. IsPassed (cells_of whole.now) whole.now.root found.now i (walking_of self.old) (walking_of self.new)) result }
     {
         match found.scopes[i] {
             Scope::Nowhere => Ok(()),
@@ -182,7 +188,11 @@ impl Walk {
         requires resolved { IsResolved (cells_of whole.now) whole.now.root found.now }
         requires here { IsWalk (cells_of whole.now) whole.now.root found.now None (walking_of self.old) }
         requires at_rest { (walking_of self.old).path ≡ [] }
-        ensures { OkOrRefused (cells_of whole.now) whole.now.root (λ done. IsWalk (cells_of whole.now) whole.now.root found.now None (walking_of self.new) × ((walking_of self.new).path ≡ []) × KeepsMarks (walking_of self.old) (walking_of self.new) × ((number : ℕ) → number < length found.now.combined.items → mark_at (walking_of self.new) (length whole.now.nodes.items + number) ≢ NotMet)) result }
+        ensures { OkOrRefused (cells_of whole.now) whole.now.root
+            (λ done. IsWalk (cells_of whole.now) whole.now.root found.now None (walking_of self.new) ×
+            ((walking_of self.new).path ≡ []) × KeepsMarks (walking_of self.old) (walking_of self.new) ×
+            ((number : ℕ) → number < length found.now.combined.items → mark_at (walking_of self.new)
+            (length whole.now.nodes.items + number) ≢ NotMet)) result }
     {
         for j in 0..found.combined.len() {
             self.go(whole, found, whole.nodes.len() + j)?;
@@ -197,7 +207,8 @@ impl Walk {
         requires met { IsMet (cells_of whole.now) whole.now.root found.now from }
         requires here { IsWalk (cells_of whole.now) whole.now.root found.now None (walking_of self.old) }
         requires at_rest { (walking_of self.old).path ≡ [] }
-        ensures { OkOrRefused (cells_of whole.now) whole.now.root (λ done. IsGone (cells_of whole.now) whole.now.root found.now from (walking_of self.old) (walking_of self.new)) result }
+        ensures { OkOrRefused (cells_of whole.now) whole.now.root
+            (λ done. IsGone (cells_of whole.now) whole.now.root found.now from (walking_of self.old) (walking_of self.new)) result }
     {
         self.meet(from)?;
         while let Some(step) = self.path.pop() {
@@ -211,7 +222,9 @@ impl Walk {
         requires formed { AreWellFormed (cells_of whole.now) whole.now.root }
         requires resolved { IsResolved (cells_of whole.now) whole.now.root found.now }
         requires here { IsWalk (cells_of whole.now) whole.now.root found.now None (with_step step (walking_of self.old)) }
-        ensures { OkOrRefused (cells_of whole.now) whole.now.root (λ done. IsTurned (cells_of whole.now) whole.now.root found.now (with_step step (walking_of self.old)) (walking_of self.new)) result }
+        ensures { OkOrRefused (cells_of whole.now) whole.now.root
+            (λ done. IsTurned (cells_of whole.now) whole.now.root found.now (with_step step (walking_of self.old))
+            (walking_of self.new)) result }
     {
         match next(whole, found, step.node, step.met) {
             Some(next) => {

@@ -124,7 +124,8 @@ fn numbered(
 ) -> Result<Vec<usize>, NoMemory>
     requires within { length scopes.now ≡ length nodes.now }
     requires known { length links.old.items ≡ length nodes.now }
-    ensures { IfOk result (λ elements. AreNumbered (map cell_of nodes.now) scopes.now (length nodes.now) links.old.items (numbering_of links.new elements)) }
+    ensures { IfOk result (λ elements. AreNumbered (map cell_of nodes.now) scopes.now (length nodes.now) links.old.items
+        (numbering_of links.new elements)) }
 {
     let mut elements = Vec::new(alloc);
     for i in 0..nodes.len() {
@@ -142,7 +143,8 @@ fn number(
     elements: &mut Vec<usize>,
 ) -> Result<(), NoMemory>
     requires { i < length links.old.items }
-    ensures { OnOk result (numbering_of links.new elements.new ≡ with_numbered i scope (cell_of node.now) (numbering_of links.old elements.old)) }
+    ensures { OnOk result (numbering_of links.new elements.new ≡ with_numbered i scope (cell_of node.now)
+        (numbering_of links.old elements.old)) }
 {
     match scope {
         Scope::Nowhere => Ok(()),
@@ -248,7 +250,8 @@ fn gather(
     clause: &Clause,
 ) -> Result<(), SchemaFault>
     requires { (number : ℕ) → kept_for names.old clause.now.name ≡ Some number → number < length combined.old.items }
-    ensures { (first : ℕ) (before : List Clause) → IsGathered first before names.old combined.old.items → GathersOne first before clause.now combined.old.items names.new combined.new.items result }
+    ensures { (first : ℕ) (before : List Clause) → IsGathered first before names.old combined.old.items
+        → GathersOne first before clause.now combined.old.items names.new combined.new.items result }
 {
     match names.get(&clause.name).copied() {
         Some(number) => combined[number].add(clause.combine, clause.body),
@@ -308,7 +311,8 @@ impl Resolver {
     fn walk(&mut self, whole: &Whole) -> Result<(), SchemaFault>
         requires formed { AreWellFormed (cells_of whole.now) whole.now.root }
         requires begun { IsMidway (cells_of whole.now) whole.now.root (length whole.now.nodes.items) (findings_of self.old) }
-        ensures { OkOrRefused (cells_of whole.now) whole.now.root (λ done. IsMidway (cells_of whole.now) whole.now.root 0 (findings_of self.new)) result }
+        ensures { OkOrRefused (cells_of whole.now) whole.now.root
+            (λ done. IsMidway (cells_of whole.now) whole.now.root 0 (findings_of self.new)) result }
     {
         let mut rest = whole.nodes.len();
         while rest > 0 {
@@ -323,7 +327,8 @@ impl Resolver {
         requires within { i < length whole.now.nodes.items }
         requires formed { AreWellFormed (cells_of whole.now) whole.now.root }
         requires behind { IsMidway (cells_of whole.now) whole.now.root (i + 1) (findings_of self.old) }
-        ensures { OkOrRefused (cells_of whole.now) whole.now.root (λ done. IsMidway (cells_of whole.now) whole.now.root i (findings_of self.new)) result }
+        ensures { OkOrRefused (cells_of whole.now) whole.now.root
+            (λ done. IsMidway (cells_of whole.now) whole.now.root i (findings_of self.new)) result }
     {
         match self.scopes[i] {
             Scope::Nowhere => Ok(()),

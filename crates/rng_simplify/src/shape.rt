@@ -241,7 +241,8 @@ impl Shapes {
         part: ShapeNumber,
     ) -> Result<ShapeNumber, SchemaFault>
         requires { part < length self.old }
-        ensures { Shows self.old self.new (variant.Attribute node part) (λ cells at. attribute_of (class_in (slice_get cells node)) (at part)) result }
+        ensures { Shows self.old self.new (variant.Attribute node part)
+            (λ cells at. attribute_of (class_in (slice_get cells node)) (at part)) result }
     {
         match self.head(part) {
             Head::NotAllowed => Ok(part),

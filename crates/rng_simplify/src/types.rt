@@ -327,7 +327,8 @@ fn set_type(
 ) -> Result<(), SchemaFault>
     requires texts { AreTexts (map cell_of nodes.now) }
     requires of_schema { (count : ℕ) × AreOfSchema (map cell_of nodes.now) count forms.now.shapes }
-    requires known { (c : Cell) → IsCell (map cell_of nodes.now) i c → (j : ℕ) → Contains (cell_parts c) j → IsKnown forms.now.shapes forms.now.of.items j }
+    requires known { (c : Cell) → IsCell (map cell_of nodes.now) i c → (j : ℕ) → Contains (cell_parts c) j
+        → IsKnown forms.now.shapes forms.now.of.items j }
     requires all { length types.old.items ≡ length nodes.now }
     ensures { SetsType (map cell_of nodes.now) forms.now i types.old.items types.new.items result }
 {
