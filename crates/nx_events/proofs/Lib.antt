@@ -33,5 +33,7 @@ pub mod OpenTags
 pub mod StatesKnown
 pub mod MarkupForms
 pub mod SeenNames
+pub mod Places
+pub mod Stacks
 pub mod KeptNames
 pub mod QualifiedNames

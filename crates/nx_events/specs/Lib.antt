@@ -36,6 +36,7 @@ pub mod Moves
 -- ---- what private contracts cite
 pub mod Plain
 pub mod SeenNames
+pub mod Places
 -- ---- proofs of the laws that the machine hands on, which have to stand here
 pub mod ItemsLie
 pub mod ItemsMove
