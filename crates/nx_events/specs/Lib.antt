@@ -1,5 +1,6 @@
 -- ---- what a reader must believe
 -- one token: characters, strings, references, markup, names, tags, declarations
+pub mod Choices
 pub mod Utf8
 pub mod References
 pub mod Strings

@@ -6,8 +6,7 @@ use Rattle.std.specs.Cmp.Lexicographic.{slice_cmp}
 use Rattle.std.specs.Option.{option_and_then}
 use Rattle.std.specs.Ordering.{nat_cmp}
 use Rattle.std.specs.Str.{bytes_eq}
-use Rattle.nx_events.specs.Items.{one_more}
-use Rattle.nx_events.specs.Scopes.{or_else}
+use Rattle.nx_events.specs.Choices.{or_else, one_more}
 use Rattle.nx_events.specs.declared.name_places.Placed.{Placed}
 
 -- the last place that a name has

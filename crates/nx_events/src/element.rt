@@ -10,7 +10,7 @@ use crate::flaw::{Flaw, Resolved};
 use crate::item::{Event, Item, Items};
 use crate::namespace::{is_declaration, push_flaw};
 use crate::qname::{is_qname, prefix_of};
-use crate::scope::{Binding, expand_attribute, expand_element};
+use crate::scope::{Bindings, expand_attribute, expand_element};
 use crate::seen::Seen;
 use crate::tag::{Attribute, copy_of};
 use nx_base::fault::{Kind, Span};
@@ -47,8 +47,8 @@ fn declared_or_flaw(alloc: Global, name: Option<Name>, written: &[u8]) -> Result
 pub(crate) fn element_resolved(
     alloc: Global,
     behind_root: bool,
-    outer: &[Binding],
-    own: &[Binding],
+    outer: &Bindings,
+    own: &Bindings,
     written: &[u8],
 ) -> Result<Resolved, NoMemory>
     ensures { IfOk result (λ resolved. resolved ≡ element_resolved behind_root (outer.now ++ own.now) written.now) }
@@ -115,8 +115,8 @@ fn keep_new(
 #[tactic(auto, unfolding(crate::specs::Elements::attribute_declared))]
 fn attribute_declared(
     alloc: Global,
-    outer: &[Binding],
-    own: &[Binding],
+    outer: &Bindings,
+    own: &Bindings,
     written: &[u8],
 ) -> Result<Resolved, NoMemory>
     ensures { IfOk result (λ resolved. resolved ≡ attribute_declared (outer.now ++ own.now) written.now) }
@@ -133,8 +133,8 @@ fn attribute_declared(
 #[tactic(auto, unfolding(crate::specs::Elements::declared_if_attribute))]
 fn declared_if_attribute(
     alloc: Global,
-    outer: &[Binding],
-    own: &[Binding],
+    outer: &Bindings,
+    own: &Bindings,
     it: &Attribute,
 ) -> Result<Option<Resolved>, NoMemory>
     ensures { IfOk result (λ resolved. resolved ≡ declared_if_attribute (outer.now ++ own.now) it.now) }
@@ -184,8 +184,8 @@ fn push_attribute(
 pub(crate) fn push_attributes(
     alloc: Global,
     items: &mut Items,
-    outer: &[Binding],
-    own: &[Binding],
+    outer: &Bindings,
+    own: &Bindings,
     attributes: &[Attribute],
 ) -> Result<(), NoMemory>
     ensures { OnOk result (items.new ≡ items.old ++ attribute_items (outer.now ++ own.now) [] attributes.now) }

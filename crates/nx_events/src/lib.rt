@@ -10,7 +10,6 @@
 //! makes it `xz`, and the end tag gives it as one event with the span from `x` to `z`.
 #![tactic(auto)]
 
-mod append;
 pub mod bare;
 mod character_fault;
 mod declaration;

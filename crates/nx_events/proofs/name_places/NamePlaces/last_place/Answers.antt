@@ -1,4 +1,4 @@
-use Rattle.std.proofs.Common.{ℕ, ◌+◌, ◌<◌, ◌^◌, length, arith, ◌∙◌}
+use Rattle.std.proofs.Common.{◌<◌, ◌^◌, length, arith, ◌∙◌}
 use Rattle.std.proofs.lemmas.List.{length-map}
 use Rattle.nx_events.specs.Places.{names_in}
 use Rattle.nx_events.specs.declared.name_places.Placed.{Placed}

@@ -1,4 +1,4 @@
-use Rattle.std.proofs.Common.{◌≡◌, ℕ, ◌+◌, ◌<◌, List, Some, None, length, take, map, sym, subst, ap, ◌∙◌, arith}
+use Rattle.std.proofs.Common.{◌+◌, ◌<◌, List, length, take, map, sym, subst, ap, ◌∙◌, arith}
 use Rattle.nx_events.specs.Places.{last_place}
 use Rattle.nx_events.proofs.Stacks.{found_behind, not_behind, named_within}
 use Rattle.nx_events.proofs.stack.Stack.last_place.Goals as goal
