@@ -11,6 +11,7 @@ pub mod Elements
 pub mod OpenElements
 pub mod Folding
 pub mod Balance
+pub mod TreeEvents
 pub mod TextRuns
 pub mod Spelling
 pub mod Texts

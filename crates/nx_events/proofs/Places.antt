@@ -37,10 +37,10 @@ puts old new name place h other =
     elim (cases_Bool (bytes_eq name other)) [
       | inl e ↦ ap (place_at new) (sym ((bytes_decides name other).0 e)) ∙ h.1 ∙ sym (ap (λ (t : Bool). cond t place (place_at old other)) e)
       | inr e ↦
-        h.3 (λ (key : Vec ℕ Global). is_eq (slice_cmp nat_cmp other key.items))
-        (λ x y found. ap (λ n. is_eq (slice_cmp nat_cmp n y.items)) (found_is other x.items found))
-        (λ key found. is_eq-slice_cmp other key.items ∙ differs name other key.items e (found_is name key.items found) (bytes_eq other key.items) refl)
-        ∙ sym (ap (λ (t : Bool). cond t place (place_at old other)) e)
+          h.3 (λ (key : Vec ℕ Global). is_eq (slice_cmp nat_cmp other key.items))
+          (λ x y found. ap (λ n. is_eq (slice_cmp nat_cmp n y.items)) (found_is other x.items found))
+          (λ key found. is_eq-slice_cmp other key.items ∙ differs name other key.items e (found_is name key.items found) (bytes_eq other key.items) refl)
+          ∙ sym (ap (λ (t : Bool). cond t place (place_at old other)) e)
     ]
 
 -- a name that is there isn't missing

@@ -44,7 +44,6 @@ pub all_before : {T : Type 0} (n : ℕ) (xs : List T) → length xs ≤ n → xs
 all_before n xs h = grind (arith, common_steps)
 
 module _ {T : Type 0} (f : T → List ℕ) where
-
   more_by : (xs : List T) (x : T) (t : Bool) → nat_le 32 (length xs) ≡ t → behind_those f (xs ++ x ∷ []) ≡ cond t (behind_those f xs ++ f x ∷ []) (behind_those f xs)
   more_by xs x true e = ap (map f) (drop-append-le 32 xs (x ∷ []) (at_least (length xs) e)) ∙ map-append f (drop 32 xs) (x ∷ [])
   more_by xs x false e =

@@ -31,6 +31,7 @@ pub mod QualifiedNames
 pub mod OpenTags
 pub mod TextRuns
 pub mod Balance
+pub mod TreeEvents
 pub mod Texts
 pub mod Spans
 pub mod Moves

@@ -11,8 +11,8 @@ use crate::item::{Event, Item, Items};
 use crate::namespace::{is_declaration, push_flaw};
 use crate::qname::{is_qname, prefix_of};
 use crate::scope::{Bindings, expand_attribute, expand_element};
-use crate::seen::Seen;
 use crate::tag::{Attribute, copy_of};
+use crate::tag_names::TagNames;
 use nx_base::fault::{Kind, Span};
 use nx_base::memory::NoMemory;
 use nx_base::name::Name;
@@ -90,7 +90,7 @@ pub(crate) fn push_element(
 #[tactic(auto, unfolding(crate::specs::Elements::new_or_flaw))]
 fn keep_new(
     alloc: Global,
-    kept: &mut Seen,
+    kept: &mut TagNames,
     resolved: Resolved,
     written: &[u8],
 ) -> Result<Resolved, NoMemory>
@@ -163,7 +163,7 @@ fn push_resolved(items: &mut Items, it: &Attribute, resolved: Resolved) -> Resul
 fn push_attribute(
     alloc: Global,
     items: &mut Items,
-    kept: &mut Seen,
+    kept: &mut TagNames,
     it: &Attribute,
     declared: Option<Resolved>,
 ) -> Result<(), NoMemory>
@@ -190,7 +190,7 @@ pub(crate) fn push_attributes(
 ) -> Result<(), NoMemory>
     ensures { OnOk result (items.new ≡ items.old ++ attribute_items (outer.now ++ own.now) [] attributes.now) }
 {
-    let mut kept = Seen::new(alloc);
+    let mut kept = TagNames::new(alloc);
     for it in attributes {
         let declared = declared_if_attribute(alloc, outer, own, it)?;
         push_attribute(alloc, items, &mut kept, it, declared)?;

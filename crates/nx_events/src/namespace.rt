@@ -10,8 +10,8 @@ use crate::flaw::Flaw;
 use crate::item::{Item, Items};
 use crate::qname::is_qname;
 use crate::scope::{Binding, Bindings, XML_URI};
-use crate::seen::Seen;
 use crate::tag::{Attribute, copy_of};
+use crate::tag_names::TagNames;
 use nx_base::fault::{Fault, Kind, Span};
 use nx_base::memory::NoMemory;
 use nx_base::name::XMLNS_NAMESPACE;
@@ -110,7 +110,7 @@ fn declare_if(
     alloc: Global,
     items: &mut Items,
     own: &mut Bindings,
-    came: &mut Seen,
+    came: &mut TagNames,
     it: &Attribute,
 ) -> Result<(), NoMemory>
     ensures faults { (before : List Attribute) → AreDeclared came.old.names.keys before → OnOk result (items.new ≡ items.old ++ faults_as_items (faults_at before it.now)) }
@@ -134,7 +134,7 @@ pub(crate) fn declarations(
     ensures pairs { IfOk result (λ own. own ≡ bindings [] attributes.now) }
 {
     let mut own = Bindings::new(alloc);
-    let mut came = Seen::new(alloc);
+    let mut came = TagNames::new(alloc);
     for it in attributes {
         declare_if(alloc, items, &mut own, &mut came, it)?;
     }

@@ -81,13 +81,7 @@ pub(crate) fn push_start(
     let attributes = tag_attributes(alloc, token.from, token.bytes.as_slice())?;
     let own = declarations(alloc, items, attributes.as_slice())?;
     push_tag_element(alloc, items, state, token, &own)?;
-    push_attributes(
-        alloc,
-        items,
-        &state.scope,
-        &own,
-        attributes.as_slice(),
-    )?;
+    push_attributes(alloc, items, &state.scope, &own, attributes.as_slice())?;
     items.push(Item::Event(Event::TagEnd, token_span(token)))?;
     Ok(own)
 }

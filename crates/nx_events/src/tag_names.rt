@@ -11,16 +11,16 @@ use std::collections::BTreeSet;
 /// A set of names, each in two parts: a namespace and a local part, or nothing and a written name. In a tag with
 /// many attributes it is asked once for each.
 #[derive(Drop)]
-pub struct Seen {
+pub struct TagNames {
     pub(crate) names: BTreeSet<(Vec<u8>, Vec<u8>)>,
 }
 
-impl Seen {
+impl TagNames {
     /// No names.
-    pub(crate) fn new(alloc: Global) -> Seen
+    pub(crate) fn new(alloc: Global) -> TagNames
         ensures { (first second : List ℕ) → has_pair result.names.keys first second ≡ false }
     {
-        Seen {
+        TagNames {
             names: BTreeSet::new(alloc),
         }
     }

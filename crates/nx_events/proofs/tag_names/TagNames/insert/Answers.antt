@@ -1,5 +1,5 @@
 use Rattle.nx_events.proofs.SeenNames.{came_before, names_behind}
-use Rattle.nx_events.proofs.seen.Seen.insert.Goals as goal
+use Rattle.nx_events.proofs.tag_names.TagNames.insert.Goals as goal
 
 pub returns-clause-came : goal.returns-clause-came
 returns-clause-came c =
