@@ -24,7 +24,8 @@ use Rattle.nx_events.specs.declared.state.Run.{Run}
 use Rattle.nx_document.specs.Constraints.{IsMark, IsXmlDeclaration, IsDoctype, declared, written_in, IsLegalTag, EndsElement}
 use Rattle.nx_document.specs.Document.{Optional, absent, present, Repeated, no_further, further, IsMisc, comment, instruction, white_space, with_text, Element, by_empty, by_tags, Content, no_more, by_element, by_text, by_section, by_comment, by_instruction, Document}
 use Rattle.nx_events.specs.Among.{faults_among, events_among}
-use Rattle.nx_document.specs.WellFormed.{as_event, AreOfTree}
+use Rattle.nx_document.specs.WellFormed.{AreOfTree}
+use Rattle.nx_events.specs.TreeEvents.{as_event}
 use Rattle.nx_document.proofs.Told.{Clean, clean_nil, clean_both, events_append, events_skip}
 use Rattle.nx_document.proofs.Trees.{pending, pending_passed, pending_joined, text_flat, run_clean, run_events, text_twice, element_flat}
 use Rattle.nx_document.proofs.Frames.{Frame, scope_of, open_of, elements_of, at, inside_some, found_here, take_front, drop_front, drop_last}

@@ -33,7 +33,7 @@ use Rattle.nx_events.specs.declared.state.EventState.{EventState}
 use Rattle.nx_events.specs.declared.state.Run.{Run}
 use Rattle.nx_document.specs.Constraints.{IsXmlDeclaration, IsComment, IsInstruction, IsWhiteSpace, IsCharacterData, IsSection, IsLegal, declared, written_in, in_force, IsLegalTag, Expand}
 use Rattle.nx_events.specs.Among.{events_among}
-use Rattle.nx_document.specs.WellFormed.{as_event}
+use Rattle.nx_events.specs.TreeEvents.{as_event}
 use Rattle.nx_document.proofs.Told.{Clean, clean_nil, clean_both, clean_first, clean_second, faulty, no_faults, clean_faults, fault_events, no_fault_if, clean_if, if_events, events_append, events_skip}
 use Rattle.nx_document.proofs.Characters.{is_legal, legal_faultless}
 use Rattle.nx_document.proofs.Blank.{blank_legal}

@@ -24,7 +24,7 @@ use Rattle.nx_events.specs.declared.scope.Binding.{Binding}
 use Rattle.nx_events.specs.declared.tag.Attribute.{Attribute}
 use Rattle.nx_document.specs.Constraints.{AreWrittenOnce, IsLegalDeclaration, DeclareLegally, declared, Expand, no_attribute, declaration, attribute, AreDistinct}
 use Rattle.nx_events.specs.Among.{events_among}
-use Rattle.nx_document.specs.WellFormed.{as_event}
+use Rattle.nx_events.specs.TreeEvents.{as_event}
 use Rattle.nx_document.proofs.Told.{Clean, clean_nil, clean_first, clean_second, faulty}
 
 pub not_nothing : {A B : Type 0} (x : A) (xs : List A) → x ∷ xs ≡ [] → B

@@ -13,7 +13,7 @@ use Rattle.nx_events.specs.declared.item.Item.TheVariants as items
 use Rattle.nx_events.specs.declared.state.Run.{Run}
 use Rattle.nx_document.specs.Document.{with_text}
 use Rattle.nx_events.specs.Among.{events_among}
-use Rattle.nx_document.specs.WellFormed.{as_event}
+use Rattle.nx_events.specs.TreeEvents.{as_event}
 use Rattle.nx_document.proofs.Told.{Clean, clean_nil}
 
 -- the string of a run that is pending, empty where there is none

@@ -4,23 +4,13 @@ use Rattle.std.specs.Str.{IsUtf8, chars}
 use Rattle.nx_base.specs.Characters.{is_nc_name}
 use Rattle.nx_base.specs.Tokens.{tokens_of}
 use Rattle.nx_base.specs.Trees.{Tree, AreChildren, AreWritable, alone, flat}
-use Rattle.nx_base.specs.Trees as trees
 use Rattle.nx_base.specs.declared.token.Token.{Token}
 use Rattle.nx_events.specs.Among.{faults_among, events_among}
 use Rattle.nx_events.specs.Items.{items_of, items_of_text}
 use Rattle.nx_events.specs.Names.{is_ncname}
-use Rattle.nx_events.specs.declared.item.Event.{Event}
-use Rattle.nx_events.specs.declared.item.Event.TheVariants.{Enter, Att, TagEnd, Chars, Leave}
+use Rattle.nx_events.specs.TreeEvents.{as_event}
 use Rattle.nx_events.specs.declared.item.Item.{Item}
 use Rattle.nx_document.specs.Document.{Document}
-
--- an event of a tree among the events of texts, which can also enter an element without a name
-abbrev pub as_event : trees.Event → Event
-as_event (trees.Enter name) = Enter name
-as_event (trees.Att name value) = Att name value
-as_event trees.TagEnd = TagEnd
-as_event (trees.Chars text) = Chars text
-as_event trees.Leave = Leave
 
 -- these events are those of this tree
 abbrev pub AreOfTree : Tree → List Item → Type 0
@@ -48,10 +38,6 @@ DocumentsHaveProperNames = (text : List ℕ) (tree : Tree) → IsUtf8 text → D
 -- and its strings, too, are of characters that XML allows
 abbrev pub DocumentsAreWritable : Type 0
 DocumentsAreWritable = (text : List ℕ) (tree : Tree) → IsUtf8 text → Document (tokens_of text) tree → AreWritable (flat tree)
-
--- the events of trees stay apart among those of texts
-abbrev pub TreeEventsStayApart : Type 0
-TreeEventsStayApart = (one other : List trees.Event) → map as_event one ≡ map as_event other → one ≡ other
 
 -- names without a colon are one notion, of the bytes of a name and of its characters (Namespaces, 3 [4])
 abbrev pub UnprefixedNamesAgree : Type 0

@@ -1,7 +1,7 @@
 //! Laws of well-formed documents: of XML 1.0 without what lies in a document type, of which nothing is
 //! asked or used. Nothing here runs.
 
-ghost use Rattle.nx_document.specs.WellFormed.{WellFormedIsDocument, DocumentsHaveNoFault, DocumentsHaveOneTree, DocumentsHaveProperNames, DocumentsAreWritable, TreeEventsStayApart, UnprefixedNamesAgree};
+ghost use Rattle.nx_document.specs.WellFormed.{WellFormedIsDocument, DocumentsHaveNoFault, DocumentsHaveOneTree, DocumentsHaveProperNames, DocumentsAreWritable, UnprefixedNamesAgree};
 ghost use Rattle.nx_document.specs.ApartStrings.{DocumentsHaveApartStrings};
 ghost use Rattle.nx_document.specs.LegalReadings.{LegalIsReadWithoutFault, LegalTagsHaveLegalValues};
 
@@ -55,11 +55,6 @@ pub fn legal_is_read_without_fault()
 /// else in a tag is of characters that XML allows, and without references.
 pub fn legal_tags_have_legal_values()
     ensures { LegalTagsHaveLegalValues }
-{}
-
-/// The events of trees stay apart among those of texts.
-pub fn tree_events_stay_apart()
-    ensures { TreeEventsStayApart }
 {}
 
 /// Names without a colon are one notion, of the bytes of a name and of its characters.

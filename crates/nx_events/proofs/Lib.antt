@@ -11,6 +11,7 @@ pub mod Elements
 pub mod OpenElements
 pub mod Folding
 pub mod Balance
+pub mod TreeEvents
 pub mod TextRuns
 pub mod Spelling
 pub mod Texts
@@ -33,5 +34,7 @@ pub mod OpenTags
 pub mod StatesKnown
 pub mod MarkupForms
 pub mod SeenNames
+pub mod Places
+pub mod Stacks
 pub mod KeptNames
 pub mod QualifiedNames

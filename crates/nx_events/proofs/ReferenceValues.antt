@@ -1,6 +1,6 @@
 -- What references denote, by their grammar and as it is read.
 use Rattle.std.proofs.Common.{◌≡◌, ℕ, suc, ◌+◌, ◌*◌, ◌^◌, ◌<◌, Bool, true, false, cond, inl, inr, Option, Some, None, List, [], ◌∷◌, ◌++◌, length, take, drop, refl, ap, sym, subst, ◌∙◌, arith, append-nil, codes, add-mul, mul_assoc, pow-suc, zero-mul, mul-one, mul_comm}
-use Rattle.std.specs.Prelude.{◌&&◌, ◌==◌, nat_eq, slice_index, fold}
+use Rattle.std.specs.Prelude.{◌&&◌, ◌==◌, nat_eq, slice_index}
 use Rattle.std.specs.List.{starts_with}
 use Rattle.std.specs.Str.{bytes_eq}
 use Rattle.std.specs.Char.{is_ascii_digit, is_ascii_hexdigit, digit_value}

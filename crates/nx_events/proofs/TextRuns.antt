@@ -1,5 +1,5 @@
 -- Runs and end tags, told by the tokens.
-use Rattle.std.proofs.Common.{◌≡◌, ◌≢◌, ℕ, suc, ◌+◌, ◌-◌, Bool, true, false, cond, Option, Some, None, List, [], ◌∷◌, ◌++◌, length, drop, reverse, refl, ap, subst, sym, ◌∙◌, arith, append_assoc, append-nil}
+use Rattle.std.proofs.Common.{◌≡◌, ℕ, suc, ◌+◌, ◌-◌, Bool, true, false, cond, Option, Some, None, List, [], ◌∷◌, ◌++◌, length, drop, reverse, refl, ap, subst, sym, ◌∙◌, arith, append_assoc}
 use Rattle.std.specs.Prelude.{not, ◌&&◌, ◌||◌, ◌==◌}
 use Rattle.std.specs.List.{AllByRecursion, flat_map, list_all}
 use Rattle.std.proofs.lemmas.List.{drop_at, length-append, reverse-append}
@@ -35,9 +35,9 @@ use Rattle.nx_events.specs.Declarations.{declaration_faults}
 use Rattle.nx_events.specs.Elements.{element_resolved, element_items, resolved_if_attribute, attribute_item, kept_name, attribute_items}
 use Rattle.nx_events.specs.Runs.{run_items}
 use Rattle.nx_events.specs.XmlDeclaration.{is_xml_declaration}
-use Rattle.nx_events.specs.Items.{token_span, token_fault_if, is_inside, is_before, is_behind, first_state, declaration_items, doctype_items, character_items, comment_items, pi_items, cdata_items, text_items, own_bindings, start_items, empty_items, around_innermost, left_out, closing_items, end_items, items_by_kind, items_of_token, state_behind, items_at_end, items_from, items_of}
-use Rattle.nx_events.specs.OpenTags.{state_after, NoneNamed, Leaves, elements_of, string_in, last_of, IsPending, IsStateOf}
-use Rattle.nx_events.specs.TextRuns.{span_over, chars_of, RunsGiveTheirChars, IsOfRun, ComesFromRun, CharsComeFromRuns, left_open, EndTagsEndInnermostFirst}
+use Rattle.nx_events.specs.Items.{token_span, token_fault_if, is_inside, is_before, is_behind, first_state, declaration_items, doctype_items, character_items, comment_items, pi_items, cdata_items, text_items, own_bindings, start_items, empty_items, around_innermost, left_out, closing_items, end_items, items_by_kind, items_of_token, state_behind, items_at_end, items_from}
+use Rattle.nx_events.specs.OpenTags.{state_after, Leaves, elements_of, string_in, last_of, IsPending}
+use Rattle.nx_events.specs.TextRuns.{span_over, chars_of, RunsGiveTheirChars, ComesFromRun, CharsComeFromRuns, left_open, EndTagsEndInnermostFirst}
 use Rattle.nx_events.proofs.OpenTags.{some_left}
 use Rattle.nx_events.proofs.StatesKnown.{after_one, elements_append, elements_len, around_some, state_is}
 

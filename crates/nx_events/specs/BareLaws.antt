@@ -1,10 +1,9 @@
 -- The rules of the machine without a schema hold their laws, and say what its calls do.
-use Rattle.std.proofs.Common.{◌≡◌, ℕ, ◌+◌, ◌-◌, ◌≤◌, true, List, [], ◌∷◌, ◌++◌, length, Option, Some, None, refl, sym, ap, ◌∙◌, arith}
+use Rattle.std.proofs.Common.{◌≡◌, ℕ, ◌+◌, ◌-◌, ◌≤◌, true, List, [], ◌∷◌, length, Option, Some, None, refl, sym, ap, ◌∙◌, arith}
 use Rattle.std.specs.Prelude.{not, is_some, map}
 use Rattle.std.specs.List.{AllByRecursion}
-use Rattle.nx_base.specs.Rules.{Lexeme, lexeme_of, token_at, RulesLaws, LaterLaws, IsWithin}
+use Rattle.nx_base.specs.Rules.{lexeme_of, token_at, RulesLaws, LaterLaws, IsWithin}
 use Rattle.nx_base.specs.Shifting.{placed_fault, placed}
-use Rattle.nx_base.specs.declared.fault.Fault.{Fault}
 use Rattle.nx_base.specs.declared.token.Token.{Token}
 use Rattle.nx_events.specs.Among.{faults_among}
 use Rattle.nx_events.specs.BareRules.{gives_bare, ends_bare, bare_rules}

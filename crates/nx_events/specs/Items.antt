@@ -18,7 +18,8 @@ use Rattle.nx_events.specs.CharacterFaults.{character_faults}
 use Rattle.nx_events.specs.Markup.{is_bad_comment, is_bad_pi}
 use Rattle.nx_events.specs.XmlDeclaration.{is_xml_declaration}
 use Rattle.nx_events.specs.Tags.{start_name, end_name, tag_attributes}
-use Rattle.nx_events.specs.Scopes.{or_else}
+pub use Rattle.nx_events.specs.Choices.{one_more}
+use Rattle.nx_events.specs.Choices.{or_else}
 use Rattle.nx_events.specs.Declarations.{declaration_faults, bindings}
 use Rattle.nx_events.specs.Elements.{element_resolved, element_items, attribute_items}
 use Rattle.nx_events.specs.Runs.{run_passed, run_joined, run_items}
@@ -105,11 +106,6 @@ start_items state token =
 -- an empty-element tag: the same, and its element's end
 unfoldable pub empty_items : EventState → Token → List Item
 empty_items state token = start_items state token ++ items.Event Leave (token_span token) ∷ []
-
--- one more, if there is a number
-abbrev pub one_more : Option ℕ → Option ℕ
-one_more None = None
-one_more (Some n) = Some (suc n)
 
 -- how many elements stand around the innermost open one with this written name
 unfoldable pub around_innermost : List ℕ → List OpenElement → Option ℕ

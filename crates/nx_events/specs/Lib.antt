@@ -1,5 +1,6 @@
 -- ---- what a reader must believe
 -- one token: characters, strings, references, markup, names, tags, declarations
+pub mod Choices
 pub mod Utf8
 pub mod References
 pub mod Strings
@@ -30,12 +31,14 @@ pub mod QualifiedNames
 pub mod OpenTags
 pub mod TextRuns
 pub mod Balance
+pub mod TreeEvents
 pub mod Texts
 pub mod Spans
 pub mod Moves
 -- ---- what private contracts cite
 pub mod Plain
 pub mod SeenNames
+pub mod Places
 -- ---- proofs of the laws that the machine hands on, which have to stand here
 pub mod ItemsLie
 pub mod ItemsMove

@@ -2,17 +2,13 @@
 use Rattle.std.specs.Prelude.{ℕ, if◌then◌else◌, List, [], ◌∷◌, Option, Some, None, unwrap_or, codes}
 use Rattle.std.specs.Str.{bytes_eq}
 use Rattle.nx_base.specs.declared.name.Name.{Name}
+pub use Rattle.nx_events.specs.Choices.{or_else}
 use Rattle.nx_events.specs.Names.{prefix_of, local_of}
 use Rattle.nx_events.specs.declared.scope.Binding.{Binding}
 
 -- the prefix `xml` has this URI always (section 3)
 abbrev pub xml_uri : List ℕ
 xml_uri = codes "http://www.w3.org/XML/1998/namespace"
-
--- the first, or else the second
-abbrev pub or_else : {A : Type 0} → Option A → Option A → Option A
-or_else (Some x) other = Some x
-or_else None other = other
 
 -- the URI of the last pair of the prefix
 unfoldable pub last_uri : List Binding → List ℕ → Option (List ℕ)

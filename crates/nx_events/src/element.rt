@@ -10,9 +10,9 @@ use crate::flaw::{Flaw, Resolved};
 use crate::item::{Event, Item, Items};
 use crate::namespace::{is_declaration, push_flaw};
 use crate::qname::{is_qname, prefix_of};
-use crate::scope::{Binding, expand_attribute, expand_element};
-use crate::seen::Seen;
+use crate::scope::{Bindings, expand_attribute, expand_element};
 use crate::tag::{Attribute, copy_of};
+use crate::tag_names::TagNames;
 use nx_base::fault::{Kind, Span};
 use nx_base::memory::NoMemory;
 use nx_base::name::Name;
@@ -47,8 +47,8 @@ fn declared_or_flaw(alloc: Global, name: Option<Name>, written: &[u8]) -> Result
 pub(crate) fn element_resolved(
     alloc: Global,
     behind_root: bool,
-    outer: &[Binding],
-    own: &[Binding],
+    outer: &Bindings,
+    own: &Bindings,
     written: &[u8],
 ) -> Result<Resolved, NoMemory>
     ensures { IfOk result (λ resolved. resolved ≡ element_resolved behind_root (outer.now ++ own.now) written.now) }
@@ -90,7 +90,7 @@ pub(crate) fn push_element(
 #[tactic(auto, unfolding(crate::specs::Elements::new_or_flaw))]
 fn keep_new(
     alloc: Global,
-    kept: &mut Seen,
+    kept: &mut TagNames,
     resolved: Resolved,
     written: &[u8],
 ) -> Result<Resolved, NoMemory>
@@ -115,8 +115,8 @@ fn keep_new(
 #[tactic(auto, unfolding(crate::specs::Elements::attribute_declared))]
 fn attribute_declared(
     alloc: Global,
-    outer: &[Binding],
-    own: &[Binding],
+    outer: &Bindings,
+    own: &Bindings,
     written: &[u8],
 ) -> Result<Resolved, NoMemory>
     ensures { IfOk result (λ resolved. resolved ≡ attribute_declared (outer.now ++ own.now) written.now) }
@@ -133,8 +133,8 @@ fn attribute_declared(
 #[tactic(auto, unfolding(crate::specs::Elements::declared_if_attribute))]
 fn declared_if_attribute(
     alloc: Global,
-    outer: &[Binding],
-    own: &[Binding],
+    outer: &Bindings,
+    own: &Bindings,
     it: &Attribute,
 ) -> Result<Option<Resolved>, NoMemory>
     ensures { IfOk result (λ resolved. resolved ≡ declared_if_attribute (outer.now ++ own.now) it.now) }
@@ -163,7 +163,7 @@ fn push_resolved(items: &mut Items, it: &Attribute, resolved: Resolved) -> Resul
 fn push_attribute(
     alloc: Global,
     items: &mut Items,
-    kept: &mut Seen,
+    kept: &mut TagNames,
     it: &Attribute,
     declared: Option<Resolved>,
 ) -> Result<(), NoMemory>
@@ -184,13 +184,13 @@ fn push_attribute(
 pub(crate) fn push_attributes(
     alloc: Global,
     items: &mut Items,
-    outer: &[Binding],
-    own: &[Binding],
+    outer: &Bindings,
+    own: &Bindings,
     attributes: &[Attribute],
 ) -> Result<(), NoMemory>
     ensures { OnOk result (items.new ≡ items.old ++ attribute_items (outer.now ++ own.now) [] attributes.now) }
 {
-    let mut kept = Seen::new(alloc);
+    let mut kept = TagNames::new(alloc);
     for it in attributes {
         let declared = declared_if_attribute(alloc, outer, own, it)?;
         push_attribute(alloc, items, &mut kept, it, declared)?;

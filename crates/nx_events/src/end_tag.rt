@@ -15,7 +15,6 @@ use crate::tag::{copy_of, end_name};
 use crate::token_fault::token_span;
 use nx_base::fault::Kind;
 use nx_base::memory::NoMemory;
-use nx_base::sequence::Sequence;
 use nx_base::token::Token;
 use std::alloc::Global;
 
@@ -63,24 +62,14 @@ fn outer_of_first(elements: &[OpenElement]) -> usize
     }
 }
 
-// Leaves so many of the items.
-fn shorten<T: Drop>(list: &mut Sequence<T>, n: usize)
-    ensures { list.new ≡ take n list.old }
-{
-    let len = list.len();
-    if n < len {
-        list.cut(n, len);
-    }
-}
-
 // The state behind the end of the element behind n others.
 fn close(state: &mut EventState, token: &Token, n: usize)
     requires { n < length state.old.elements }
     ensures { state.new ≡ closed state.old token.now (Some n) }
 {
     let outer = outer_of_first(&state.elements.as_slice()[n..]);
-    shorten(&mut state.elements, n);
-    shorten(&mut state.scope, outer);
+    state.elements.shorten(n);
+    state.scope.shorten(outer);
     state.came = true;
     state.run = None;
 }
@@ -98,7 +87,7 @@ pub(crate) fn push_end(
     ensures { OnOk result (items.new ≡ items.old ++ end_items state.now token.now) }
 {
     let name = end_name(token.bytes.as_slice());
-    match around_innermost(name, state.elements.as_slice()) {
+    match around_innermost(name, &state.elements) {
         None => push_extra(alloc, items, token)?,
         Some(n) => push_closing(items, state, token, n)?,
     }
@@ -111,7 +100,7 @@ pub(crate) fn end(state: &mut EventState, token: &Token)
     ensures { state.new ≡ closed state.old token.now (around_innermost (end_name token.now.bytes) state.old.elements) }
 {
     let name = end_name(token.bytes.as_slice());
-    match around_innermost(name, state.elements.as_slice()) {
+    match around_innermost(name, &state.elements) {
         None => pass(state, token),
         Some(n) => close(state, token, n),
     }

@@ -11,6 +11,7 @@ ghost use Rattle.nx_events.specs.SpelledTags.{TagsAreSpelled};
 ghost use Rattle.nx_events.specs.StringsRead.{StringsAreRead};
 ghost use Rattle.nx_events.specs.TextRuns.{RunsGiveTheirChars, CharsComeFromRuns, EndTagsEndInnermostFirst};
 ghost use Rattle.nx_events.specs.Texts.{TokensGiveText, FirstStateIsText, EndsGiveText, AllTokensGiveText};
+ghost use Rattle.nx_events.specs.TreeEvents.{TreeEventsStayApart};
 ghost use Rattle.nx_events.specs.Spans.{ItemsLieInTokens, ItemsLieInText, RunsGrowByTokens};
 
 /// What a start tag or an empty-element tag spells is what is read in it: its name, and its attributes with
@@ -124,6 +125,11 @@ pub fn chars_come_from_runs()
 /// An end tag tells the start tags that are left open inside of its element, the innermost first.
 pub fn end_tags_end_innermost_first()
     ensures { EndTagsEndInnermostFirst }
+{}
+
+/// The events of trees stay apart among those of texts.
+pub fn tree_events_stay_apart()
+    ensures { TreeEventsStayApart }
 {}
 
 /// A comment is bad exactly where its content has `--`, or `-` at its end.

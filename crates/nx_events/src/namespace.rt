@@ -9,9 +9,9 @@ ghost use Rattle.nx_events.specs.SeenNames.{AreDeclared};
 use crate::flaw::Flaw;
 use crate::item::{Item, Items};
 use crate::qname::is_qname;
-use crate::scope::{Binding, XML_URI};
-use crate::seen::Seen;
+use crate::scope::{Binding, Bindings, XML_URI};
 use crate::tag::{Attribute, copy_of};
+use crate::tag_names::TagNames;
 use nx_base::fault::{Fault, Kind, Span};
 use nx_base::memory::NoMemory;
 use nx_base::name::XMLNS_NAMESPACE;
@@ -82,12 +82,12 @@ pub(crate) fn push_flaw(items: &mut Items, span: Span, flaw: Flaw) -> Result<(),
 fn declare(
     alloc: Global,
     items: &mut Items,
-    own: &mut Vec<Binding>,
+    own: &mut Bindings,
     came: bool,
     it: &Attribute,
 ) -> Result<(), NoMemory>
     ensures faults { OnOk result (items.new ≡ items.old ++ faults_as_items (flaw_faults it.now.span (with_name it.now.name (flaw_if came it.now)))) }
-    ensures pairs { OnOk result (own.new.items ≡ own.old.items ++ binding_unless it.now (with_name it.now.name (flaw_if came it.now))) }
+    ensures pairs { OnOk result (own.new ≡ own.old ++ binding_unless it.now (with_name it.now.name (flaw_if came it.now))) }
 {
     match flaw_if(came, it) {
         Some(kind) => {
@@ -109,12 +109,12 @@ fn declare(
 fn declare_if(
     alloc: Global,
     items: &mut Items,
-    own: &mut Vec<Binding>,
-    came: &mut Seen,
+    own: &mut Bindings,
+    came: &mut TagNames,
     it: &Attribute,
 ) -> Result<(), NoMemory>
     ensures faults { (before : List Attribute) → AreDeclared came.old.names.keys before → OnOk result (items.new ≡ items.old ++ faults_as_items (faults_at before it.now)) }
-    ensures pairs { (before : List Attribute) → AreDeclared came.old.names.keys before → OnOk result (own.new.items ≡ own.old.items ++ bindings_at before it.now) }
+    ensures pairs { (before : List Attribute) → AreDeclared came.old.names.keys before → OnOk result (own.new ≡ own.old ++ bindings_at before it.now) }
     ensures came { (before : List Attribute) → AreDeclared came.old.names.keys before → OnOk result (AreDeclared came.new.names.keys (before ++ it.now ∷ [])) }
 {
     if is_declaration(it.name.as_slice()) {
@@ -129,12 +129,12 @@ pub(crate) fn declarations(
     alloc: Global,
     items: &mut Items,
     attributes: &[Attribute],
-) -> Result<Vec<Binding>, NoMemory>
+) -> Result<Bindings, NoMemory>
     ensures faults { OnOk result (items.new ≡ items.old ++ faults_as_items (declaration_faults [] attributes.now)) }
-    ensures pairs { IfOk result (λ own. own.items ≡ bindings [] attributes.now) }
+    ensures pairs { IfOk result (λ own. own ≡ bindings [] attributes.now) }
 {
-    let mut own = Vec::new(alloc);
-    let mut came = Seen::new(alloc);
+    let mut own = Bindings::new(alloc);
+    let mut came = TagNames::new(alloc);
     for it in attributes {
         declare_if(alloc, items, &mut own, &mut came, it)?;
     }

@@ -5,25 +5,18 @@ ghost use Rattle.std.specs.List.{flat_map};
 ghost use Rattle.nx_events.specs.Items.{around_innermost, left_out};
 
 use crate::item::{Event, Item, Items};
+use crate::stack::Stack;
 use crate::state::OpenElement;
 use nx_base::fault::{Fault, Kind, Span};
 use nx_base::memory::NoMemory;
 use nx_base::sequence::TryCopy;
 
 /// How many elements stand around the innermost one with this written name, if there is one.
-pub(crate) fn around_innermost(name: &[u8], elements: &[OpenElement]) -> Option<usize>
+pub(crate) fn around_innermost(name: &[u8], elements: &Stack<OpenElement>) -> Option<usize>
     ensures value { result ≡ around_innermost name.now elements.now }
     ensures bound { IfSome result (λ n. n < length elements.now) }
 {
-    let mut n = elements.len();
-    while n > 0 {
-        n -= 1;
-        let element = &elements[n];
-        if element.written.as_slice() == name {
-            return Some(n);
-        }
-    }
-    None
+    elements.last_place(name)
 }
 
 // Adds the fault of an element without an end tag of its own, and its end.

@@ -11,13 +11,14 @@ use crate::item::Items;
 use crate::nesting::push_all_left_out;
 use crate::other_token::{pass_other, push_other};
 use crate::reading::Reading;
-use crate::scope::Binding;
+use crate::scope::Bindings;
+use crate::stack::Stack;
 use crate::start_tag::{empty, open, push_empty, push_start};
 use crate::state::{EventState, pass_run, push_run};
 use crate::text_token::{cdata_content, join, push_cdata, push_text};
 use nx_base::fault::{Kind, Span};
 use nx_base::memory::NoMemory;
-use nx_base::sequence::{Sequence, TryCopy};
+use nx_base::sequence::TryCopy;
 use nx_base::token::{Token, TokenKind};
 use std::alloc::Global;
 
@@ -26,8 +27,8 @@ pub fn begin(alloc: Global) -> Result<EventState, NoMemory>
     ensures { IfOk result (λ state. state ≡ first_state) }
 {
     Ok(EventState {
-        elements: Sequence::new(alloc),
-        scope: Sequence::new(alloc),
+        elements: Stack::new(alloc),
+        scope: Stack::new(alloc),
         came: false,
         doctype: false,
         started: false,
@@ -38,15 +39,15 @@ pub fn begin(alloc: Global) -> Result<EventState, NoMemory>
 /// What a token declares for the tokens behind it, as `read` answers it to `pass_token`.
 #[derive(Drop)]
 pub struct Declared {
-    pub(crate) own: Vec<Binding>,
+    pub(crate) own: Bindings,
 }
 
 // What a token declares that isn't a start tag.
 fn nothing_declared(alloc: Global) -> Declared
-    ensures { result.own.items ≡ [] }
+    ensures { result.own ≡ [] }
 {
     Declared {
-        own: Vec::new(alloc),
+        own: Bindings::new(alloc),
     }
 }
 
@@ -60,7 +61,7 @@ fn read_start(
     requires place { run_back state.now.run ≤ token.now.from }
     requires room { token.now.from + length token.now.bytes < 2 ^ 64 }
     ensures items { OnOk result (items.new ≡ items.old ++ start_items state.now token.now) }
-    ensures declared { IfOk result (λ declared. declared.own.items ≡ own_bindings token.now) }
+    ensures declared { IfOk result (λ declared. declared.own ≡ own_bindings token.now) }
 {
     let own = push_start(alloc, items, state, token)?;
     Ok(Declared { own })
@@ -77,7 +78,7 @@ fn read_by_kind(
     requires place { run_back state.now.run ≤ token.now.from }
     requires room { token.now.from + length token.now.bytes < 2 ^ 64 }
     ensures items { OnOk result (items.new ≡ items.old ++ items_of_token state.now token.now) }
-    ensures declared { IfOk result (λ declared. declared.own.items ≡ declared_in token.now) }
+    ensures declared { IfOk result (λ declared. declared.own ≡ declared_in token.now) }
 {
     match token.kind {
         TokenKind::Start => return read_start(alloc, items, state, token),
@@ -108,7 +109,7 @@ pub fn read(
     requires place { run_back state.now.run ≤ token.now.from }
     requires room { token.now.from + length token.now.bytes < 2 ^ 64 }
     ensures items { OnOk result (items.new ≡ items.old ++ items_of_token state.now token.now) }
-    ensures declared { IfOk result (λ declared. declared.own.items ≡ declared_in token.now) }
+    ensures declared { IfOk result (λ declared. declared.own ≡ declared_in token.now) }
     // Names, strings and details are UTF-8 where the token and the state are.
     ensures text { TokenIsText token.now → StateIsText state.now → ItemsAreText items.old → OnOk result (ItemsAreText items.new) }
 {
@@ -126,7 +127,7 @@ fn pass_by_kind(
 ) -> Result<(), NoMemory>
     requires place { run_back state.old.run ≤ token.now.from }
     requires room { token.now.from + length token.now.bytes < 2 ^ 64 }
-    requires declared { declared.now.own.items ≡ declared_in token.now }
+    requires declared { declared.now.own ≡ declared_in token.now }
     ensures state { OnOk result (state.new ≡ state_behind state.old token.now) }
     ensures unchanged { OnErr result (state.new ≡ state.old) }
 {
@@ -158,7 +159,7 @@ pub fn pass_token(
 ) -> Result<(), NoMemory>
     requires place { run_back state.old.run ≤ token.now.from }
     requires room { token.now.from + length token.now.bytes < 2 ^ 64 }
-    requires declared { declared.now.own.items ≡ declared_in token.now }
+    requires declared { declared.now.own ≡ declared_in token.now }
     ensures state { OnOk result (state.new ≡ state_behind state.old token.now) }
     ensures unchanged { OnErr result (state.new ≡ state.old) }
     ensures text { TokenIsText token.now → StateIsText state.old → StateIsText state.new }

@@ -4,10 +4,11 @@ ghost use Rattle.std.specs.Prelude.{◌≡◌, ◌++◌, IfOk, option_copied};
 ghost use Rattle.nx_events.specs.Scopes.{last_uri, bound_uri, element_uri, attribute_uri, named_by, expand_element, expand_attribute};
 
 use crate::qname::{local_of, prefix_of};
+use crate::stack::{Named, Stack};
 use crate::tag::copy_of;
 use nx_base::memory::NoMemory;
 use nx_base::name::Name;
-use nx_base::sequence::{Bytes, TryCopy, TryCopyAll, copy_each};
+use nx_base::sequence::{Bytes, TryCopy};
 use std::alloc::Global;
 
 /// A prefix, empty for the default namespace, and the URI that it is bound to.
@@ -26,32 +27,32 @@ impl TryCopy for Binding {
     }
 }
 
-impl TryCopyAll for Binding {
-    fn copy_all(alloc: Global, items: &[Binding]) -> Result<Vec<Binding>, NoMemory> {
-        copy_each(alloc, items)
+impl Named for Binding {
+    ghost name_of = { λ binding. binding.prefix };
+
+    fn name(&self) -> &[u8] {
+        self.prefix.as_slice()
     }
 }
+
+/// Pairs in the order of their declarations, in which the last one of a prefix is found at once.
+pub type Bindings = Stack<Binding>;
 
 /// The URI of the prefix `xml`.
 pub(crate) const XML_URI: &[u8] = b"http://www.w3.org/XML/1998/namespace";
 
 // The URI of the last pair of the prefix.
-fn last_uri<'a>(bindings: &'a [Binding], prefix: &[u8]) -> Option<&'a [u8]>
+fn last_uri<'a>(bindings: &'a Bindings, prefix: &[u8]) -> Option<&'a [u8]>
     ensures { option_copied result ≡ last_uri bindings.now prefix.now }
 {
-    let mut n = bindings.len();
-    while n > 0 {
-        n -= 1;
-        let binding = &bindings[n];
-        if binding.prefix.as_slice() == prefix {
-            return Some(binding.uri.as_slice());
-        }
+    match bindings.last_named(prefix) {
+        None => None,
+        Some(binding) => Some(binding.uri.as_slice()),
     }
-    None
 }
 
 // The same in declarations around a tag and its own.
-fn last_uri_of_two<'a>(outer: &'a [Binding], own: &'a [Binding], prefix: &[u8]) -> Option<&'a [u8]>
+fn last_uri_of_two<'a>(outer: &'a Bindings, own: &'a Bindings, prefix: &[u8]) -> Option<&'a [u8]>
     ensures { option_copied result ≡ last_uri (outer.now ++ own.now) prefix.now }
 {
     match last_uri(own, prefix) {
@@ -62,7 +63,7 @@ fn last_uri_of_two<'a>(outer: &'a [Binding], own: &'a [Binding], prefix: &[u8]) 
 
 // The URI that a prefix is bound to.
 #[tactic(auto, unfolding(crate::specs::Scopes::bound_uri))]
-fn bound_uri<'a>(outer: &'a [Binding], own: &'a [Binding], prefix: &[u8]) -> Option<&'a [u8]>
+fn bound_uri<'a>(outer: &'a Bindings, own: &'a Bindings, prefix: &[u8]) -> Option<&'a [u8]>
     ensures { option_copied result ≡ bound_uri (outer.now ++ own.now) prefix.now }
 {
     if prefix == b"xml".as_slice() {
@@ -73,7 +74,7 @@ fn bound_uri<'a>(outer: &'a [Binding], own: &'a [Binding], prefix: &[u8]) -> Opt
 }
 
 #[tactic(auto, unfolding(crate::specs::Scopes::element_uri))]
-fn element_uri<'a>(outer: &'a [Binding], own: &'a [Binding], prefix: &[u8]) -> Option<&'a [u8]>
+fn element_uri<'a>(outer: &'a Bindings, own: &'a Bindings, prefix: &[u8]) -> Option<&'a [u8]>
     ensures { option_copied result ≡ element_uri (outer.now ++ own.now) prefix.now }
 {
     match prefix {
@@ -86,7 +87,7 @@ fn element_uri<'a>(outer: &'a [Binding], own: &'a [Binding], prefix: &[u8]) -> O
 }
 
 #[tactic(auto, unfolding(crate::specs::Scopes::attribute_uri))]
-fn attribute_uri<'a>(outer: &'a [Binding], own: &'a [Binding], prefix: &[u8]) -> Option<&'a [u8]>
+fn attribute_uri<'a>(outer: &'a Bindings, own: &'a Bindings, prefix: &[u8]) -> Option<&'a [u8]>
     ensures { option_copied result ≡ attribute_uri (outer.now ++ own.now) prefix.now }
 {
     match prefix {
@@ -111,8 +112,8 @@ fn named_by(alloc: Global, uri: Option<&[u8]>, local: &[u8]) -> Result<Option<Na
 /// The expanded name of an element that has these declarations around it and these of its own.
 pub(crate) fn expand_element(
     alloc: Global,
-    outer: &[Binding],
-    own: &[Binding],
+    outer: &Bindings,
+    own: &Bindings,
     written: &[u8],
 ) -> Result<Option<Name>, NoMemory>
     ensures { IfOk result (λ name. name ≡ expand_element (outer.now ++ own.now) written.now) }
@@ -128,8 +129,8 @@ pub(crate) fn expand_element(
 /// The expanded name of an attribute of such an element.
 pub(crate) fn expand_attribute(
     alloc: Global,
-    outer: &[Binding],
-    own: &[Binding],
+    outer: &Bindings,
+    own: &Bindings,
     written: &[u8],
 ) -> Result<Option<Name>, NoMemory>
     ensures { IfOk result (λ name. name ≡ expand_attribute (outer.now ++ own.now) written.now) }

@@ -8,13 +8,12 @@ ghost use Rattle.nx_events.specs.Tags.{start_name};
 ghost use Rattle.nx_events.specs.Runs.{run_back, run_items};
 ghost use Rattle.nx_events.specs.Items.{token_span, is_behind, own_bindings, start_items, empty_items, opened, emptied};
 
-use crate::append::append;
 use crate::character_fault::push_character_faults;
 use crate::element::{element_resolved, push_attributes, push_element};
 use crate::item::{Event, Item, Items};
 use crate::namespace::declarations;
 use crate::reading::Reading;
-use crate::scope::Binding;
+use crate::scope::{Binding, Bindings};
 use crate::stage::is_inside;
 use crate::state::{EventState, OpenElement, push_run};
 use crate::tag::{copy_of, start_name, tag_attributes};
@@ -52,7 +51,7 @@ fn push_tag_element(
     items: &mut Items,
     state: &EventState,
     token: &Token,
-    own: &[Binding],
+    own: &Bindings,
 ) -> Result<(), NoMemory>
     requires { token.now.from + length token.now.bytes < 2 ^ 64 }
     ensures { OnOk result (items.new ≡ items.old ++ element_items (token_span token.now)
@@ -60,7 +59,7 @@ fn push_tag_element(
 {
     let behind_root = state.started && !is_inside(state);
     let written = start_name(token.bytes.as_slice());
-    let resolved = element_resolved(alloc, behind_root, state.scope.as_slice(), own, written)?;
+    let resolved = element_resolved(alloc, behind_root, &state.scope, own, written)?;
     push_element(items, token_span(token), resolved)?;
     Ok(())
 }
@@ -72,23 +71,17 @@ pub(crate) fn push_start(
     items: &mut Items,
     state: &EventState,
     token: &Token,
-) -> Result<Vec<Binding>, NoMemory>
+) -> Result<Bindings, NoMemory>
     requires place { run_back state.now.run ≤ token.now.from }
     requires room { token.now.from + length token.now.bytes < 2 ^ 64 }
     ensures items { OnOk result (items.new ≡ items.old ++ start_items state.now token.now) }
-    ensures pairs { IfOk result (λ own. own.items ≡ own_bindings token.now) }
+    ensures pairs { IfOk result (λ own. own ≡ own_bindings token.now) }
 {
     push_before(alloc, items, state, token)?;
     let attributes = tag_attributes(alloc, token.from, token.bytes.as_slice())?;
     let own = declarations(alloc, items, attributes.as_slice())?;
-    push_tag_element(alloc, items, state, token, own.as_slice())?;
-    push_attributes(
-        alloc,
-        items,
-        state.scope.as_slice(),
-        own.as_slice(),
-        attributes.as_slice(),
-    )?;
+    push_tag_element(alloc, items, state, token, &own)?;
+    push_attributes(alloc, items, &state.scope, &own, attributes.as_slice())?;
     items.push(Item::Event(Event::TagEnd, token_span(token)))?;
     Ok(own)
 }
@@ -104,14 +97,14 @@ pub(crate) fn open(
     ensures ok { OnOk result (state.new ≡ opened state.old token.now) }
     ensures err { OnErr result (state.new ≡ state.old) }
 {
+    let depth = state.elements.len();
     let element = OpenElement {
         written: copy_of(alloc, start_name(token.bytes.as_slice()))?,
         outer: state.scope.len(),
     };
     state.elements.push(element)?;
-    if append(&mut state.scope, own).is_err() {
-        let n = state.elements.len();
-        state.elements.cut(n - 1, n);
+    if state.scope.append(own).is_err() {
+        state.elements.shorten(depth);
         return Err(NoMemory);
     }
     state.came = true;

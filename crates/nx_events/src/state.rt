@@ -4,11 +4,11 @@ ghost use Rattle.std.specs.Prelude.{◌≡◌, ◌+◌, ◌<◌, ◌≤◌, ◌^
 ghost use Rattle.nx_events.specs.Runs.{run_passed, run_joined, run_back, run_items};
 
 use crate::item::{Event, Item, Items};
-use crate::scope::Binding;
+use crate::scope::Bindings;
+use crate::stack::{Named, Stack};
 use nx_base::fault::Span;
 use nx_base::memory::NoMemory;
-use nx_base::sequence::{Bytes, Sequence, TryCopy, TryCopyAll, copy_each};
-use std::alloc::Global;
+use nx_base::sequence::{Bytes, TryCopy};
 
 /// An open element.
 #[derive(Drop)]
@@ -35,9 +35,9 @@ pub struct Run {
 #[derive(Drop)]
 pub struct EventState {
     /// The open elements, the innermost last.
-    pub(crate) elements: Sequence<OpenElement>,
+    pub(crate) elements: Stack<OpenElement>,
     /// The namespace declarations in force, the innermost last.
-    pub(crate) scope: Sequence<Binding>,
+    pub(crate) scope: Bindings,
     /// Whether a token other than a byte order mark came.
     pub(crate) came: bool,
     /// Whether a document type declaration came.
@@ -57,9 +57,11 @@ impl TryCopy for OpenElement {
     }
 }
 
-impl TryCopyAll for OpenElement {
-    fn copy_all(alloc: Global, items: &[OpenElement]) -> Result<Vec<OpenElement>, NoMemory> {
-        copy_each(alloc, items)
+impl Named for OpenElement {
+    ghost name_of = { λ element. element.written };
+
+    fn name(&self) -> &[u8] {
+        self.written.as_slice()
     }
 }
 

@@ -16,7 +16,7 @@ returns-in_ok-declare-clause-pairs c before h =
     let it = c.args.it.now in
     let d = ap is_declaration (sym c.as_slice.ensures) ∙ sym c.is_declaration.ensures ∙ c.if-is_declaration.true in
     let came = came_is c.args.came.now.names.keys before it c.as_slice-then-is_declaration.result.now c.in_ok-is_double.is_double c.as_slice-then-is_declaration.ensures d c.in_ok-is_double.ensures.came h in
-    c.in_ok-declare.ensures.pairs ∙ ap (λ pairs. c.args.own.now.items ++ pairs) (pairs_are before it c.in_ok-is_double.is_double d came)
+    c.in_ok-declare.ensures.pairs ∙ ap (λ pairs. c.args.own.now ++ pairs) (pairs_are before it c.in_ok-is_double.is_double d came)
 
 pub returns-in_ok-declare-clause-came : goal.returns-in_ok-declare-clause-came
 returns-in_ok-declare-clause-came c before h =

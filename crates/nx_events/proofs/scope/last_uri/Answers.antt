@@ -1,22 +1,12 @@
-use Rattle.std.proofs.Common.{◌≡◌, Some, List, ℕ, take, true, false, sym, ap, ◌∙◌, arith}
-use Rattle.std.specs.Str.{bytes_eq}
-use Rattle.nx_events.specs.Scopes.{last_uri}
-use Rattle.nx_events.proofs.Scopes.{last_of, last_of_none}
+use Rattle.std.proofs.Common.{Some, ap, sym, ◌∙◌}
+use Rattle.std.specs.Option.{option_map}
+use Rattle.nx_events.specs.declared.scope.Binding.{Binding}
+use Rattle.nx_events.proofs.Stacks.{last_uri_is}
 use Rattle.nx_events.proofs.scope.last_uri.Goals as goal
 
-pub returns-then-eq : goal.returns-then-eq
-returns-then-eq c =
-    let bindings = c.args.bindings.now in
-    let same = sym (ap (λ (p : List ℕ). bytes_eq p c.args.prefix.now) c.as_slice.ensures) ∙ sym c.eq.ensures ∙ c.if-eq.true in
-    ap Some c.as_slice-then-eq.ensures ∙ sym (last_of bindings c.loop-n.n c.index-bindings-n.result c.args.prefix.now true (omega arith) (omega arith) c.index-bindings-n.is same) ∙ c.loop-n.invariant.1
+pub returns-in-None : goal.returns-in-None
+returns-in-None c = ap (option_map (λ (b : Binding). b.uri)) c.in-None.ensures ∙ sym (last_uri_is c.args.bindings.now c.args.prefix.now)
 
-pub loop-n-preserved : goal.loop-n-preserved
-loop-n-preserved c =
-    let bindings = c.args.bindings.now in
-    let same = sym (ap (λ (p : List ℕ). bytes_eq p c.args.prefix.now) c.as_slice.ensures) ∙ sym c.eq.ensures ∙ c.if-eq.false in
-    (omega (arith, c.loop-n.invariant.0), sym (last_of bindings c.loop-n.n c.index-bindings-n.result c.args.prefix.now false (omega arith) (omega arith) c.index-bindings-n.is same) ∙ c.loop-n.invariant.1)
-
-pub returns : goal.returns
-returns c =
-    let none : c.loop-n.n ≡ 0 = omega arith in
-    sym (last_of_none c.args.prefix.now) ∙ ap (λ (m : ℕ). last_uri (take m c.args.bindings.now) c.args.prefix.now) (sym none) ∙ c.loop-n.invariant.1
+pub returns-in-Some : goal.returns-in-Some
+returns-in-Some c =
+    ap Some c.as_slice.ensures ∙ ap (option_map (λ (b : Binding). b.uri)) c.in-Some.ensures ∙ sym (last_uri_is c.args.bindings.now c.args.prefix.now)

@@ -1,5 +1,3 @@
-use Rattle.std.proofs.Common.{◌≡◌, ◌++◌, ap, ◌∙◌, sym}
-use Rattle.nx_events.specs.Among.{faults_among}
 use Rattle.nx_events.specs.BareLaws.{ends_placed}
 use Rattle.nx_events.proofs.bare.BareMachine.at_end.Goals as goal
 

@@ -1,5 +1,0 @@
-use Rattle.nx_events.proofs.SeenNames.{no_names}
-use Rattle.nx_events.proofs.seen.Seen.new.Goals as goal
-
-pub returns : goal.returns
-returns c first second = no_names c.new.result.keys first second c.new.ensures.empty
