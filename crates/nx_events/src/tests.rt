@@ -1,11 +1,15 @@
 ghost use Rattle.std.specs.Prelude.{◌≤◌, ◌↔◌, IsTrue};
 ghost use Rattle.nx_events.specs.Runs.{run_back};
 
+use crate::bare::Bare;
 use crate::equal::same;
 use crate::fold::items_of_tokens;
 use crate::item::{Event, Item, Items};
 use crate::reader::{begin, copy, depth, finish, pending, take};
 use crate::state::EventState;
+use nx_base::fault::{Fault, Faults};
+use nx_base::machine::Machine;
+use nx_base::name::Name;
 use nx_base::sequence::{Bytes, TryCopy};
 use nx_base::token::{Token, TokenKind};
 use std::alloc::Global;
@@ -39,61 +43,78 @@ fn kind_of(mark: u8) -> TokenKind {
     }
 }
 
-fn text_of(alloc: Global, bytes: &Bytes) -> Result<String, Fail> {
-    let text = std::str::from_utf8(bytes.as_slice())?;
-    Ok(String::from_str(alloc, text)?)
+// The bytes as text, which they are.
+fn text_of(bytes: &Bytes) -> &str {
+    match std::str::from_utf8(bytes.as_slice()) {
+        Ok(text) => text,
+        Err(_) => "no text",
+    }
 }
 
-fn print(alloc: Global, out: &mut String, item: &Item) -> Result<(), Fail> {
-    match item {
-        Item::Fault(fault) => {
-            let from = fault.span.from;
-            let to = fault.span.to;
-            let kind = fault.kind;
-            let detail = text_of(alloc, &fault.detail)?;
-            write!(out, "{from}-{to} {kind:?} {detail};")?;
+fn print_fault(out: &mut String, fault: &Fault) -> Result<(), Fail> {
+    let from = fault.span.from;
+    let to = fault.span.to;
+    let kind = fault.kind;
+    let detail = text_of(&fault.detail);
+    write!(out, "{from}-{to} {kind:?} {detail};")?;
+    Ok(())
+}
+
+fn print_name(out: &mut String, word: &str, name: &Name) -> Result<(), Fail> {
+    let ns = text_of(&name.ns);
+    let local = text_of(&name.local);
+    write!(out, "{word} {{{ns}}}{local}")?;
+    Ok(())
+}
+
+fn print_event(out: &mut String, event: &Event) -> Result<(), Fail> {
+    match event {
+        Event::Enter(name) => print_name(out, "Enter", name)?,
+        Event::EnterLost => out.push_str("EnterLost")?,
+        Event::Att(name, value) => {
+            print_name(out, "Att", name)?;
+            out.push_str("=")?;
+            out.push_str(text_of(value))?;
         }
+        Event::TagEnd => out.push_str("TagEnd")?,
+        Event::Chars(string) => {
+            out.push_str("Chars ")?;
+            out.push_str(text_of(string))?;
+        }
+        Event::Leave => out.push_str("Leave")?,
+    }
+    out.push_str(";")?;
+    Ok(())
+}
+
+fn print(out: &mut String, item: &Item) -> Result<(), Fail> {
+    match item {
+        Item::Fault(fault) => print_fault(out, fault)?,
         Item::Event(event, span) => {
             let from = span.from;
             let to = span.to;
             write!(out, "{from}-{to} ")?;
-            print_event(alloc, out, event)?;
+            print_event(out, event)?;
         }
     }
     Ok(())
 }
 
-fn print_event(alloc: Global, out: &mut String, event: &Event) -> Result<(), Fail> {
-    match event {
-        Event::Enter(name) => {
-            let ns = text_of(alloc, &name.ns)?;
-            let local = text_of(alloc, &name.local)?;
-            write!(out, "Enter {{{ns}}}{local};")?;
-        }
-        Event::EnterLost => write!(out, "EnterLost;")?,
-        Event::Att(name, value) => {
-            let ns = text_of(alloc, &name.ns)?;
-            let local = text_of(alloc, &name.local)?;
-            let value = text_of(alloc, value)?;
-            write!(out, "Att {{{ns}}}{local}={value};")?;
-        }
-        Event::TagEnd => write!(out, "TagEnd;")?,
-        Event::Chars(string) => {
-            let string = text_of(alloc, string)?;
-            write!(out, "Chars {string};")?;
-        }
-        Event::Leave => write!(out, "Leave;")?,
-    }
-    Ok(())
-}
-
-fn print_all(alloc: Global, out: &mut String, items: &Items, all: bool) -> Result<(), Fail> {
+fn print_all(out: &mut String, items: &Items, all: bool) -> Result<(), Fail> {
     for item in items.as_slice() {
         if all || matches!(item, Item::Fault(_)) {
-            print(alloc, out, item)?;
+            print(out, item)?;
         }
     }
     Ok(())
+}
+
+fn token_at(alloc: Global, kind: TokenKind, from: usize, bytes: &[u8]) -> Result<Token, Fail> {
+    Ok(Token {
+        kind,
+        from,
+        bytes: Bytes::from_vec(Vec::from_slice(alloc, bytes)?),
+    })
 }
 
 // The items of these tokens, each a mark of its kind and its text, one behind another.
@@ -106,19 +127,15 @@ fn read(rt: &impl Abort, alloc: Global, parts: &str, all: bool) -> Result<String
         if bytes.is_empty() {
             continue;
         }
-        let token = Token {
-            kind: kind_of(bytes[0]),
-            from: at,
-            bytes: Bytes::from_vec(Vec::from_slice(alloc, &bytes[1..])?),
-        };
-        assert!(rt; at < 1000 && token.bytes.len() < 1000 && reaches_back(&state, at));
+        let token = token_at(alloc, kind_of(bytes[0]), at, &bytes[1..])?;
+        assert!(rt; at < 100_000 && token.bytes.len() < 100_000 && reaches_back(&state, at));
         at += token.bytes.len();
         let items = take(alloc, &mut state, &token)?;
-        print_all(alloc, &mut out, &items, all)?;
+        print_all(&mut out, &items, all)?;
     }
     assert!(rt; reaches_back(&state, at));
     let items = finish(alloc, &state, at)?;
-    print_all(alloc, &mut out, &items, all)?;
+    print_all(&mut out, &items, all)?;
     Ok(out)
 }
 
@@ -222,9 +239,9 @@ const FAULTS: [(&str, &str); 40] = [
 
 #[test]
 fn faults(rt: HostRuntime) -> Result<(), Fail> {
-    for (parts, expected) in FAULTS {
+    for (parts, expected) in &FAULTS {
         let printed = read(&rt, rt.alloc(), parts, false)?;
-        assert_eq!(rt; printed.as_str(), expected, "for {parts}");
+        assert_eq!(rt; printed.as_str(), *expected, "for {parts}");
     }
     Ok(())
 }
@@ -255,34 +272,62 @@ const EVENTS: [(&str, &str); 5] = [
 
 #[test]
 fn events(rt: HostRuntime) -> Result<(), Fail> {
-    for (parts, expected) in EVENTS {
+    for (parts, expected) in &EVENTS {
         let printed = read(&rt, rt.alloc(), parts, true)?;
-        assert_eq!(rt; printed.as_str(), expected, "for {parts}");
+        assert_eq!(rt; printed.as_str(), *expected, "for {parts}");
     }
     Ok(())
 }
 
+// An element that is open behind its start tag, and a text run that is pending behind its text.
 #[test]
 fn states(rt: HostRuntime) -> Result<(), Fail> {
     let alloc = rt.alloc();
     let mut state = begin(alloc)?;
-    let start = Token {
-        kind: TokenKind::Start,
-        from: 0,
-        bytes: Bytes::from_vec(Vec::from_slice(alloc, b"<a>")?),
-    };
-    assert!(rt; reaches_back(&state, 0));
+    let start = token_at(alloc, TokenKind::Start, 0, b"<a>")?;
+    assert!(rt; reaches_back(&state, start.from) && start.from < 1000 && start.bytes.len() < 1000);
     take(alloc, &mut state, &start)?;
     let kept = copy(alloc, &state)?;
     assert!(rt; same(&state, &kept) && !pending(&state) && depth(&state) == 1);
-    let text = Token {
-        kind: TokenKind::Text,
-        from: 3,
-        bytes: Bytes::from_vec(Vec::from_slice(alloc, b"x")?),
-    };
-    assert!(rt; reaches_back(&state, 3));
+    let text = token_at(alloc, TokenKind::Text, 3, b"x")?;
+    assert!(rt; reaches_back(&state, text.from) && text.from < 1000 && text.bytes.len() < 1000);
     take(alloc, &mut state, &text)?;
     assert!(rt; !same(&state, &kept) && pending(&state));
+    Ok(())
+}
+
+// More open elements and declarations than are looked through: each name and prefix is found, and lost again.
+#[test]
+fn deep(rt: HostRuntime) -> Result<(), Fail> {
+    let alloc = rt.alloc();
+    let mut parts = String::new(alloc);
+    for _ in 0..40 {
+        parts.push_str("s<a xmlns:p='u'>|s<p:b>|")?;
+    }
+    for _ in 0..40 {
+        parts.push_str("e</c>|e</a>|")?;
+    }
+    let printed = read(&rt, alloc, parts.as_str(), false)?;
+    assert_eq!(rt; printed.as_str().matches("MissingEnd p:b;").count(), 40);
+    assert_eq!(rt; printed.as_str().matches("ExtraEnd c;").count(), 40);
+    assert!(rt; !printed.as_str().contains("Undeclared") && !printed.as_str().contains("Unclosed"));
+    Ok(())
+}
+
+// What the machine without a schema tells of a tag that isn't closed.
+#[test]
+fn bare(rt: HostRuntime) -> Result<(), Fail> {
+    let alloc = rt.alloc();
+    let mut machine = Bare;
+    let mut faults = Faults::new(alloc);
+    let state = machine.start(alloc)?;
+    assert!(rt; machine.may_mark(&state) && machine.depth(&state) == 0 && reaches_back(&state, 0));
+    machine.at_end(alloc, &state, 0, &mut faults)?;
+    let mut printed = String::new(alloc);
+    for fault in faults.as_slice() {
+        print_fault(&mut printed, fault)?;
+    }
+    assert_eq!(rt; printed.as_str(), "0-0 NoRoot ;");
     Ok(())
 }
 
@@ -297,7 +342,7 @@ fn whole_texts(rt: HostRuntime) -> Result<(), Fail> {
     }];
     let items = items_of_tokens(alloc, &tokens, 4)?.copy()?;
     let mut printed = String::new(alloc);
-    print_all(alloc, &mut printed, &items, true)?;
+    print_all(&mut printed, &items, true)?;
     assert_eq!(rt; printed.as_str(), "0-4 Enter {}a;0-4 TagEnd;0-4 Leave;");
     Ok(())
 }

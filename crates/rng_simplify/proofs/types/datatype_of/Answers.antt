@@ -5,4 +5,4 @@ use Rattle.rng_simplify.proofs.Typing.{never_too_many}
 use Rattle.rng_simplify.proofs.types.datatype_of.Goals as goal
 
 pub refusal-requires : goal.refusal-requires
-refusal-requires c = λ many. never_too_many c.text_of.result.now c.text_of-2.result.now c.as_slice.result.now (sym (c.in-Err.ensures (λ m. cc)) ∙ ap (λ (f : TypeFault). let r : Result Datatype TypeFault = Err f in r) many)
+refusal-requires c = λ many. never_too_many c.text_of.result.now c.text_of-2.result.now c.as_slice.result.now (sym (c.in-Err.ensures.value (λ m. cc)) ∙ ap (λ (f : TypeFault). let r : Result Datatype TypeFault = Err f in r) many)
