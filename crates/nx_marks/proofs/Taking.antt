@@ -3,7 +3,7 @@ use Rattle.std.proofs.Common.{◌≡◌, ℕ, zero, suc, ◌+◌, ◌-◌, ◌<�
 use Rattle.std.specs.Prelude.{IsUtf8}
 use Rattle.std.proofs.lemmas.List.{append-nil}
 use Rattle.std.proofs.lemmas.Str.{IsCharBoundary-start, IsUtf8-between}
-use Rattle.nx_base.specs.Rules.{Rules, RulesLaws, Lexeme, lexeme_of, IsLexeme}
+use Rattle.nx_base.specs.Rules.{Rules, RulesLaws, LaterLaws, Lexeme, lexeme_of, IsLexeme}
 use Rattle.nx_base.specs.Running.{CutsTo, after_all, faults_along, machine_faults}
 use Rattle.nx_base.specs.Shifting.{placed}
 use Rattle.nx_base.specs.Text.{IsPlace}
@@ -15,7 +15,7 @@ use Rattle.nx_scan.proofs.Every.{cut-is_token}
 use Rattle.nx_scan.proofs.Joined.{tokens-go_on}
 use Rattle.nx_scan.proofs.OwnBytes.{cut-own}
 use Rattle.nx_marks.specs.Frontier.{MovesOver}
-use Rattle.nx_marks.specs.Right.{StateIs, IsRight, IsRightForLength}
+use Rattle.nx_marks.specs.Right.{StateIs, IsRight, StaysRight}
 use Rattle.nx_marks.specs.declared.marks.Kept.{Kept}
 
 -- ---- tokens one behind another
@@ -222,8 +222,28 @@ module _ {S M : Type 0} (is : S → Type 0) (means : S → M) (r : Rules M) wher
   listed_first_later later text k m fs len same utf8 long h e all first f =
       listed_first text k m fs len utf8 long h e all (first ∙ ap (λ (x : Rules M). x.first) same) (f ∙ ap (λ (x : Rules M). k.faults ++ placed (len - x.back m) (x.ends m)) same)
 
+state_stays : {Self S M : Type 0} (later : Self → Self → Type 0) (is_state : Self → S → Type 0) (means : Self → S → M) (rules : Self → Rules M) →
+    LaterLaws later is_state means rules → (earlier now : Self) → later earlier now → (tokens : List Lexeme) (kept_state : Option S) →
+    StateIs (is_state earlier) (means earlier) (rules earlier) tokens kept_state → StateIs (is_state now) (means now) (rules earlier) tokens kept_state
+state_stays later is_state means rules laws earlier now is_later tokens None state = state
+state_stays later is_state means rules laws earlier now is_later tokens (Some s) state =
+    (laws.state earlier now s is_later state.0, laws.meaning earlier now s is_later state.0 ∙ state.1)
+
 -- nothing was taken
 pub nothing_taken : {S M : Type 0} (is : S → Type 0) (means : S → M) (r : Rules M) (text : List ℕ) (kept_state : Option S) (fs : List Fault) → IsUtf8 text → StateIs is means r [] kept_state → fs ≡ [] →
     IsRight is means r text (record { at = 0; state = kept_state; faults = fs })
 nothing_taken is means r text kept_state fs utf8 state none =
     record { place = IsCharBoundary-start text utf8; tokens = []; cuts = refl; state = state; faults = none }
+
+-- a later machine has the same rules, and its states mean the same
+pub stays_right : {Self S M : Type 0} (later : Self → Self → Type 0) (is_state : Self → S → Type 0) (means : Self → S → M) (rules : Self → Rules M) →
+    LaterLaws later is_state means rules → StaysRight later is_state means rules
+stays_right {S = S} {M = M} later is_state means rules laws = λ earlier now text kept is_later right.
+    let P : Rules M → Type 0 = λ r. IsRight (is_state now) (means now) r text kept in
+    subst P (sym (laws.rule earlier now is_later)) (record {
+      place = right.place;
+      tokens = right.tokens;
+      cuts = right.cuts;
+      state = state_stays later is_state means rules laws earlier now is_later right.tokens kept.state right.state;
+      faults = right.faults;
+    })

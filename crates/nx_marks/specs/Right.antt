@@ -24,3 +24,8 @@ pub record IsRightForLength {S M : Type 0} (is_state : S → Type 0) (means : S 
   pub utf8 : IsUtf8 text
   pub long : length text ≡ len
   pub right : IsRight is_state means rules text kept
+
+-- what is right for a machine stays so for every later one
+abbrev pub StaysRight : {Self S M : Type 0} → (Self → Self → Type 0) → (Self → S → Type 0) → (Self → S → M) → (Self → Rules M) → Type 0
+StaysRight {Self = Self} {S = S} later is_state means rules = (earlier now : Self) (text : List ℕ) (kept : Kept S) → later earlier now →
+    IsRight (is_state earlier) (means earlier) (rules earlier) text kept → IsRight (is_state now) (means now) (rules now) text kept

@@ -11,6 +11,7 @@
 //! and edited at 8, the state behind `<b/>` is.
 #![tactic(auto)]
 
+pub mod law;
 pub mod marks;
 
 pub use marks::Marks;

@@ -32,6 +32,7 @@ pub struct Kept<S> {
 /// neither. Whoever changes the text says so by `edit`.
 #[derive(Drop)]
 pub struct Marks<A: Machine> {
+    alloc: Global,
     pub kept: Kept<A::State>,
     pub taken: u64,
 }
@@ -96,6 +97,7 @@ impl<A: Machine> Marks<A> {
     {
         let first = machine.start(alloc)?;
         Ok(Marks {
+            alloc,
             kept: Kept {
                 at: 0,
                 state: Some(first),
@@ -108,7 +110,7 @@ impl<A: Machine> Marks<A> {
     /// Tells an edit that was made on the text. It takes no memory.
     pub fn edit(&mut self, edit: &Edit)
         ensures right { (a : A) (text added : List ℕ) → IsUtf8 text → IsUtf8 added → IsPlace text edit.now.from
-            → IsPlace text edit.now.to → edit.now.from ≤ edit.now.to
+            → IsPlace text edit.now.to → edit.now.from ≤ edit.now.to → edit.now.added ≡ length added
             → IsRight (A.is_state a) (A.means a) (A.rules a) text self.old.kept
             → IsRight (A.is_state a) (A.means a) (A.rules a) (edited text edit.now.from edit.now.to added) self.new.kept }
         ensures frontier { FrontierAfterEdit edit.now.from self.old.kept.at self.new.kept.at }
@@ -126,7 +128,6 @@ impl<A: Machine> Marks<A> {
     /// Takes the token at the frontier.
     fn go_on<L: Ledger>(
         &mut self,
-        alloc: Global,
         machine: &mut A,
         text: &Text,
         steps: &mut Steps<L>,
@@ -140,18 +141,17 @@ impl<A: Machine> Marks<A> {
         ensures taken { self.new.taken ≡ self.old.taken }
         ensures step { steps.new ≡ steps.old + 1 }
     {
-        let Some(token) = scan_token(alloc, text, self.kept.at, steps)? else {
+        let Some(token) = scan_token(self.alloc, text, self.kept.at, steps)? else {
             return Ok(());
         };
-        begin(alloc, machine, &mut self.kept)?;
-        advance(alloc, machine, text, &mut self.kept, &token)?;
+        begin(self.alloc, machine, &mut self.kept)?;
+        advance(self.alloc, machine, text, &mut self.kept, &token)?;
         Ok(())
     }
 
     /// Takes `n` tokens, or all that are left where there are fewer.
     pub fn slice<L: Ledger>(
         &mut self,
-        alloc: Global,
         machine: &mut A,
         text: &Text,
         n: u64,
@@ -170,7 +170,7 @@ impl<A: Machine> Marks<A> {
         self.taken = 0;
         while self.kept.at < len && self.taken < n {
             self.taken += 1;
-            self.go_on(alloc, machine, text, steps)?;
+            self.go_on(machine, text, steps)?;
         }
         Ok(())
     }
@@ -178,7 +178,6 @@ impl<A: Machine> Marks<A> {
     /// Takes all tokens that are left.
     pub fn catch_up<L: Ledger>(
         &mut self,
-        alloc: Global,
         machine: &mut A,
         text: &Text,
         steps: &mut Steps<L>,
@@ -193,12 +192,12 @@ impl<A: Machine> Marks<A> {
     {
         // A text has fewer bytes, so fewer tokens, than the greatest number.
         let _len = text.len();
-        self.slice(alloc, machine, text, u64::MAX, steps)?;
+        self.slice(machine, text, u64::MAX, steps)?;
         Ok(())
     }
 
     /// The faults of the whole text, whose length is `len` bytes: those of its tokens and those of its end.
-    pub fn faults(&self, alloc: Global, machine: &mut A, len: usize) -> Result<Faults, NoMemory>
+    pub fn faults(&self, machine: &mut A, len: usize) -> Result<Faults, NoMemory>
         requires right { IsRightForLength (A.is_state machine.old) (A.means machine.old) (A.rules machine.old) len self.now.kept }
         requires all { self.now.kept.at ≡ len }
         ensures later { A.later machine.old machine.new }
@@ -209,12 +208,12 @@ impl<A: Machine> Marks<A> {
         let mut faults = self.kept.faults.copy()?;
         match &self.kept.state {
             Some(state) => {
-                machine.at_end(alloc, state, len, &mut faults)?;
+                machine.at_end(self.alloc, state, len, &mut faults)?;
                 Ok(faults)
             }
             None => {
-                let first = machine.start(alloc)?;
-                machine.at_end(alloc, &first, len, &mut faults)?;
+                let first = machine.start(self.alloc)?;
+                machine.at_end(self.alloc, &first, len, &mut faults)?;
                 Ok(faults)
             }
         }

@@ -1,3 +1,4 @@
+pub mod Edited
 pub mod Filing
 pub mod Reading
 pub mod Replacing

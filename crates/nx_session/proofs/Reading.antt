@@ -27,7 +27,14 @@ use Rattle.nx_events.specs.declared.item.Item.TheVariants as items
 use Rattle.nx_events.specs.declared.state.EventState.{EventState}
 use Rattle.nx_events.specs.RunsGrow.{back_grows}
 use Rattle.nx_events.proofs.TextItems.{all_text}
+use Rattle.nx_marks.specs.Frontier.{IsBorder}
+use Rattle.nx_marks.specs.declared.marks.Kept.{Kept}
 use Rattle.nx_session.specs.Faults.{faults_of, FaultsAreText}
+use Rattle.nx_session.specs.Reading.{IsReadRight}
+
+-- what is right reaches a border of the text's tokens
+pub border_of : (text : List ℕ) (kept : Kept EventState) → IsReadRight text kept → IsBorder text kept.at
+border_of text kept right = record { tokens = right.tokens; cuts = right.cuts }
 
 -- ---- a machine over tokens finds the faults among their items
 

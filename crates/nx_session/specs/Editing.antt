@@ -1,17 +1,19 @@
 -- Commands on the text alone.
 use Rattle.std.specs.Prelude.{◌≡◌, ℕ, List, [], length}
 use Rattle.nx_base.specs.Text.{IsPlace}
-use Rattle.nx_marks.specs.Frontier.{FrontierAfterEdit}
+use Rattle.nx_marks.specs.Frontier.{IsBorder, FrontierAfterEdit}
 use Rattle.nx_text.specs.Editing.{IsRange, Blames}
 use Rattle.nx_script.specs.declared.reply.Reply.{Reply}
 use Rattle.nx_script.specs.declared.reply.Reply.TheVariants.{Silent, Printed, Refused}
 use Rattle.nx_script.specs.declared.reply.Refusal.TheVariants.{BadPosition, NoMemory}
 use Rattle.nx_session.specs.Editor.{EditorState, edited_editor}
 
--- the bytes from `from` to `to` are replaced by the added ones; what was read in front of them stays read, or less of it
-abbrev pub IsEdited : ℕ → ℕ → List ℕ → EditorState → EditorState → Type 0
-IsEdited from to added old new =
-    (new ≡ edited_editor old from to added new.frontier) × FrontierAfterEdit from old.frontier new.frontier
+-- the bytes from `from` to `to` are replaced by the added ones; what was read in front of them stays read, or less of it,
+-- up to a border of the new text's tokens
+pub record IsEdited (from to : ℕ) (added : List ℕ) (old new : EditorState) : Type 0 where
+  pub editor : new ≡ edited_editor old from to added new.frontier
+  pub frontier : FrontierAfterEdit from old.frontier new.frontier
+  pub border : IsBorder new.text new.frontier
 
 -- text is put in at a place
 abbrev pub InsertStep : ℕ → List ℕ → EditorState → Reply → EditorState → Type 0

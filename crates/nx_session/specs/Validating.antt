@@ -1,16 +1,17 @@
 -- Commands that read the text for its faults.
 use Rattle.std.specs.Prelude.{◌≡◌, ℕ, ◌⊎◌, ◌+◌, ◌≤◌, length}
-use Rattle.nx_marks.specs.Frontier.{MovesOver}
+use Rattle.nx_marks.specs.Frontier.{IsBorder, MovesOver}
 use Rattle.nx_script.specs.declared.reply.Reply.{Reply}
 use Rattle.nx_script.specs.declared.reply.Reply.TheVariants.{Errors, Frontier, Taken, Refused}
 use Rattle.nx_script.specs.declared.reply.Refusal.TheVariants.{NoMemory}
 use Rattle.nx_session.specs.Editor.{EditorState, read_editor}
 use Rattle.nx_session.specs.Faults.{faults_of}
 
--- the text is read on, by as many tokens as were cut in this command; nothing else changes
+-- the text is read on, by as many tokens as were cut in this command, up to a border of its tokens; nothing else changes
 pub record ReadsOn (old : EditorState) (before : ℕ) (new : EditorState) (now : ℕ) : Type 0 where
   pub editor : new ≡ read_editor old new.frontier new.taken
   pub further : old.frontier ≤ new.frontier
+  pub border : IsBorder old.text new.frontier
   pub counted : now ≡ before + new.taken
 
 -- over at least so many tokens

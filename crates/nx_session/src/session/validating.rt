@@ -14,10 +14,9 @@ impl Session {
         ensures step { ErrorsStep self.old steps.old (reply_of result) self.new steps.new }
         ensures text { ReplyIsText (reply_of result) }
     {
-        self.marks
-            .catch_up(self.alloc, &mut self.machine, &self.text, steps)?;
+        self.marks.catch_up(&mut self.machine, &self.text, steps)?;
         let len = self.text.len();
-        let faults = self.marks.faults(self.alloc, &mut self.machine, len)?;
+        let faults = self.marks.faults(&mut self.machine, len)?;
         Ok(Reply::Errors(faults))
     }
 
@@ -31,7 +30,7 @@ impl Session {
         ensures text { ReplyIsText (reply_of result) }
     {
         self.marks
-            .slice(self.alloc, &mut self.machine, &self.text, count, steps)?;
+            .slice(&mut self.machine, &self.text, count, steps)?;
         Ok(Reply::Frontier {
             at: self.marks.frontier(),
             len: self.text.len(),

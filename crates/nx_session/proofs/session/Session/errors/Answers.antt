@@ -1,7 +1,7 @@
 use Rattle.std.proofs.Common.{◌≡◌, ◌∙◌, List, sym, subst, refl}
 use Rattle.nx_base.specs.declared.fault.Fault.{Fault}
 use Rattle.nx_session.specs.Faults.{faults_of, FaultsAreText}
-use Rattle.nx_session.proofs.Reading.{machine_finds, faults_are_text}
+use Rattle.nx_session.proofs.Reading.{border_of, machine_finds, faults_are_text}
 use Rattle.nx_session.proofs.session.Session.errors.Given as given
 use Rattle.nx_session.proofs.session.Session.errors.Goals as goal
 
@@ -15,7 +15,7 @@ returns-clause-step g c = rw (← c.self.view_is) (
   found g c,
   c.in_ok-catch_up.ensures.all,
   c.in_ok-catch_up.ensures.on,
-  record { editor = refl; further = c.catch_up.ensures.frontier; counted = c.catch_up.ensures.steps },
+  record { editor = refl; further = c.catch_up.ensures.frontier; border = border_of _ c.catch_up.new.self.kept c.catch_up.ensures.right; counted = c.catch_up.ensures.steps },
 )
 
 pub returns-clause-text : goal.returns-clause-text

@@ -12,4 +12,4 @@ invariant_of-self c =
     let Q : List ℕ → Type 0 = λ new. IsReadRight new c.edit.new.self.kept in
     subst Q (edited_whole text c.args.text c.len.result c.len.ensures.bytes)
     (c.edit.ensures.right c.self.inside.machine text c.args.text c.len.ensures.utf8 c.len-2.ensures.utf8 (IsCharBoundary-start text c.len.ensures.utf8)
-    (subst P (sym c.len.ensures.bytes) (IsCharBoundary-end text)) (omega arith) c.self.invariant)
+    (subst P (sym c.len.ensures.bytes) (IsCharBoundary-end text)) (omega arith) c.len-2.ensures.bytes c.self.invariant)
