@@ -36,7 +36,7 @@ pub record IsEndOf (g : Language) (p : Pattern) (h : List Move) (s : List Event)
 abbrev pub NoneIsViable : Language → Pattern → List Move → Type 0
 NoneIsViable g p h = (s : List Event) → IsRestOf g p h s → ⊥
 
--- each list of attributes behind which the tag may end has one of this name
+-- where a start tag is open: each list of attributes behind which it may end has one of this name
 abbrev pub IsRequired : Language → Pattern → List Move → Name → Type 0
 IsRequired g p h n = (a : List Attribute) (k : List Event) → AreWritable (attributes_flat a []) → Kept g p h k
     → Viable g.definitions p (k ++ attributes_flat a (TagEnd ∷ [])) → HasAttribute n a

@@ -1,7 +1,8 @@
 -- Ways that are merged: those among children with the same outside are one, so that a residual doesn't double with each element.
 use Rattle.std.specs.Prelude.{[], ◌∷◌, Bool, true, false, not, ◌&&◌, ◌||◌, if◌then◌else◌, Option, Some, None}
 use Rattle.rng_core.specs.Patterns.{Pattern}
-use Rattle.rng_kept.specs.SmallPatterns.{same_pattern, choice_of}
+use Rattle.rng_core.specs.Equality.{same_pattern}
+use Rattle.rng_kept.specs.SmallPatterns.{choice_of}
 use Rattle.rng_kept.specs.Residuals.{Outer, document, inside, Way, among, in_tag, Residual}
 
 abbrev pub same_flag : Bool → Bool → Bool

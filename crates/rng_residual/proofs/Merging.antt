@@ -4,7 +4,8 @@ use Rattle.std.specs.List.{AllByRecursion}
 use Rattle.nx_base.specs.Trees.{Children, Event}
 use Rattle.rng_core.specs.Patterns.{Pattern, Definition}
 use Rattle.rng_core.specs.Matching.{by_first, by_second}
-use Rattle.rng_kept.specs.SmallPatterns.{choice_of, same_pattern}
+use Rattle.rng_core.specs.Equality.{same_pattern}
+use Rattle.rng_kept.specs.SmallPatterns.{choice_of}
 use Rattle.rng_kept.specs.Residuals.{Outer, document, inside, Way, among, in_tag, Residual, TakesChildren, strictly, loosely, voidly, TakesOuter, at_document, at_inside, TakesWay, among_children, Takes, by_this, by_later}
 use Rattle.rng_kept.specs.Merging.{same_flag, in_document, in_inside, same_outer, can_join, joined_outer, can_join_ways, joined_way, with_way, with_ways, stepped}
 use Rattle.rng_residual.proofs.SmallPatterns.{or_same, or_sides, or_true, by_test, same_is, and_true}

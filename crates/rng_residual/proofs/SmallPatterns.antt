@@ -1,11 +1,12 @@
 -- What is kept small matches what the plain constructors match.
 use Rattle.std.proofs.Common.{◌≡◌, ℕ, List, [], ◌∷◌, Bool, true, false, ◌||◌, ◌&&◌, ◌==◌, refl, ap, sym, subst, inl, inr, ◌⊎◌, ⊎_elim, arith}
 use Rattle.std.specs.Prelude.{if◌then◌else◌}
-use Rattle.std.proofs.lemmas.Bool.Decides.{nat_tests}
 use Rattle.nx_base.specs.Trees.{Attribute, Children, nil, string, element}
 use Rattle.rng_core.specs.Patterns.{Pattern, Definition, not_allowed, empty, any_text, typed, literal, listed, attribute, ref, one_or_more, choice, group, interleave}
 use Rattle.rng_core.specs.Matching.{Split, no_attribute, to_first, to_second, InOrder, then_second, string_of_first, element_of_first, Shuffle, no_child, string_to_first, string_to_second, element_to_first, element_to_second, Matches, by_empty, by_first, by_second, by_group, by_interleave}
-use Rattle.rng_kept.specs.SmallPatterns.{is_not_allowed, is_empty, is_any_text, is_ref, in_one_or_more, in_choice, in_group, in_interleave, same_pattern, is_side, with_side, choice_of, group_of, interleave_of}
+use Rattle.rng_core.specs.Equality.{same_pattern}
+use Rattle.rng_core.proofs.Same.{patterns_decided}
+use Rattle.rng_kept.specs.SmallPatterns.{is_not_allowed, is_empty, is_side, with_side, choice_of, group_of, interleave_of}
 
 pub is_not_allowed-is : (p : Pattern) → is_not_allowed p ≡ true → p ≡ not_allowed
 is_not_allowed-is not_allowed h = refl
@@ -35,110 +36,13 @@ is_empty-is (choice p q) h = cc
 is_empty-is (group p q) h = cc
 is_empty-is (interleave p q) h = cc
 
-pub is_any_text-is : (p : Pattern) → is_any_text p ≡ true → p ≡ any_text
-is_any_text-is not_allowed h = cc
-is_any_text-is empty h = cc
-is_any_text-is any_text h = refl
-is_any_text-is (typed t e) h = cc
-is_any_text-is (literal t v) h = cc
-is_any_text-is (listed p) h = cc
-is_any_text-is (attribute c p) h = cc
-is_any_text-is (ref i) h = cc
-is_any_text-is (one_or_more p) h = cc
-is_any_text-is (choice p q) h = cc
-is_any_text-is (group p q) h = cc
-is_any_text-is (interleave p q) h = cc
-
-num_same : (i j : ℕ) → (i == j) ≡ true → i ≡ j
-num_same i j h = grind (arith, nat_tests)
-
-ref-is : (i : ℕ) (r : Pattern) → is_ref i r ≡ true → ref i ≡ r
-ref-is n not_allowed h = cc
-ref-is n empty h = cc
-ref-is n any_text h = cc
-ref-is n (typed t e) h = cc
-ref-is n (literal t v) h = cc
-ref-is n (listed p) h = cc
-ref-is n (attribute c p) h = cc
-ref-is n (ref i) h = ap ref (num_same n i h)
-ref-is n (one_or_more p) h = cc
-ref-is n (choice p q) h = cc
-ref-is n (group p q) h = cc
-ref-is n (interleave p q) h = cc
-
 pub and_true : (a b : Bool) → (a && b) ≡ true → (a ≡ true) × (b ≡ true)
 and_true true b h = (refl, h)
 and_true false b h = cc
 
-one_or_more-is : (a : Pattern) (f : Pattern → Bool) → ((r : Pattern) → f r ≡ true → a ≡ r) → (r : Pattern) → in_one_or_more f r ≡ true → one_or_more a ≡ r
-one_or_more-is a f e not_allowed h = cc
-one_or_more-is a f e empty h = cc
-one_or_more-is a f e any_text h = cc
-one_or_more-is a f e (typed t x) h = cc
-one_or_more-is a f e (literal t v) h = cc
-one_or_more-is a f e (listed p) h = cc
-one_or_more-is a f e (attribute c p) h = cc
-one_or_more-is a f e (ref i) h = cc
-one_or_more-is a f e (one_or_more p) h = ap one_or_more (e p h)
-one_or_more-is a f e (choice p q) h = cc
-one_or_more-is a f e (group p q) h = cc
-one_or_more-is a f e (interleave p q) h = cc
-
-choice-is : (a b : Pattern) (f g : Pattern → Bool) → ((r : Pattern) → f r ≡ true → a ≡ r) → ((r : Pattern) → g r ≡ true → b ≡ r) → (r : Pattern) → in_choice f g r ≡ true → choice a b ≡ r
-choice-is a b f g e d not_allowed h = cc
-choice-is a b f g e d empty h = cc
-choice-is a b f g e d any_text h = cc
-choice-is a b f g e d (typed t x) h = cc
-choice-is a b f g e d (literal t v) h = cc
-choice-is a b f g e d (listed p) h = cc
-choice-is a b f g e d (attribute c p) h = cc
-choice-is a b f g e d (ref i) h = cc
-choice-is a b f g e d (one_or_more p) h = cc
-choice-is a b f g e d (choice p q) h = (let w = and_true (f p) (g q) h in rw (e p w.0, d q w.1) refl)
-choice-is a b f g e d (group p q) h = cc
-choice-is a b f g e d (interleave p q) h = cc
-
-group-is : (a b : Pattern) (f g : Pattern → Bool) → ((r : Pattern) → f r ≡ true → a ≡ r) → ((r : Pattern) → g r ≡ true → b ≡ r) → (r : Pattern) → in_group f g r ≡ true → group a b ≡ r
-group-is a b f g e d not_allowed h = cc
-group-is a b f g e d empty h = cc
-group-is a b f g e d any_text h = cc
-group-is a b f g e d (typed t x) h = cc
-group-is a b f g e d (literal t v) h = cc
-group-is a b f g e d (listed p) h = cc
-group-is a b f g e d (attribute c p) h = cc
-group-is a b f g e d (ref i) h = cc
-group-is a b f g e d (one_or_more p) h = cc
-group-is a b f g e d (choice p q) h = cc
-group-is a b f g e d (group p q) h = (let w = and_true (f p) (g q) h in rw (e p w.0, d q w.1) refl)
-group-is a b f g e d (interleave p q) h = cc
-
-interleave-is : (a b : Pattern) (f g : Pattern → Bool) → ((r : Pattern) → f r ≡ true → a ≡ r) → ((r : Pattern) → g r ≡ true → b ≡ r) → (r : Pattern) → in_interleave f g r ≡ true → interleave a b ≡ r
-interleave-is a b f g e d not_allowed h = cc
-interleave-is a b f g e d empty h = cc
-interleave-is a b f g e d any_text h = cc
-interleave-is a b f g e d (typed t x) h = cc
-interleave-is a b f g e d (literal t v) h = cc
-interleave-is a b f g e d (listed p) h = cc
-interleave-is a b f g e d (attribute c p) h = cc
-interleave-is a b f g e d (ref i) h = cc
-interleave-is a b f g e d (one_or_more p) h = cc
-interleave-is a b f g e d (choice p q) h = cc
-interleave-is a b f g e d (group p q) h = cc
-interleave-is a b f g e d (interleave p q) h = (let w = and_true (f p) (g q) h in rw (e p w.0, d q w.1) refl)
-
+-- two patterns that are found the same are one
 pub same_is : (p r : Pattern) → same_pattern p r ≡ true → p ≡ r
-same_is not_allowed r h = sym (is_not_allowed-is r h)
-same_is empty r h = sym (is_empty-is r h)
-same_is any_text r h = sym (is_any_text-is r h)
-same_is (ref i) r h = ref-is i r h
-same_is (one_or_more p) r h = one_or_more-is p (same_pattern p) (same_is p) r h
-same_is (choice p q) r h = choice-is p q (same_pattern p) (same_pattern q) (same_is p) (same_is q) r h
-same_is (group p q) r h = group-is p q (same_pattern p) (same_pattern q) (same_is p) (same_is q) r h
-same_is (interleave p q) r h = interleave-is p q (same_pattern p) (same_pattern q) (same_is p) (same_is q) r h
-same_is (typed t e) r h = cc
-same_is (literal t v) r h = cc
-same_is (listed p) r h = cc
-same_is (attribute c p) r h = cc
+same_is p r h = (patterns_decided p r).0 h
 
 pub split_all : (a : List Attribute) → Split a a []
 split_all [] = no_attribute
