@@ -10,6 +10,7 @@ ghost use Rattle.rng_live.specs.Pruned.{MatchSame};
 ghost use Rattle.rng_live.specs.Leaving.{LeavesDefinition, LeavesAll};
 
 use crate::condition::is_marked_at;
+use crate::depth::can_be_walked;
 use crate::fault::LiveFault;
 use crate::holding::marks_of;
 use crate::kept::Kept;
@@ -71,7 +72,8 @@ fn left_definitions(
 ///
 /// `NothingValid` comes exactly where the start is dead, so that no document is valid. What is dead is found from below: each
 /// definition that is found to live wakes the patterns that refer to it, so that the steps are as many as the nodes of the
-/// grammar. The walks call themselves as deep as a pattern is; simplification bounds a path in it at 8,000 nodes.
+/// grammar. The walks call themselves as deep as a pattern is: a grammar with a path of more than 2,000 nodes is
+/// answered as want of memory.
 pub fn prune(alloc: Global, grammar: Grammar) -> Result<Schema, LiveFault>
     requires sound { IsSound grammar }
     requires checked { ChecksGrammar grammar (Ok tt) }
@@ -80,6 +82,9 @@ pub fn prune(alloc: Global, grammar: Grammar) -> Result<Schema, LiveFault>
     ensures trees { IfOk result (λ schema. MatchSame (language_of grammar) (schema_language schema)) }
     ensures sound { IfOk result (λ schema. IsSound schema.grammar) }
 {
+    if !can_be_walked(&grammar) {
+        return Err(LiveFault::NoMemory);
+    }
     let mut conditions = conditions_of(alloc, &grammar.defs)?;
     let root = conditions.add_pattern(alloc, &grammar.start)?;
     let marks = marks_of(alloc, conditions.items.as_slice())?;
