@@ -1,7 +1,9 @@
-//! Runs the example scripts, one behind another, as `nxml` would, and tells of each example schema whether it can be used.
+//! Runs the example scripts, one behind another, as `nxml` would, and tells of each example schema whether it can be used, and
+//! how much of it documents can use.
 #![tactic(auto)]
 
 ghost use Rattle.std.specs.Prelude.{◌≡◌, ◌<◌};
+ghost use Rattle.rng_core.specs.Soundness.{IsSound};
 
 use nx_base::sequence::Bytes;
 use nx_base::steps::Steps;
@@ -9,6 +11,7 @@ use nx_host::disk::{DiskFiles, StdOut};
 use nx_run::run::run;
 use nx_run::status::Status;
 use rng_core::grammar::Grammar;
+use rng_live::prune::prune;
 use rng_restrict::check::check;
 use rng_simplify::fault::SchemaFault;
 use rng_simplify::simplify::simplify;
@@ -27,18 +30,22 @@ const SCRIPTS: [&str; 5] = [
 
 /// The schemas, there, too. Each element that is left in a schema has a definition: 12 of manual-inlines.rnc, 12 of
 /// manual-blocks.rnc, each but for the one that is replaced, and 15 of manual.rnc; 10 of config.rnc. The parts of a schema
-/// have no start. Those below `refused` break a restriction each.
-const SCHEMAS: [&str; 10] = [
+/// have no start. Of dead.rnc one definition in five lives: an element that has to hold itself is dead, so is one that has to
+/// hold a number that is none, and nothing leads to the last. Those below `refused` break a restriction each, but for
+/// nothing-valid.rnc, which no document can meet.
+const SCHEMAS: [&str; 12] = [
     "examples/schemas/manual.rnc",
     "examples/schemas/manual-blocks.rnc",
     "examples/schemas/manual-inlines.rnc",
     "examples/schemas/config.rnc",
+    "examples/schemas/dead.rnc",
     "examples/schemas/refused/path.rnc",
     "examples/schemas/refused/mixture.rnc",
     "examples/schemas/refused/attribute-overlap.rnc",
     "examples/schemas/refused/wildcard-once.rnc",
     "examples/schemas/refused/interleave-overlap.rnc",
     "examples/schemas/refused/text-twice.rnc",
+    "examples/schemas/refused/nothing-valid.rnc",
 ];
 
 fn main(rt: HostRuntime) -> io::Result<()> {
@@ -73,28 +80,25 @@ fn run_here<L: Ledger>(rt: &HostRuntime, words: &[Bytes], blank: Blank) -> Statu
 fn judge_schema(rt: &HostRuntime, schema: &str) -> io::Result<()> {
     let uri = format!(in rt.alloc(); "file:///work/{schema}")?;
     let mut files = DiskFiles::new(rt);
-    print_answer(rt, schema, &simplify(rt.alloc(), uri.as_str(), &mut files))
-}
-
-/// Prints what was answered for the schema.
-fn print_answer(
-    rt: &HostRuntime,
-    schema: &str,
-    answer: &Result<Grammar, SchemaFault>,
-) -> io::Result<()> {
-    match answer {
-        Ok(grammar) => print_grammar(rt, schema, grammar),
+    match simplify(rt.alloc(), uri.as_str(), &mut files) {
+        Ok(grammar) => judge_grammar(rt, schema, grammar),
         Err(SchemaFault::Unreadable(cause)) => println!(rt; "{schema}: {cause:?}"),
         Err(_) => println!(rt; "{schema}: not read"),
     }
 }
 
-/// Prints how many definitions the schema's grammar has, or which restriction it breaks.
-fn print_grammar(rt: &HostRuntime, schema: &str, grammar: &Grammar) -> io::Result<()> {
-    match check(rt.alloc(), grammar) {
-        Ok(()) => {
-            let count = grammar.defs.len();
-            println!(rt; "{schema}: {count} definitions")
+/// Prints which restriction the schema's grammar breaks, or what is left of it where its dead parts are pruned.
+fn judge_grammar(rt: &HostRuntime, schema: &str, grammar: Grammar) -> io::Result<()>
+    requires { IsSound grammar }
+{
+    let count = grammar.defs.len();
+    if let Err(fault) = check(rt.alloc(), &grammar) {
+        return println!(rt; "{schema}: {fault:?}");
+    }
+    match prune(rt.alloc(), grammar) {
+        Ok(pruned) => {
+            let live = pruned.grammar().defs.len();
+            println!(rt; "{schema}: {count} definitions, {live} of them live")
         }
         Err(fault) => println!(rt; "{schema}: {fault:?}"),
     }

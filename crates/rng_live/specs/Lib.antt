@@ -1,0 +1,11 @@
+pub mod Order
+pub mod Schemas
+pub mod Calls
+pub mod Dead
+pub mod Pruned
+pub mod Conditions
+pub mod Marking
+pub mod Living
+pub mod Spelling
+pub mod Left
+pub mod Leaving

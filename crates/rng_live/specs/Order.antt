@@ -1,0 +1,12 @@
+-- The order in which names and texts are listed: by namespace and then by local part, each by its bytes.
+use Rattle.std.specs.Prelude.{List, ℕ}
+use Rattle.std.specs.Cmp.Lexicographic.{slice_cmp}
+use Rattle.std.specs.Ordering.{nat_cmp, then_cmp}
+use Rattle.std.specs.declared.cmp.Ordering.{Ordering}
+use Rattle.nx_base.specs.declared.name.Name.{Name}
+
+abbrev pub text_order : List ℕ → List ℕ → Ordering
+text_order = slice_cmp nat_cmp
+
+abbrev pub name_order : Name → Name → Ordering
+name_order = then_cmp (λ a b. text_order a.ns b.ns) (λ a b. text_order a.local b.local)

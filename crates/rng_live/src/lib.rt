@@ -1,0 +1,34 @@
+//! Schemas of which only what lives is left, and the contract of the matchers that follow a document through one.
+//!
+//! A pattern is dead where it matches nothing that can be written. `prune` replaces each choice that has one dead side with
+//! its other side, drops the definitions that the start then doesn't reach, and refuses a grammar that no document is valid
+//! for. So each pattern of a schema matches something, which is what lets a matcher tell at each event whether the document
+//! can still become valid.
+//!
+//! How what is dead is found:
+//!
+//! - Each node of a pattern is a condition on those of its parts (`life`); of a definition, on its content.
+//! - Conditions hold from below: each that is found to hold wakes those that rest on it (`waiting`, `holding`).
+//! - What is left of a pattern is found by a walk along the numbers of its conditions (`left`), and definitions get their
+//!   new numbers as the walk first meets them (`kept`).
+//!
+//! The walks call themselves once for each node of a path, so a grammar with a path of more than 2,000 nodes, which simplification
+//! allows, is answered as want of memory.
+//!
+//! Each of these is linear in the nodes of the grammar; the excepts of a type are compared with its values where these are
+//! few (`takes`).
+#![tactic(auto)]
+
+mod condition;
+pub mod depth;
+pub mod fault;
+mod holding;
+mod kept;
+mod left;
+mod life;
+pub mod matcher;
+mod naming;
+pub mod prune;
+pub mod schema;
+mod takes;
+mod waiting;
