@@ -128,8 +128,9 @@ fn read(rt: &impl Abort, alloc: Global, parts: &str, all: bool) -> Result<String
             continue;
         }
         let token = token_at(alloc, kind_of(bytes[0]), at, &bytes[1..])?;
-        assert!(rt; at < 100_000 && token.bytes.len() < 100_000 && reaches_back(&state, at));
-        at += token.bytes.len();
+        let place = token.from;
+        assert!(rt; place < 100_000 && token.bytes.len() < 100_000 && reaches_back(&state, place));
+        at = place + token.bytes.len();
         let items = take(alloc, &mut state, &token)?;
         print_all(&mut out, &items, all)?;
     }
