@@ -39,6 +39,10 @@ is_name_start c = is_in name_start_ranges c
 unfoldable pub is_name_char : ℕ → Bool
 is_name_char c = is_name_start c || is_in further_name_ranges c
 
+-- a single (39) or double (34) quote
+abbrev pub is_quote : ℕ → Bool
+is_quote c = c == 34 || c == 39
+
 -- nothing but white space, or nothing at all; each such character is one byte below 128, so that bytes serve for characters
 abbrev pub is_blank : List ℕ → Bool
 is_blank text = list_all is_space text

@@ -24,7 +24,8 @@ pub record SameStatesGoOn {S T M : Type 0} (later : S → S → Type 0) (is_stat
   -- it is true of a state with itself, whoever is asked, also where the one was had from the other by a copy
   pub itself : (s t : S) (a b : T) → later s t → is_state s a → is_state s b → means s b ≡ means s a → means t b ≡ means t a
   -- of two first states, the second from a later machine
-  pub firsts : (s t : S) (a b : T) → later s t → is_state s a → means s a ≡ (rules s).first → means t b ≡ (rules t).first → means t b ≡ means t a
+  pub firsts : (s t : S) (a b : T) → later s t → is_state s a → means s a ≡ (rules s).first → means t b ≡ (rules t).first
+      → means t b ≡ means t a
   pub symmetric : (s : S) (a b : T) → means s a ≡ means s b → means s b ≡ means s a
   pub transitive : (s : S) (a b c : T) → means s a ≡ means s b → means s b ≡ means s c → means s a ≡ means s c
   -- every later machine answers alike: true where it was, and false where it was

@@ -1,9 +1,10 @@
 -- A text is cut into tokens: the constructs of XML 1.0, each by its marks alone. Bad and Unclosed are the
 -- project's own: what is no construct, and what has no end.
-use Rattle.std.specs.Prelude.{◌≡◌, ℕ, zero, suc, ◌+◌, ◌-◌, ◌<◌, min, nat_le, Bool, true, false, ◌==◌, ◌&&◌, ◌||◌, not, if◌then◌else◌, List, [], ◌∷◌, length, take, drop, slice_index, count_by, codes, Option, Some, None}
+use Rattle.std.specs.Prelude.{◌≡◌, ℕ, zero, suc, ◌+◌, ◌-◌, ◌<◌, min, nat_le, Bool, true, false, ◌==◌, ◌&&◌, ◌||◌, not, if◌then◌else◌}
+use Rattle.std.specs.Prelude.{List, [], ◌∷◌, length, take, drop, slice_index, count_by, codes, Option, Some, None}
 use Rattle.std.specs.Option.{option_map, option_map_or}
 use Rattle.std.specs.Str.{chars, encode_utf8_all}
-use Rattle.nx_base.specs.Characters.{is_space}
+use Rattle.nx_base.specs.Characters.{is_space, is_quote}
 use Rattle.nx_base.specs.Form.{Form, spells, begins, shortest_front, passing_front}
 use Rattle.nx_base.specs.Tags.{start_form, empty_form, end_form}
 use Rattle.nx_base.specs.declared.token.Token.{Token}
@@ -49,7 +50,7 @@ closed kind mark skip rest =
 unfoldable pub piece : Bool → List ℕ → Option ℕ
 piece subset [] = None
 piece subset (b ∷ bs) =
-    if b == 34 || b == 39 then option_map (λ n. 1 + n + 1) (bytes_before (b ∷ []) bs)
+    if is_quote b then option_map (λ n. 1 + n + 1) (bytes_before (b ∷ []) bs)
     else (if subset && begins_with (codes "<!--") (b ∷ bs) then option_map (λ n. 4 + n + 3) (bytes_before (codes "-->") (drop 4 (b ∷ bs)))
     else (if subset && begins_with (codes "<?") (b ∷ bs) then option_map (λ n. 2 + n + 2) (bytes_before (codes "?>") (drop 2 (b ∷ bs)))
     else Some 1))

@@ -41,13 +41,15 @@ pub data HasAttribute (name : Name) : List Attribute → Type 0 where
 -- attributes with names that attributes can have, no two the same
 pub data AreAttributes : List Attribute → Type 0 where
   no_attributes : AreAttributes []
-  one_more : {a : Attribute} {more : List Attribute} → IsTrue (is_attribute_name a.name) → (HasAttribute a.name more → ⊥) → AreAttributes more → AreAttributes (a ∷ more)
+  one_more : {a : Attribute} {more : List Attribute} → IsTrue (is_attribute_name a.name) → (HasAttribute a.name more → ⊥)
+      → AreAttributes more → AreAttributes (a ∷ more)
 
 -- children with names that a document can have, and attributes of which no two of one element have the same
 pub data AreChildren : Children → Type 0 where
   no_children : AreChildren nil
   string_first : {text : List ℕ} {rest : Children} → AreChildren rest → AreChildren (string text rest)
-  element_first : {name : Name} {attributes : List Attribute} {children rest : Children} → IsTrue (is_xml_name name) → AreAttributes attributes → AreChildren children → AreChildren rest → AreChildren (element name attributes children rest)
+  element_first : {name : Name} {attributes : List Attribute} {children rest : Children} → IsTrue (is_xml_name name)
+      → AreAttributes attributes → AreChildren children → AreChildren rest → AreChildren (element name attributes children rest)
 
 -- the events of a text, in order
 pub data Event : Type 0 where

@@ -3,7 +3,7 @@
 ghost use Rattle.std.specs.Prelude.{◌≡◌};
 ghost use Rattle.std.specs.List.{list_all};
 ghost use Rattle.std.specs.Str.{chars};
-ghost use Rattle.nx_base.specs.Characters.{is_char, is_space, is_name_start, is_name_char, is_name, is_nc_name};
+ghost use Rattle.nx_base.specs.Characters.{is_char, is_space, is_quote, is_name_start, is_name_char, is_name, is_nc_name};
 
 /// Whether XML allows the character: Char, section 2.2.
 #[tactic(auto, unfolding(crate::specs::Characters::is_char))]
@@ -19,6 +19,13 @@ pub fn is_space(c: char) -> bool
     ensures { result ≡ is_space c }
 {
     matches!(c, '\t' | '\n' | '\r' | ' ')
+}
+
+/// Whether it is a single or double quote, as literals begin and end with.
+pub fn is_quote(c: char) -> bool
+    ensures { result ≡ is_quote c }
+{
+    c == '"' || c == '\''
 }
 
 /// Whether a name may begin with it: NameStartChar, section 2.3.

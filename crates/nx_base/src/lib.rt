@@ -19,3 +19,12 @@ pub mod steps;
 #[cfg(test)]
 mod tests;
 pub mod token;
+
+pub use character::{is_char, is_name_char, is_name_start, is_space};
+pub use edit::{Edit, moved};
+pub use fault::{Fault, Faults, Kind, Span};
+pub use machine::Machine;
+pub use memory::NoMemory;
+pub use name::{Name, Names};
+pub use sequence::{Bytes, Sequence};
+pub use token::{Token, TokenKind};

@@ -1,6 +1,7 @@
 //! The list that holds bytes, names, faults and every other list of the workspace.
 
-ghost use Rattle.std.specs.Prelude.{◌≡◌, ◌+◌, ◌<◌, ◌≤◌, [], ◌∷◌, ◌++◌, length, take, drop, insert, ◌==◌, slice_get, option_copied, IfOk, OnOk, OnErr, MatchOption};
+ghost use Rattle.std.specs.Prelude.{◌≡◌, ◌+◌, ◌<◌, ◌≤◌, [], ◌∷◌, ◌++◌, length, take, drop, insert, ◌==◌, slice_get, option_copied, IfOk};
+ghost use Rattle.std.specs.Prelude.{OnOk, OnErr, MatchOption};
 
 use crate::memory::NoMemory;
 use std::alloc::Global;

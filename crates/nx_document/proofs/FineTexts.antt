@@ -8,11 +8,10 @@ use Rattle.std.proofs.lemmas.Bool.{or_cases, or_left, or_right, and_parts, eqb-t
 use Rattle.std.proofs.lemmas.Bool.Decides.{nat_tests}
 use Rattle.std.proofs.lemmas.List.{length-append}
 use Rattle.std.proofs.lemmas.Str.{encode_ascii, encode_same, encodes-append, encodes-chars}
-use Rattle.nx_base.specs.Characters.{is_char, is_space, is_in, char_ranges, name_start_ranges, further_name_ranges, is_name_start, is_name_char}
+use Rattle.nx_base.specs.Characters.{is_char, is_space, is_in, char_ranges, name_start_ranges, further_name_ranges, is_name_start, is_name_char, is_quote}
 use Rattle.nx_events.specs.SpelledTags.{IsName}
 use Rattle.nx_events.specs.Spelling.{AreBetween}
 use Rattle.nx_events.specs.Tags.{is_between}
-use Rattle.nx_events.specs.XmlDeclaration.{is_quote}
 use Rattle.nx_events.proofs.FormWords.{AllPass}
 use Rattle.nx_events.proofs.ReferenceForms.{name_all, start_is_name}
 use Rattle.nx_events.proofs.StringParts.{encode_some}
@@ -77,7 +76,7 @@ pub quote_fine : (b : ℕ) → is_quote b ≡ true → AreFine (b ∷ [])
 unfolding is_char
 quote_fine b h =
     fine_byte b (quote_small b h)
-    (elim (or_cases (b == 39) (b == 34) h) [ inl e ↦ known b 39 refl (λ k. cc) e | inr e ↦ known b 34 refl (λ k. cc) e ])
+    (elim (or_cases (b == 34) (b == 39) h) [ inl e ↦ known b 34 refl (λ k. cc) e | inr e ↦ known b 39 refl (λ k. cc) e ])
 
 pub less_fine : AreFine (60 ∷ [])
 unfolding is_char

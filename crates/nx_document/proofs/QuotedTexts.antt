@@ -8,7 +8,7 @@ use Rattle.std.proofs.lemmas.Bool.Decides.{nat_tests}
 use Rattle.std.proofs.lemmas.List.{length-append}
 use Rattle.std.proofs.lemmas.Str.{encode_ascii}
 use Rattle.nx_events.specs.ReferenceForm.{Denotes, entity, decimal, hexadecimal, IsEntity, entities}
-use Rattle.nx_events.specs.XmlDeclaration.{is_quote}
+use Rattle.nx_base.specs.Characters.{is_quote}
 use Rattle.nx_events.proofs.FormWords.{AllPass, digit-of_one, hexdigit-of_one}
 use Rattle.nx_events.proofs.ReferenceForms.{some_all}
 use Rattle.nx_events.proofs.TagForms.{NonePass, bytes_none}

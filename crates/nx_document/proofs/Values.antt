@@ -9,8 +9,7 @@ use Rattle.std.proofs.lemmas.Grind.{common_steps}
 use Rattle.std.proofs.lemmas.List.{drop-drop, length-take-le, take_all}
 use Rattle.std.proofs.lemmas.List.Sums.{passes_at_first}
 use Rattle.std.proofs.lemmas.Str.{IsUtf8-drop, IsCharBoundary-start, IsCharBoundary-from_take}
-use Rattle.nx_base.specs.Characters.{is_space}
-use Rattle.nx_events.specs.XmlDeclaration.{is_quote}
+use Rattle.nx_base.specs.Characters.{is_space, is_quote}
 use Rattle.nx_events.specs.Tags.{is_between, ends_name, written_name, quote_place, value_len, written_value, attribute_len, begins_attribute, attribute_at, front_attribute, front_len, attributes_from, start_name, tag_attributes}
 use Rattle.nx_events.specs.declared.reading.Reading.TheVariants.{Value}
 use Rattle.nx_events.specs.declared.tag.Attribute.{Attribute}

@@ -13,7 +13,8 @@ pub data HaveApartStrings : Children → Type 0 where
       HaveApartStrings children → HaveApartStrings rest → HaveApartStrings (element name attributes children rest)
   string_last : {b : ℕ} {text : List ℕ} → HaveApartStrings (string (b ∷ text) nil)
   string_then_element : {b : ℕ} {text : List ℕ} {name : Name} {attributes : List trees.Attribute} {children rest : Children} →
-      HaveApartStrings (element name attributes children rest) → HaveApartStrings (string (b ∷ text) (element name attributes children rest))
+      HaveApartStrings (element name attributes children rest) → HaveApartStrings
+      (string (b ∷ text) (element name attributes children rest))
 
 -- so it is in each element of a document
 abbrev pub DocumentsHaveApartStrings : Type 0

@@ -9,7 +9,8 @@ use Rattle.nx_base.specs.declared.token.TokenKind.TheVariants as kinds
 use Rattle.nx_events.specs.Strings.{string_of, cdata_content}
 use Rattle.nx_events.specs.declared.reading.Reading.TheVariants.{Plain, Text}
 use Rattle.nx_events.specs.declared.scope.Binding.{Binding}
-use Rattle.nx_document.specs.Constraints.{IsMark, IsXmlDeclaration, IsDoctype, IsComment, IsInstruction, IsWhiteSpace, IsCharacterData, IsSection, in_force, IsLegalTag, EndsElement}
+use Rattle.nx_document.specs.Constraints.{IsMark, IsXmlDeclaration, IsDoctype, IsComment, IsInstruction, IsWhiteSpace, IsCharacterData}
+use Rattle.nx_document.specs.Constraints.{IsSection, in_force, IsLegalTag, EndsElement}
 
 -- one such token or none, up to what follows
 pub data Optional (P : Token → Type 0) : List Token → List Token → Type 0 where
@@ -51,9 +52,11 @@ mutual
         Element scope all others tree → Content scope others rest children →
         Content scope all rest (element tree.name tree.attributes tree.children children)
     by_text : {scope : List Binding} {token : Token} {others rest : List Token} {children : Children} →
-        IsCharacterData token → Content scope others rest children → Content scope (token ∷ others) rest (with_text (string_of Text token.bytes) children)
+        IsCharacterData token → Content scope others rest children → Content scope (token ∷ others) rest
+        (with_text (string_of Text token.bytes) children)
     by_section : {scope : List Binding} {token : Token} {others rest : List Token} {children : Children} →
-        IsSection token → Content scope others rest children → Content scope (token ∷ others) rest (with_text (string_of Plain (cdata_content token.bytes)) children)
+        IsSection token → Content scope others rest children → Content scope (token ∷ others) rest
+        (with_text (string_of Plain (cdata_content token.bytes)) children)
     by_comment : {scope : List Binding} {token : Token} {others rest : List Token} {children : Children} →
         IsComment token → Content scope others rest children → Content scope (token ∷ others) rest children
     by_instruction : {scope : List Binding} {token : Token} {others rest : List Token} {children : Children} →

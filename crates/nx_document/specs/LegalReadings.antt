@@ -12,7 +12,8 @@ use Rattle.nx_document.specs.Constraints.{IsLegal}
 
 -- bytes that are UTF-8, at any place, are legal exactly where they are read as their string without a fault
 abbrev pub LegalIsReadWithoutFault : Type 0
-LegalIsReadWithoutFault = (reading : Reading) (at : ℕ) (bytes : List ℕ) → IsUtf8 bytes → IsLegal reading bytes ↔ IsReadAs reading at bytes (string_of reading bytes) []
+LegalIsReadWithoutFault = (reading : Reading) (at : ℕ) (bytes : List ℕ) → IsUtf8 bytes → IsLegal reading bytes
+    ↔ IsReadAs reading at bytes (string_of reading bytes) []
 
 -- and a tag that is spelled by the grammar is legal exactly where each value that is written in it is: all else that the grammar lets stand
 -- in a tag is of characters that XML allows, without a `&`

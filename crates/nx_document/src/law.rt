@@ -1,7 +1,8 @@
 //! Laws of well-formed documents: of XML 1.0 without what lies in a document type, of which nothing is
 //! asked or used. Nothing here runs.
 
-ghost use Rattle.nx_document.specs.WellFormed.{WellFormedIsDocument, DocumentsHaveNoFault, DocumentsHaveOneTree, DocumentsHaveProperNames, DocumentsAreWritable, UnprefixedNamesAgree};
+ghost use Rattle.nx_document.specs.WellFormed.{WellFormedIsDocument, DocumentsHaveNoFault, DocumentsHaveOneTree};
+ghost use Rattle.nx_document.specs.WellFormed.{DocumentsHaveProperNames, DocumentsAreWritable, UnprefixedNamesAgree};
 ghost use Rattle.nx_document.specs.ApartStrings.{DocumentsHaveApartStrings};
 ghost use Rattle.nx_document.specs.LegalReadings.{LegalIsReadWithoutFault, LegalTagsHaveLegalValues};
 

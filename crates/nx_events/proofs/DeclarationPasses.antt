@@ -9,12 +9,12 @@ use Rattle.std.proofs.lemmas.Bool.Decides.{Decides-eqb, nat_tests}
 use Rattle.std.proofs.lemmas.Slice.Eq.{starts_is, bytes_eq-Decides}
 use Rattle.std.proofs.lemmas.List.{drop_at, take_at, length-append}
 use Rattle.std.proofs.lemmas.Str.{chars-IsAscii, encodes-IsAscii, encodes-chars}
-use Rattle.nx_base.specs.Characters.{is_space}
+use Rattle.nx_base.specs.Characters.{is_space, is_quote}
 use Rattle.nx_base.specs.Form.{Form, space, one, seq, Spells}
 use Rattle.nx_base.specs.Tags.{spaces}
 use Rattle.nx_events.specs.Words.{word, one_of, in_any_case, optional, some, digit}
 use Rattle.nx_events.specs.DeclarationForm.{equals, within, quoted, version_number, encoding_name, yes_or_no, declaration_form, DeclarationsAreSpelled}
-use Rattle.nx_events.specs.XmlDeclaration.{after_spaces, after_some_spaces, after_word, after_equals, is_quote, is_version, is_encoding, is_yes_or_no, word_of, may_be, after_value, after_spaced_word, after_setting, after_optional_setting, after_settings, is_end_of_declaration, is_xml_declaration}
+use Rattle.nx_events.specs.XmlDeclaration.{after_spaces, after_some_spaces, after_word, after_equals, is_version, is_encoding, is_yes_or_no, word_of, may_be, after_value, after_spaced_word, after_setting, after_optional_setting, after_settings, is_end_of_declaration, is_xml_declaration}
 use Rattle.nx_events.specs.declared.declaration.Setting.{Setting}
 use Rattle.nx_events.specs.declared.declaration.Setting.TheVariants.{Version, Encoding, Standalone}
 use Rattle.nx_events.proofs.Spelling.{first_at}

@@ -9,12 +9,12 @@ use Rattle.std.proofs.lemmas.Bool.Decides.{Decides-eqb}
 use Rattle.std.proofs.lemmas.Slice.Eq.{starts_is, bytes_eq-Decides}
 use Rattle.std.proofs.lemmas.List.{length-take-le}
 use Rattle.std.proofs.lemmas.List.Sums.{passes_at_first, split_at_first}
-use Rattle.nx_base.specs.Characters.{is_space}
+use Rattle.nx_base.specs.Characters.{is_space, is_quote}
 use Rattle.nx_base.specs.Form.{Form, space, nothing, one, seq, alt, Spells}
 use Rattle.nx_base.specs.Tags.{spaces}
 use Rattle.nx_events.specs.Words.{word, optional, some, digit}
 use Rattle.nx_events.specs.DeclarationForm.{equals, within, quoted, setting, version_number, encoding_name, yes_or_no, version_setting, encoding_setting, standalone_setting, declaration_form}
-use Rattle.nx_events.specs.XmlDeclaration.{after_spaces, after_some_spaces, after_word, after_equals, is_quote, is_version, is_encoding, is_yes_or_no, word_of, may_be, after_value, after_spaced_word, after_setting, after_optional_setting, after_settings, is_end_of_declaration, is_xml_declaration}
+use Rattle.nx_events.specs.XmlDeclaration.{after_spaces, after_some_spaces, after_word, after_equals, is_version, is_encoding, is_yes_or_no, word_of, may_be, after_value, after_spaced_word, after_setting, after_optional_setting, after_settings, is_end_of_declaration, is_xml_declaration}
 use Rattle.nx_events.specs.declared.declaration.Setting.{Setting}
 use Rattle.nx_events.specs.declared.declaration.Setting.TheVariants.{Version, Encoding, Standalone}
 use Rattle.nx_events.proofs.Texts.{place_fits}
@@ -154,9 +154,9 @@ within_spells q form value s =
 pub quoted_spells : (q : ℕ) (form : Form) (value : List ℕ) → is_quote q ≡ true → Spells form value → Spells (quoted form) (q ∷ (value ++ q ∷ []))
 unfolding Spells
 quoted_spells q form value h s =
-    elim (or_cases (q == 39) (q == 34) h) [
-      | inl e ↦ inl (subst (λ x. Spells (within x form) (q ∷ (value ++ q ∷ []))) (eqb-true q 39 e) (within_spells q form value s))
-      | inr e ↦ inr (subst (λ x. Spells (within x form) (q ∷ (value ++ q ∷ []))) (eqb-true q 34 e) (within_spells q form value s))
+    elim (or_cases (q == 34) (q == 39) h) [
+      | inl e ↦ inr (subst (λ x. Spells (within x form) (q ∷ (value ++ q ∷ []))) (eqb-true q 34 e) (within_spells q form value s))
+      | inr e ↦ inl (subst (λ x. Spells (within x form) (q ∷ (value ++ q ∷ []))) (eqb-true q 39 e) (within_spells q form value s))
     ]
 
 value_read : (k : Setting) (xs rest : List ℕ) → after_value k xs ≡ Some rest → Read (quoted (value_form k)) xs rest

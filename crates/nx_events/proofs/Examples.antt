@@ -67,6 +67,14 @@ wrong_end_events : events_in (items_of (laid 0 (written tokens.Start (codes "<a>
 unfolding is_char is_space is_name_start is_name_char laid faults_in events_in encode_utf8 chars character_flaw tag_flaw text_flaw once character_faults faults_behind is_declaration declared_prefix is_bad_binding flaw_kind faults_at bindings_at declaration_faults bindings element_resolved new_or_flaw attribute_resolved resolved_if_attribute attribute_items declaration_items doctype_items comment_items pi_items cdata_items text_items start_items empty_items around_innermost end_items items_of_token state_behind items_at_end items_from has_loose_hyphen is_bad_comment is_bad_pi begins_unprefixed goes_on_unprefixed is_ncname prefix_of local_of is_qname name_chars_len name_len reference_body_len reference_len char_of_code numbered character_named referenced spelled run_items last_uri bound_uri element_uri attribute_uri cut_by line_piece_len text_piece_len line_string_of text_string_of value_string_of string_of written_name value_len written_value attribute_len begins_attribute attribute_at front_attribute front_len attributes_from tag_attributes AreTokensFrom front_char after_some_spaces after_word after_equals is_version is_encoding is_yes_or_no after_value after_spaced_word after_setting after_optional_setting after_settings is_xml_declaration
 wrong_end_events = refl
 
+-- a run goes on over a comment, and its span from its first token to its last
+run_over_comment : events_in (items_of (laid 0 (written tokens.Start (codes "<a>") ∷ written tokens.Text (codes "x")
+    ∷ written tokens.Comment (codes "<!--y-->") ∷ written tokens.Text (codes "z") ∷ written tokens.End (codes "</a>") ∷ [])) 17)
+    ≡ (event 0 3 (Enter (record { ns = codes ""; local = codes "a" })) ∷ event 0 3 TagEnd ∷ event 3 13 (Chars (codes "xz"))
+    ∷ event 13 17 Leave ∷ [])
+unfolding is_char is_space is_name_start is_name_char laid faults_in events_in encode_utf8 chars character_flaw tag_flaw text_flaw once character_faults faults_behind is_declaration declared_prefix is_bad_binding flaw_kind faults_at bindings_at declaration_faults bindings element_resolved new_or_flaw attribute_resolved resolved_if_attribute attribute_items declaration_items doctype_items comment_items pi_items cdata_items text_items start_items empty_items around_innermost end_items items_of_token state_behind items_at_end items_from has_loose_hyphen is_bad_comment is_bad_pi begins_unprefixed goes_on_unprefixed is_ncname prefix_of local_of is_qname name_chars_len name_len reference_body_len reference_len char_of_code numbered character_named referenced spelled run_items last_uri bound_uri element_uri attribute_uri cut_by line_piece_len text_piece_len line_string_of text_string_of value_string_of string_of written_name value_len written_value attribute_len begins_attribute attribute_at front_attribute front_len attributes_from tag_attributes AreTokensFrom front_char after_some_spaces after_word after_equals is_version is_encoding is_yes_or_no after_value after_spaced_word after_setting after_optional_setting after_settings is_xml_declaration
+run_over_comment = refl
+
 twice : faults_in (items_of (laid 0 (written tokens.Start (codes "<a x='1' x='2'>") ∷ written tokens.Text (codes "&nbsp;") ∷ written tokens.End (codes "</a>") ∷ [])) 25) ≡ (fault 9 14 kinds.DuplicateAttribute "x" ∷ fault 15 21 kinds.BadReference "" ∷ [])
 unfolding is_char is_space is_name_start is_name_char laid faults_in events_in encode_utf8 chars character_flaw tag_flaw text_flaw once character_faults faults_behind is_declaration declared_prefix is_bad_binding flaw_kind faults_at bindings_at declaration_faults bindings element_resolved new_or_flaw attribute_resolved resolved_if_attribute attribute_items declaration_items doctype_items comment_items pi_items cdata_items text_items start_items empty_items around_innermost end_items items_of_token state_behind items_at_end items_from has_loose_hyphen is_bad_comment is_bad_pi begins_unprefixed goes_on_unprefixed is_ncname prefix_of local_of is_qname name_chars_len name_len reference_body_len reference_len char_of_code numbered character_named referenced spelled run_items last_uri bound_uri element_uri attribute_uri cut_by line_piece_len text_piece_len line_string_of text_string_of value_string_of string_of written_name value_len written_value attribute_len begins_attribute attribute_at front_attribute front_len attributes_from tag_attributes AreTokensFrom front_char after_some_spaces after_word after_equals is_version is_encoding is_yes_or_no after_value after_spaced_word after_setting after_optional_setting after_settings is_xml_declaration
 twice = refl

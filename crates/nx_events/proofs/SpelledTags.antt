@@ -6,10 +6,9 @@ use lib.Utf8.{encodes, scalar, scalars}
 use Rattle.std.proofs.lemmas.Bool.{and_parts, eqb-true}
 use Rattle.std.proofs.lemmas.List.{length-append}
 use Rattle.std.proofs.lemmas.Str.{encode_ascii, encodes-append}
-use Rattle.nx_base.specs.Characters.{is_space}
+use Rattle.nx_base.specs.Characters.{is_space, is_quote}
 use Rattle.nx_base.specs.Form.{Form, space, only, other_than, has, one, seq, joined, Spells}
 use Rattle.nx_base.specs.Tags.{name_form, spaces, quoted_rest, value_form, attribute, tag_rest, end_form}
-use Rattle.nx_events.specs.XmlDeclaration.{is_quote}
 use Rattle.nx_events.specs.Tags.{is_between, start_name, end_name, written_name, tag_attributes}
 use Rattle.nx_events.specs.Spelling.{Written, AreSpaces, IsNameByte, IsWritten, spelled_before, spelled_all, AreBetween, IsTag, spelled_tag}
 use Rattle.nx_events.specs.SpelledTags.{IsName, HasNoLess, IsSpelledTag, IsSpelledEnd}

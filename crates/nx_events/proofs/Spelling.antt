@@ -5,8 +5,7 @@ use Rattle.std.specs.List.{AllByRecursion, position_or_len, prefix_len}
 use Rattle.std.proofs.lemmas.List.{take_at, drop_at, append-nil}
 use Rattle.std.proofs.Math.Seq.{drop-append-add}
 use Rattle.std.proofs.lemmas.Bool.Decides.{Decides-eqb, nat_tests}
-use Rattle.nx_base.specs.Characters.{is_space}
-use Rattle.nx_events.specs.XmlDeclaration.{is_quote}
+use Rattle.nx_base.specs.Characters.{is_space, is_quote}
 use Rattle.nx_events.specs.Strings.{string_of}
 use Rattle.nx_events.specs.Tags.{is_between, ends_name, written_name, quote_place, value_len, written_value, attribute_len, begins_attribute, attribute_at, front_attribute, front_len, attributes_from, tag_attributes}
 use Rattle.nx_events.specs.declared.reading.Reading.TheVariants.{Value}

@@ -7,10 +7,9 @@ use Rattle.std.proofs.lemmas.Bool.{cases_lt, or_cases, eqb-true, ltb-true}
 use Rattle.std.proofs.lemmas.Bool.Decides.{nat_tests}
 use Rattle.std.proofs.lemmas.List.{length-append}
 use Rattle.std.proofs.lemmas.Str.{encode_ascii, chars-encodes, len_utf8_bounds, length-encode}
-use Rattle.nx_base.specs.Characters.{is_space, is_name_start, is_name_char}
+use Rattle.nx_base.specs.Characters.{is_space, is_name_start, is_name_char, is_quote}
 use Rattle.nx_base.specs.Form.{Spells}
 use Rattle.nx_base.specs.Tags.{name_form}
-use Rattle.nx_events.specs.XmlDeclaration.{is_quote}
 use Rattle.nx_events.specs.Tags.{ends_name}
 use Rattle.nx_events.specs.Spelling.{IsNameByte}
 use Rattle.nx_events.specs.SpelledTags.{IsName}
@@ -83,7 +82,7 @@ no_name_char c h =
 no_quote_char : (c : ℕ) → is_quote c ≡ true → is_name_char c ≡ false
 unfolding is_name_char is_name_start
 no_quote_char c h =
-    elim (or_cases (c == 39) (c == 34) h) [ inl e ↦ ap is_name_char (eqb-true c 39 e) | inr e ↦ ap is_name_char (eqb-true c 34 e) ]
+    elim (or_cases (c == 34) (c == 39) h) [ inl e ↦ ap is_name_char (eqb-true c 34 e) | inr e ↦ ap is_name_char (eqb-true c 39 e) ]
 
 no_char : (p : ℕ → Bool) (c : ℕ) → (p c ≡ true → is_name_char c ≡ false) → is_name_char c ≡ true → p c ≡ false
 no_char p c h k = by_test (p c) refl

@@ -29,9 +29,11 @@ left all = count_by is_leave all
 -- the number of open elements behind a token is that before it, and what its items enter, without what they leave
 abbrev pub DepthIsDifference : Type 0
 DepthIsDifference = (state : EventState) (token : Token) →
-    length state.elements + entered (items_of_token state token) ≡ length (state_behind state token).elements + left (items_of_token state token)
+    length state.elements + entered (items_of_token state token) ≡ length (state_behind state token).elements + left
+    (items_of_token state token)
 
 -- the items of any tokens, with those of their end, leave as many elements as they enter, and no front of them leaves more
 abbrev pub EntersAndLeavesBalance : Type 0
 EntersAndLeavesBalance = (all : List Token) (len : ℕ) →
-    (entered (items_of all len) ≡ left (items_of all len)) × ((front behind : List Item) → items_of all len ≡ front ++ behind → left front ≤ entered front)
+    (entered (items_of all len) ≡ left (items_of all len)) ×
+    ((front behind : List Item) → items_of all len ≡ front ++ behind → left front ≤ entered front)

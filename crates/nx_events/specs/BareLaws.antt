@@ -39,7 +39,8 @@ gives_placed state token h =
 
 pub after_placed : (state : EventState) (token : Token) → state_behind state token ≡ bare_rules.after state (lexeme_of token)
 after_placed state token =
-    ap (λ t. state_behind state t) (sym (at_place token 0 token.from (omega arith))) ∙ states_hold_no_place token.from state (token_at 0 (lexeme_of token))
+    ap (λ t. state_behind state t) (sym (at_place token 0 token.from (omega arith))) ∙ states_hold_no_place token.from state
+    (token_at 0 (lexeme_of token))
 
 pub ends_placed : (state : EventState) (len : ℕ) → run_back state.run ≤ len →
     faults_among (items_at_end state len) ≡ placed (len - run_back state.run) (ends_bare state)
@@ -64,10 +65,12 @@ bare_rule_laws = record {
   first_back = refl;
   mark_back = λ m e. no_run m.run e;
   after_back = λ m t. back_grows m (token_at 0 t);
-  gives_within = λ m t. within _ (run_back m.run + length t.bytes) (items_of_token m (token_at (run_back m.run) t)) (items_lie_in_tokens m (token_at (run_back m.run) t) (omega arith));
+  gives_within = λ m t. within _ (run_back m.run + length t.bytes) (items_of_token m (token_at (run_back m.run) t))
+      (items_lie_in_tokens m (token_at (run_back m.run) t) (omega arith));
   ends_within = λ m. within _ (run_back m.run) (items_at_end m (run_back m.run)) (items_lie_in_text m (run_back m.run) (omega arith));
 }
 
 -- all machines without a schema are one
 pub bare_later_laws : {S : Type 0} → LaterLaws {S = S} {T = EventState} (λ _ _. Unit {0}) (λ _ _. Unit {0}) (λ _ s. s) (λ _. bare_rules)
-bare_later_laws = record { same = λ _. tt; chain = λ _ _ _ _ _. tt; state = λ _ _ _ _ _. tt; meaning = λ _ _ _ _ _. refl; rule = λ _ _ _. refl }
+bare_later_laws =
+    record { same = λ _. tt; chain = λ _ _ _ _ _. tt; state = λ _ _ _ _ _. tt; meaning = λ _ _ _ _ _. refl; rule = λ _ _ _. refl }

@@ -1,5 +1,6 @@
 -- Characters that XML doesn't allow, `]]>` in character data, and references to nothing (XML 1.0, 2.2, 2.4 and 4.1).
-use Rattle.std.specs.Prelude.{ℕ, ◌+◌, Bool, true, false, ◌&&◌, ◌||◌, ◌==◌, is_some, Option, Some, None, if◌then◌else◌, List, [], ◌∷◌, ◌++◌, length, slice_index}
+use Rattle.std.specs.Prelude.{ℕ, ◌+◌, Bool, true, false, ◌&&◌, ◌||◌, ◌==◌, is_some, Option, Some, None, if◌then◌else◌, List, [], ◌∷◌}
+use Rattle.std.specs.Prelude.{◌++◌, length, slice_index}
 use Rattle.std.specs.List.{flat_map}
 use Rattle.std.specs.Str.{byte}
 use Rattle.nx_base.specs.declared.fault.Fault.{Fault}

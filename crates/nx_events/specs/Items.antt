@@ -1,5 +1,6 @@
 -- The events and faults of a list of tokens: a fold over the tokens, with plain lists for the open elements and the scope.
-use Rattle.std.specs.Prelude.{ℕ, suc, ◌+◌, Bool, true, false, not, ◌&&◌, ◌||◌, nat_lt, if◌then◌else◌, List, [], ◌∷◌, ◌++◌, length, take, drop, reverse, Option, Some, None}
+use Rattle.std.specs.Prelude.{ℕ, suc, ◌+◌, Bool, true, false, not, ◌&&◌, ◌||◌, nat_lt, if◌then◌else◌, List, [], ◌∷◌, ◌++◌, length, take}
+use Rattle.std.specs.Prelude.{drop, reverse, Option, Some, None}
 use Rattle.std.specs.List.{flat_map, list_all}
 use Rattle.std.specs.Str.{bytes_eq}
 use Rattle.nx_base.specs.Tokens.{tokens_of}
@@ -122,7 +123,8 @@ left_out kind span element =
 abbrev pub extra_end_items : Token → List Item
 extra_end_items token = items.Fault (record { span = token_span token; kind = kinds.ExtraEnd; detail = end_name token.bytes }) ∷ []
 
--- an end tag for the element behind n others: the run, the elements inside of it, innermost first, and its own end (XML 1.0, 3, Element Type Match)
+-- an end tag for the element behind n others: the run, the elements inside of it, innermost first, and its own end (XML 1.0, 3,
+-- Element Type Match)
 abbrev pub closing_items : EventState → Token → Option ℕ → List Item
 closing_items state token None = extra_end_items token
 closing_items state token (Some n) =

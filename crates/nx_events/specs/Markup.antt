@@ -1,5 +1,6 @@
 -- Comments and processing instructions (XML 1.0, 2.5 and 2.6; Namespaces in XML 1.0, section 7).
-use Rattle.std.specs.Prelude.{ℕ, ◌-◌, Bool, false, not, ◌&&◌, ◌||◌, ◌==◌, nat_eq, List, [], ◌∷◌, length, take, drop, slice_index, slice_index_or, codes}
+use Rattle.std.specs.Prelude.{ℕ, ◌-◌, Bool, false, not, ◌&&◌, ◌||◌, ◌==◌, nat_eq, List, [], ◌∷◌, length, take, drop, slice_index}
+use Rattle.std.specs.Prelude.{slice_index_or, codes}
 use Rattle.std.specs.List.{starts_with, list_any}
 use Rattle.std.specs.Str.{byte, str_eq_ignore_ascii_case}
 use Rattle.nx_base.specs.Characters.{is_space}

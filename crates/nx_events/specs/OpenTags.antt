@@ -47,7 +47,8 @@ pub data Leaves : List Token → List Token → List Token → Type 0 where
   empty_tag : (all tags run before ended : List Token) (token : Token) → Leaves before tags ended → all ≡ before ++ token ∷ [] →
       token.kind ≡ kinds.Empty → run ≡ [] → Leaves all tags run
   -- an end tag closes the innermost open start tag of its name, with all that are open inside of it, and ends the run
-  end_tag : (all tags run before inner ended : List Token) (closed token : Token) → Leaves before (tags ++ closed ∷ inner) ended → all ≡ before ++ token ∷ [] →
+  end_tag : (all tags run before inner ended : List Token) (closed token : Token) → Leaves before (tags ++ closed ∷ inner) ended
+      → all ≡ before ++ token ∷ [] →
       token.kind ≡ kinds.End → start_name closed.bytes ≡ end_name token.bytes → NoneNamed inner token → run ≡ [] → Leaves all tags run
   -- one that names no open start tag leaves all as it is
   extra_end : (all tags run before : List Token) (token : Token) → Leaves before tags run → all ≡ before ++ token ∷ [] →
@@ -58,7 +59,8 @@ pub data Leaves : List Token → List Token → List Token → Type 0 where
   data_outside : (all tags run before : List Token) (token : Token) → Leaves before tags run → all ≡ before ++ token ∷ [] →
       IsCharacterData token.kind → tags ≡ [] → Leaves all tags run
   -- so does every other token
-  passed : (all tags run before : List Token) (token : Token) → Leaves before tags run → all ≡ before ++ token ∷ [] → IsPassed token.kind → Leaves all tags run
+  passed : (all tags run before : List Token) (token : Token) → Leaves before tags run → all ≡ before ++ token ∷ []
+      → IsPassed token.kind → Leaves all tags run
 
 -- the elements of start tags, each with its written name and with how many pairs are declared around it
 unfoldable pub elements_of : ℕ → List Token → List OpenElement

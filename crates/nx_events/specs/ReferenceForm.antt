@@ -28,8 +28,11 @@ unfoldable pub value_of : ℕ → List ℕ → ℕ
 value_of base [] = 0
 value_of base (d ∷ digits) = digit_value d * base ^ length digits + value_of base digits
 
--- what stands between `&` and `;` denotes this character: as an entity, or by its number, which has to be that of a Char (4.1, Legal Character)
+-- what stands between `&` and `;` denotes this character: as an entity, or by its number, which has to be that of a Char (4.1,
+-- Legal Character)
 pub data Denotes (body : List ℕ) (c : ℕ) : Type 0 where
   entity : IsEntity entities body c → Denotes body c
-  decimal : (digits : List ℕ) → body ≡ codes "#" ++ digits → Spells (some digit) digits → c ≡ value_of 10 digits → is_char c ≡ true → Denotes body c
-  hexadecimal : (digits : List ℕ) → body ≡ codes "#x" ++ digits → Spells (some hexdigit) digits → c ≡ value_of 16 digits → is_char c ≡ true → Denotes body c
+  decimal : (digits : List ℕ) → body ≡ codes "#" ++ digits → Spells (some digit) digits → c ≡ value_of 10 digits → is_char c
+      ≡ true → Denotes body c
+  hexadecimal : (digits : List ℕ) → body ≡ codes "#x" ++ digits → Spells (some hexdigit) digits → c ≡ value_of 16 digits
+      → is_char c ≡ true → Denotes body c

@@ -20,18 +20,23 @@ joined_back string n None = omega arith
 joined_back string n (Some run) = omega arith
 
 -- either of two states
-joined_state_back : (state : EventState) (token : Token) (string : List ℕ) → run_back (joined state token string).run ≤ run_back state.run + length token.bytes
+joined_state_back : (state : EventState) (token : Token) (string : List ℕ)
+    → run_back (joined state token string).run ≤ run_back state.run + length token.bytes
 joined_state_back state token string = by_place (is_inside state)
   where
-    by_place : (t : Bool) → run_back (cond t (record state { came = true; run = run_joined string (length token.bytes) state.run }) (passed state token)).run ≤ run_back state.run + length token.bytes
+    by_place : (t : Bool)
+        → run_back (cond t (record state { came = true; run = run_joined string (length token.bytes) state.run })
+        (passed state token)).run ≤ run_back state.run + length token.bytes
     by_place true = joined_back string (length token.bytes) state.run
     by_place false = passed_back (length token.bytes) state.run
 
-closed_back : (state : EventState) (token : Token) (n : Option ℕ) → run_back (closed state token n).run ≤ run_back state.run + length token.bytes
+closed_back : (state : EventState) (token : Token) (n : Option ℕ)
+    → run_back (closed state token n).run ≤ run_back state.run + length token.bytes
 closed_back state token None = passed_back (length token.bytes) state.run
 closed_back state token (Some n) = omega arith
 
-back_by_kind : (kind : TokenKind) (state : EventState) (token : Token) → run_back (state_by_kind kind state token).run ≤ run_back state.run + length token.bytes
+back_by_kind : (kind : TokenKind) (state : EventState) (token : Token)
+    → run_back (state_by_kind kind state token).run ≤ run_back state.run + length token.bytes
 back_by_kind tokens.Start state token = omega arith
 back_by_kind tokens.Empty state token = omega arith
 back_by_kind tokens.End state token = closed_back state token (around_innermost (end_name token.bytes) state.elements)

@@ -2,8 +2,7 @@
 use Rattle.std.specs.Prelude.{◌≡◌, ℕ, ◌+◌, ◌<◌, true, false, ◌==◌, List, [], ◌∷◌, ◌++◌, length}
 use Rattle.std.specs.List.{AllByRecursion}
 use Rattle.std.specs.Str.{byte}
-use Rattle.nx_base.specs.Characters.{is_space}
-use Rattle.nx_events.specs.XmlDeclaration.{is_quote}
+use Rattle.nx_base.specs.Characters.{is_space, is_quote}
 use Rattle.nx_events.specs.Strings.{string_of}
 use Rattle.nx_events.specs.Tags.{is_between, ends_name, tag_attributes, start_name}
 use Rattle.nx_events.specs.declared.reading.Reading.TheVariants.{Value}

@@ -1,5 +1,6 @@
 -- The strings of character data and of attributes' values (XML 1.0, 2.11, 3.3.3 and 4.4).
-use Rattle.std.specs.Prelude.{ℕ, zero, suc, ◌+◌, ◌-◌, ◌&&◌, ◌==◌, nat_eq, if◌then◌else◌, List, [], ◌∷◌, length, take, drop, slice_index, codes}
+use Rattle.std.specs.Prelude.{ℕ, zero, suc, ◌+◌, ◌-◌, ◌&&◌, ◌==◌, nat_eq, if◌then◌else◌, List, [], ◌∷◌, length, take, drop, slice_index}
+use Rattle.std.specs.Prelude.{codes}
 use Rattle.std.specs.List.{starts_with, flat_map}
 use Rattle.std.specs.Str.{byte, continuation_len}
 use Rattle.nx_events.specs.declared.reading.Reading.{Reading}
@@ -12,7 +13,8 @@ pub record Piece : Type 0 where
   pub at : ℕ
   pub bytes : List ℕ
 
--- a text that begins at the place `at`, cut into pieces as long as `len` says of what is left; the first n bytes belong to a piece before it
+-- a text that begins at the place `at`, cut into pieces as long as `len` says of what is left; the first n bytes belong to a
+-- piece before it
 unfoldable pub cut_by : (List ℕ → ℕ) → ℕ → ℕ → List ℕ → List Piece
 cut_by len n at [] = []
 cut_by len (suc n) at (b ∷ bytes) = cut_by len n (at + 1) bytes

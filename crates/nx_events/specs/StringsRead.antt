@@ -1,6 +1,7 @@
 -- How character data, CDATA sections, values, comments and processing instructions are read, case by case
 -- (XML 1.0, 2.2, 2.4, 2.11, 3.3.3, 4.1 and 4.4): what stands for them, and what is wrong in them.
-use Rattle.std.specs.Prelude.{◌≡◌, ◌≢◌, ◌⊎◌, ◌↔◌, ℕ, ◌+◌, Bool, true, false, if◌then◌else◌, List, [], ◌∷◌, ◌++◌, length, codes, Option, Some, None}
+use Rattle.std.specs.Prelude.{◌≡◌, ◌≢◌, ◌⊎◌, ◌↔◌, ℕ, ◌+◌, Bool, true, false, if◌then◌else◌, List, [], ◌∷◌, ◌++◌, length, codes, Option}
+use Rattle.std.specs.Prelude.{Some, None}
 use Rattle.std.specs.Char.{encode_utf8}
 use Rattle.std.specs.Str.{IsUtf8, all_scalars}
 use Rattle.nx_base.specs.Characters.{is_char, is_space}
@@ -43,7 +44,8 @@ pub record IsOrdinary (reading : Reading) (c : ℕ) (rest : List ℕ) : Type 0 w
 pub data IsPart (reading : Reading) (rest bytes string : List ℕ) (flaw : Option Kind) : Type 0 where
   -- a line's end: CR LF, or a CR without LF (2.11)
   return_and_feed : bytes ≡ 13 ∷ 10 ∷ [] → string ≡ character_in reading 10 → flaw ≡ None → IsPart reading rest bytes string flaw
-  return : bytes ≡ 13 ∷ [] → (Begins (10 ∷ []) rest → ⊥) → string ≡ character_in reading 10 → flaw ≡ None → IsPart reading rest bytes string flaw
+  return : bytes ≡ 13 ∷ [] → (Begins (10 ∷ []) rest → ⊥) → string ≡ character_in reading 10 → flaw ≡ None
+      → IsPart reading rest bytes string flaw
   -- a character, which has to be a Char (2.2)
   character : (c : ℕ) → all_scalars (c ∷ []) ≡ true → bytes ≡ encode_utf8 c → IsOrdinary reading c rest →
       string ≡ character_in reading c → flaw ≡ flaw_of c → IsPart reading rest bytes string flaw
@@ -51,7 +53,8 @@ pub data IsPart (reading : Reading) (rest bytes string : List ℕ) (flaw : Optio
   reference : reads_references reading ≡ true → (body : List ℕ) (c : ℕ) → Denotes body c → bytes ≡ 38 ∷ (body ++ 59 ∷ []) →
       string ≡ encode_utf8 c → flaw ≡ None → IsPart reading rest bytes string flaw
   -- what has the shape of a reference and denotes nothing, through its `;` (59)
-  unknown : reads_references reading ≡ true → (body : List ℕ) → HasShape body → ((c : ℕ) → Denotes body c → ⊥) → bytes ≡ 38 ∷ (body ++ 59 ∷ []) →
+  unknown : reads_references reading ≡ true → (body : List ℕ) → HasShape body → ((c : ℕ) → Denotes body c → ⊥) → bytes
+      ≡ 38 ∷ (body ++ 59 ∷ []) →
       string ≡ [] → flaw ≡ Some BadReference → IsPart reading rest bytes string flaw
   -- a `&` that nothing of that shape follows, alone
   ampersand : reads_references reading ≡ true → ((body : List ℕ) → HasShape body → Begins (body ++ 59 ∷ []) rest → ⊥) → bytes ≡ 38 ∷ [] →
@@ -61,8 +64,10 @@ pub data IsPart (reading : Reading) (rest bytes string : List ℕ) (flaw : Optio
 
 -- a text that begins at the place `at`, part by part; its string, and all that is wrong, by place
 pub data IsReadInParts (reading : Reading) : ℕ → List ℕ → List ℕ → List Fault → Type 0 where
-  finished : (at : ℕ) (bytes string : List ℕ) (faults : List Fault) → bytes ≡ [] → string ≡ [] → faults ≡ [] → IsReadInParts reading at bytes string faults
-  goes_on : (at : ℕ) (bytes string : List ℕ) (faults : List Fault) (front rest first others : List ℕ) (flaw : Option Kind) (later : List Fault) →
+  finished : (at : ℕ) (bytes string : List ℕ) (faults : List Fault) → bytes ≡ [] → string ≡ [] → faults ≡ []
+      → IsReadInParts reading at bytes string faults
+  goes_on : (at : ℕ) (bytes string : List ℕ) (faults : List Fault) (front rest first others : List ℕ) (flaw : Option Kind)
+      (later : List Fault) →
       IsPart reading rest front first flaw → IsReadInParts reading (at + length front) rest others later →
       bytes ≡ front ++ rest → string ≡ first ++ others → faults ≡ bare_faults flaw (record { from = at; to = at + length front }) ++ later →
       IsReadInParts reading at bytes string faults
@@ -80,9 +85,11 @@ HasKind (other ∷ kinds) kind = (other ≡ kind) ⊎ HasKind kinds kind
 -- of faults behind others of these kinds those that are told: not one of a kind that is told once and came before
 pub data AreTold : List Kind → List Fault → List Fault → Type 0 where
   none : (before : List Kind) (all told : List Fault) → all ≡ [] → told ≡ [] → AreTold before all told
-  again : (before : List Kind) (all told : List Fault) (fault : Fault) (others : List Fault) → IsToldOnce fault.kind → HasKind before fault.kind →
+  again : (before : List Kind) (all told : List Fault) (fault : Fault) (others : List Fault) → IsToldOnce fault.kind
+      → HasKind before fault.kind →
       AreTold (fault.kind ∷ before) others told → all ≡ fault ∷ others → AreTold before all told
-  new : (before : List Kind) (all told : List Fault) (fault : Fault) (others later : List Fault) → (IsToldOnce fault.kind → HasKind before fault.kind → ⊥) →
+  new : (before : List Kind) (all told : List Fault) (fault : Fault) (others later : List Fault)
+      → (IsToldOnce fault.kind → HasKind before fault.kind → ⊥) →
       AreTold (fault.kind ∷ before) others later → all ≡ fault ∷ others → told ≡ fault ∷ later → AreTold before all told
 
 -- the string that stands for bytes at a place, and their faults

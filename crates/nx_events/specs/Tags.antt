@@ -1,11 +1,11 @@
 -- What is written in a tag (XML 1.0, 3.1 [40] to [44]).
-use Rattle.std.specs.Prelude.{ℕ, zero, suc, ◌+◌, ◌-◌, Bool, not, ◌&&◌, ◌||◌, ◌==◌, nat_le, if◌then◌else◌, List, [], ◌∷◌, ◌++◌, length, take, drop, slice_index}
+use Rattle.std.specs.Prelude.{ℕ, zero, suc, ◌+◌, ◌-◌, Bool, not, ◌&&◌, ◌||◌, ◌==◌, nat_le, if◌then◌else◌, List, [], ◌∷◌, ◌++◌, length}
+use Rattle.std.specs.Prelude.{take, drop, slice_index}
 use Rattle.std.specs.List.{position_or_len, before_first}
 use Rattle.std.specs.Str.{byte}
 use Rattle.nx_events.specs.declared.reading.Reading.TheVariants.{Value}
-use Rattle.nx_base.specs.Characters.{is_space}
+use Rattle.nx_base.specs.Characters.{is_space, is_quote}
 use Rattle.nx_events.specs.Strings.{string_of}
-use Rattle.nx_events.specs.XmlDeclaration.{is_quote}
 use Rattle.nx_events.specs.declared.tag.Attribute.{Attribute}
 
 -- what may stand behind an attribute, and behind a name
@@ -19,7 +19,8 @@ ends_name b = is_between b || b == byte "="
 unfoldable pub written_name : List ℕ → List ℕ
 written_name bytes = before_first ends_name bytes
 
--- of bytes that begin with an attribute: where its value's opening quote stands, how long the value is, the value, and how long the attribute is ([41])
+-- of bytes that begin with an attribute: where its value's opening quote stands, how long the value is, the value, and how long
+-- the attribute is ([41])
 abbrev pub quote_place : List ℕ → ℕ
 quote_place bytes = position_or_len is_quote bytes
 

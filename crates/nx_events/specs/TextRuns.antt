@@ -54,12 +54,15 @@ CharsComeFromRuns = (all : List Token) (len : ℕ) → AreTokensOf len all → A
 -- what an end tag gives for a start tag that is left open inside of the element that it ends
 abbrev pub left_open : Token → Token → List Item
 left_open end_tag tag =
-    items.Fault (record { span = token_span end_tag; kind = faults.MissingEnd; detail = start_name tag.bytes }) ∷ items.Event Leave (token_span end_tag) ∷ []
+    items.Fault
+    (record { span = token_span end_tag; kind = faults.MissingEnd; detail = start_name tag.bytes }) ∷ items.Event Leave
+    (token_span end_tag) ∷ []
 
 -- an end tag that names an open start tag gives the run, the MissingEnd of each start tag inside of that one, the innermost first,
 -- and its own Leave
 abbrev pub EndTagsEndInnermostFirst : Type 0
 EndTagsEndInnermostFirst = (front tags inner run : List Token) (closed end_tag : Token) → AreTokensOf end_tag.from front →
-    Leaves front (tags ++ closed ∷ inner) run → end_tag.kind ≡ kinds.End → start_name closed.bytes ≡ end_name end_tag.bytes → NoneNamed inner end_tag →
+    Leaves front (tags ++ closed ∷ inner) run → end_tag.kind ≡ kinds.End → start_name closed.bytes ≡ end_name end_tag.bytes
+    → NoneNamed inner end_tag →
     items_of_token (state_after first_state front) end_tag
     ≡ chars_of run ++ flat_map (left_open end_tag) (reverse inner) ++ items.Event Leave (token_span end_tag) ∷ []

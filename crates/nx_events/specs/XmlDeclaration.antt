@@ -1,11 +1,12 @@
 -- The XML declaration (XML 1.0, 2.8 and 4.3.3), read from left to right: each step gives what is left behind it.
-use Rattle.std.specs.Prelude.{ℕ, ◌+◌, Bool, false, ◌&&◌, ◌||◌, ◌==◌, nat_lt, nat_eq, if◌then◌else◌, List, length, drop, slice_index, Option, Some, None, is_some, codes, option_and_then}
+use Rattle.std.specs.Prelude.{ℕ, ◌+◌, Bool, false, ◌&&◌, ◌||◌, ◌==◌, nat_lt, nat_eq, if◌then◌else◌, List, length, drop, slice_index}
+use Rattle.std.specs.Prelude.{Option, Some, None, is_some, codes, option_and_then}
 use Rattle.std.specs.List.{starts_with, prefix_len, list_all, before_first}
-use Rattle.std.specs.Str.{byte, bytes_eq, str_eq_ignore_ascii_case}
+use Rattle.std.specs.Str.{bytes_eq, str_eq_ignore_ascii_case}
 use Rattle.std.specs.Char.{is_ascii_digit}
 use Rattle.nx_events.specs.declared.declaration.Setting.{Setting}
 use Rattle.nx_events.specs.declared.declaration.Setting.TheVariants.{Version, Encoding, Standalone}
-use Rattle.nx_base.specs.Characters.{is_space}
+use Rattle.nx_base.specs.Characters.{is_space, is_quote}
 
 infixl 10 ◌>>=◌
 abbrev pub ◌>>=◌ : {A B : Type 0} → Option A → (A → Option B) → Option B
@@ -26,10 +27,6 @@ unfoldable pub after_equals : List ℕ → Option (List ℕ)
 after_equals bytes = do
   rest ← after_word (codes "=") (after_spaces bytes)
   Some (after_spaces rest)
-
--- single or double quotes
-abbrev pub is_quote : ℕ → Bool
-is_quote b = b == byte "'" || b == 34
 
 -- VersionNum ([26])
 unfoldable pub is_version : List ℕ → Bool

@@ -2,7 +2,8 @@
 
 ghost use Rattle.std.specs.Prelude.{◌≡◌, ◌+◌, ◌<◌, ◌^◌, ◌++◌, length, OnOk, IfOk, IsTrue};
 ghost use Rattle.nx_events.specs.Faults.{bare_fault, bare_faults, faults_as_items};
-ghost use Rattle.nx_events.specs.CharacterFaults.{character_flaw, tag_flaw, text_flaw, piece_flaw, is_bad_char, is_bad_text, is_told, told_behind, new_faults, character_faults, faults_behind};
+ghost use Rattle.nx_events.specs.CharacterFaults.{character_flaw, tag_flaw, text_flaw, piece_flaw, is_bad_char, is_bad_text, is_told};
+ghost use Rattle.nx_events.specs.CharacterFaults.{told_behind, new_faults, character_faults, faults_behind};
 
 use crate::item::{Item, Items};
 use crate::piece::front_piece;

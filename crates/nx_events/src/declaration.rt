@@ -1,9 +1,12 @@
 //! The XML declaration (XML 1.0, 2.8 and 4.3.3), read from left to right: each step gives what is left behind it.
 
 ghost use Rattle.std.specs.Prelude.{◌≡◌, ◌==◌, codes, option_copied};
-ghost use Rattle.nx_events.specs.XmlDeclaration.{after_spaces, after_some_spaces, after_word, after_equals, is_version, is_encoding, is_yes_or_no, word_of, may_be, after_value, after_spaced_word, after_setting, after_optional_setting, after_settings, is_xml_declaration};
+ghost use Rattle.nx_events.specs.XmlDeclaration.{after_spaces, after_some_spaces, after_word, after_equals, is_version, is_encoding};
+ghost use Rattle.nx_events.specs.XmlDeclaration.{is_yes_or_no, word_of, may_be, after_value, after_spaced_word, after_setting};
+ghost use Rattle.nx_events.specs.XmlDeclaration.{after_optional_setting, after_settings, is_xml_declaration};
 
-use crate::front::{are_digits, begins_with_space, byte_place, is_quote, spaces_len};
+use crate::front::{are_digits, begins_with_space, byte_place, spaces_len};
+use nx_base::character::is_quote;
 
 /// A setting of the XML declaration.
 #[derive(Clone, Copy)]
@@ -99,7 +102,7 @@ impl Setting {
     fn after_value(self, bytes: &[u8]) -> Option<&[u8]>
         ensures { option_copied result ≡ after_value self bytes.now }
     {
-        if bytes.is_empty() || !is_quote(bytes[0]) {
+        if bytes.is_empty() || !is_quote(char::from(bytes[0])) {
             return None;
         }
         let rest = &bytes[1..];

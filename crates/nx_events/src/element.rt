@@ -3,7 +3,8 @@
 ghost use Rattle.std.specs.Prelude.{◌≡◌, ◌++◌, [], ◌∷◌, List, Some, IfOk, OnOk};
 ghost use Rattle.nx_events.specs.Faults.{faults_as_items};
 ghost use Rattle.nx_base.specs.declared.name.Name.{Name};
-ghost use Rattle.nx_events.specs.Elements.{flawed_as, declared_or_flaw, element_resolved, element_items, new_or_flaw, attribute_declared, declared_if_attribute, attribute_item, kept_name, attribute_items};
+ghost use Rattle.nx_events.specs.Elements.{flawed_as, declared_or_flaw, element_resolved, element_items, new_or_flaw, attribute_declared};
+ghost use Rattle.nx_events.specs.Elements.{declared_if_attribute, attribute_item, kept_name, attribute_items};
 ghost use Rattle.nx_events.specs.SeenNames.{AreKept, new_of};
 
 use crate::flaw::{Flaw, Resolved};
@@ -94,7 +95,8 @@ fn keep_new(
     resolved: Resolved,
     written: &[u8],
 ) -> Result<Resolved, NoMemory>
-    ensures outcome { (names : List Name) → AreKept kept.old.names.keys names → IfOk result (λ outcome. outcome ≡ new_or_flaw names resolved written.now) }
+    ensures outcome { (names : List Name) → AreKept kept.old.names.keys names → IfOk result
+        (λ outcome. outcome ≡ new_or_flaw names resolved written.now) }
     ensures kept { (names : List Name) → AreKept kept.old.names.keys names →
         IfOk result (λ outcome. AreKept kept.new.names.keys (names ++ kept_name (Some outcome))) }
 {
@@ -167,8 +169,10 @@ fn push_attribute(
     it: &Attribute,
     declared: Option<Resolved>,
 ) -> Result<(), NoMemory>
-    ensures items { (names : List Name) → AreKept kept.old.names.keys names → OnOk result (items.new ≡ items.old ++ attribute_item it.now (new_of names declared it.now.name)) }
-    ensures kept { (names : List Name) → AreKept kept.old.names.keys names → OnOk result (AreKept kept.new.names.keys (names ++ kept_name (new_of names declared it.now.name))) }
+    ensures items { (names : List Name) → AreKept kept.old.names.keys names → OnOk result
+        (items.new ≡ items.old ++ attribute_item it.now (new_of names declared it.now.name)) }
+    ensures kept { (names : List Name) → AreKept kept.old.names.keys names → OnOk result
+        (AreKept kept.new.names.keys (names ++ kept_name (new_of names declared it.now.name))) }
 {
     match declared {
         None => {}

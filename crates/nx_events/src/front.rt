@@ -3,9 +3,10 @@
 ghost use Rattle.std.specs.Prelude.{◌≡◌, ◌≤◌, ◌==◌, length, slice_index};
 ghost use Rattle.std.specs.List.{prefix_len, position_or_len, list_all};
 ghost use Rattle.std.specs.Char.{is_ascii_digit, is_ascii_hexdigit};
-ghost use Rattle.nx_base.specs.Characters.{is_space};
-ghost use Rattle.nx_events.specs.XmlDeclaration.{is_quote};
+ghost use Rattle.nx_base.specs.Characters.{is_space, is_quote};
 ghost use Rattle.nx_events.specs.Tags.{is_between, ends_name};
+
+use nx_base::character::is_quote;
 
 /// Whether the byte is white space of XML.
 #[tactic(auto, unfolding(nx_base::specs::Characters::is_space))]
@@ -38,13 +39,6 @@ pub(crate) fn are_spaces(bytes: &[u8]) -> bool
     ensures { result ≡ list_all is_space bytes.now }
 {
     bytes.iter().all(|b| is_space(*b))
-}
-
-/// Whether the byte is a single or double quote.
-pub(crate) fn is_quote(b: u8) -> bool
-    ensures { result ≡ is_quote b }
-{
-    b == b'\'' || b == b'"'
 }
 
 /// Whether the byte may stand behind an attribute of a tag.
@@ -104,7 +98,7 @@ pub(crate) fn quote_place(bytes: &[u8]) -> usize
     ensures bound { result ≤ length bytes.now }
 {
     for (i, b) in bytes.iter().enumerate() {
-        if is_quote(*b) {
+        if is_quote(char::from(*b)) {
             return i;
         }
     }

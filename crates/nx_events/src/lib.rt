@@ -50,3 +50,8 @@ mod tag_names;
 #[cfg(test)]
 mod tests;
 mod text_token;
+
+pub use equal::same;
+pub use item::{Event, Item, Items};
+pub use reader::{begin, copy, depth, finish, pass_token, pending, read, take};
+pub use state::EventState;

@@ -3,7 +3,8 @@
 ghost use Rattle.std.specs.Prelude.{◌≡◌, ◌++◌, [], ◌∷◌, List, IfOk, OnOk};
 ghost use Rattle.nx_events.specs.Faults.{fault_of, faults_as_items};
 ghost use Rattle.nx_events.specs.declared.tag.Attribute.{Attribute};
-ghost use Rattle.nx_events.specs.Declarations.{is_declaration, declared_prefix, is_bad_binding, flaw_if, with_name, flaw_faults, binding_unless, faults_at, bindings_at, declaration_faults, bindings};
+ghost use Rattle.nx_events.specs.Declarations.{is_declaration, declared_prefix, is_bad_binding, flaw_if, with_name, flaw_faults};
+ghost use Rattle.nx_events.specs.Declarations.{binding_unless, faults_at, bindings_at, declaration_faults, bindings};
 ghost use Rattle.nx_events.specs.SeenNames.{AreDeclared};
 
 use crate::flaw::Flaw;
@@ -86,7 +87,8 @@ fn declare(
     came: bool,
     it: &Attribute,
 ) -> Result<(), NoMemory>
-    ensures faults { OnOk result (items.new ≡ items.old ++ faults_as_items (flaw_faults it.now.span (with_name it.now.name (flaw_if came it.now)))) }
+    ensures faults { OnOk result
+        (items.new ≡ items.old ++ faults_as_items (flaw_faults it.now.span (with_name it.now.name (flaw_if came it.now)))) }
     ensures pairs { OnOk result (own.new ≡ own.old ++ binding_unless it.now (with_name it.now.name (flaw_if came it.now))) }
 {
     match flaw_if(came, it) {
@@ -113,9 +115,12 @@ fn declare_if(
     came: &mut TagNames,
     it: &Attribute,
 ) -> Result<(), NoMemory>
-    ensures faults { (before : List Attribute) → AreDeclared came.old.names.keys before → OnOk result (items.new ≡ items.old ++ faults_as_items (faults_at before it.now)) }
-    ensures pairs { (before : List Attribute) → AreDeclared came.old.names.keys before → OnOk result (own.new ≡ own.old ++ bindings_at before it.now) }
-    ensures came { (before : List Attribute) → AreDeclared came.old.names.keys before → OnOk result (AreDeclared came.new.names.keys (before ++ it.now ∷ [])) }
+    ensures faults { (before : List Attribute) → AreDeclared came.old.names.keys before → OnOk result
+        (items.new ≡ items.old ++ faults_as_items (faults_at before it.now)) }
+    ensures pairs { (before : List Attribute) → AreDeclared came.old.names.keys before → OnOk result
+        (own.new ≡ own.old ++ bindings_at before it.now) }
+    ensures came { (before : List Attribute) → AreDeclared came.old.names.keys before → OnOk result
+        (AreDeclared came.new.names.keys (before ++ it.now ∷ [])) }
 {
     if is_declaration(it.name.as_slice()) {
         let is_double = came.insert(alloc, &[], it.name.as_slice())?;

@@ -1,7 +1,8 @@
 //! Texts in pieces, and the strings that they stand for.
 
 ghost use Rattle.std.specs.Prelude.{◌≡◌, ◌<◌, ◌≤◌, ◌++◌, [], length, take, OnOk, IfOk};
-ghost use Rattle.nx_events.specs.Strings.{line_piece_len, text_piece_len, piece_len, line_string_of, text_string_of, value_string_of, piece_string, string_of};
+ghost use Rattle.nx_events.specs.Strings.{line_piece_len, text_piece_len, piece_len, line_string_of, text_string_of, value_string_of};
+ghost use Rattle.nx_events.specs.Strings.{piece_string, string_of};
 
 use crate::front::is_space;
 use crate::plain::plain_len;

@@ -200,27 +200,6 @@ pub fn take(alloc: Global, state: &mut EventState, token: &Token) -> Result<Item
     Ok(items)
 }
 
-/// The same in the memory of a list that was used before, whatever it held.
-pub fn take_again(
-    alloc: Global,
-    used: Items,
-    state: &mut EventState,
-    token: &Token,
-) -> Result<Items, NoMemory>
-    requires place { run_back state.old.run ≤ token.now.from }
-    requires room { token.now.from + length token.now.bytes < 2 ^ 64 }
-    ensures items { IfOk result (λ items. items ≡ items_of_token state.old token.now) }
-    ensures state { OnOk result (state.new ≡ state_behind state.old token.now) }
-    ensures unchanged { OnErr result (state.new ≡ state.old) }
-    ensures text { TokenIsText token.now → StateIsText state.old → IfOk result ItemsAreText }
-    ensures state_text { TokenIsText token.now → StateIsText state.old → StateIsText state.new }
-{
-    let mut items = used;
-    items.cut(0, items.len());
-    take_into(alloc, &mut items, state, token)?;
-    Ok(items)
-}
-
 /// The items of the end of a text of `len` bytes.
 pub fn finish(alloc: Global, state: &EventState, len: usize) -> Result<Items, NoMemory>
     requires { run_back state.now.run ≤ len }

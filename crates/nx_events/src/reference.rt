@@ -3,7 +3,8 @@
 ghost use Rattle.std.specs.Prelude.{◌≡◌, ◌+◌, ◌-◌, ◌*◌, ◌<◌, ◌≤◌, [], ◌++◌, length, take, drop, min, ◌^◌, OnOk};
 ghost use Rattle.std.specs.Str.Parse.{digits_value};
 ghost use Rattle.nx_base.specs.CharacterCodes.{char_of_code};
-ghost use Rattle.nx_events.specs.References.{name_chars_len, name_len, behind_mark, reference_body_len, reference_len, numbered, character_named, referenced, spelled};
+ghost use Rattle.nx_events.specs.References.{name_chars_len, name_len, behind_mark, reference_body_len, reference_len, numbered};
+ghost use Rattle.nx_events.specs.References.{character_named, referenced, spelled};
 
 use crate::front::{digits_len, hexdigits_len};
 use crate::utf8::{continuation_len, front_char, is_name_char, is_name_start};

@@ -1,6 +1,7 @@
 //! Lists of things with names, in which the last one of a name is found without looking through the whole list.
 
-ghost use Rattle.std.specs.Prelude.{◌≡◌, ◌-◌, ◌<◌, ◌≤◌, ◌++◌, ◌∷◌, [], ℕ, List, length, take, map, option_copied, IfSome, IfOk, OnOk, OnErr};
+ghost use Rattle.std.specs.Prelude.{◌≡◌, ◌-◌, ◌<◌, ◌≤◌, ◌++◌, ◌∷◌, [], ℕ, List, length, take, map, option_copied, IfSome, IfOk, OnOk};
+ghost use Rattle.std.specs.Prelude.{OnErr};
 ghost use Rattle.nx_events.specs.Places.{last_place, last_named, one_name_more, one_name_less};
 
 use crate::name_places::NamePlaces;

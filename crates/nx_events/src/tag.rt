@@ -1,7 +1,8 @@
 //! What is written in a tag (XML 1.0, 3.1).
 
 ghost use Rattle.std.specs.Prelude.{◌≡◌, ◌+◌, ◌<◌, ◌≤◌, ◌^◌, ◌++◌, true, false, length, IfOk, OnOk, MatchOption};
-ghost use Rattle.nx_events.specs.Tags.{written_name, quote_place, value_len, attribute_len, begins_attribute, attribute_at, front_attribute, front_len, attributes_from, start_name, end_name, tag_attributes};
+ghost use Rattle.nx_events.specs.Tags.{written_name, quote_place, value_len, attribute_len, begins_attribute, attribute_at};
+ghost use Rattle.nx_events.specs.Tags.{front_attribute, front_len, attributes_from, start_name, end_name, tag_attributes};
 
 use crate::front::{byte_place, is_between, name_end, quote_place};
 use crate::piece::string_of;

@@ -17,3 +17,9 @@ pub mod streams;
 mod tests;
 pub mod uri;
 pub mod utf8;
+
+pub use disk::{DiskFiles, StdOut};
+pub use files::{FileFault, Files};
+pub use memory_files::{MemFiles, SureFiles};
+pub use memory_out::{MemOut, SureOut};
+pub use out::{Out, OutFault};

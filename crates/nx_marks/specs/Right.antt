@@ -19,7 +19,8 @@ pub record IsRight {S M : Type 0} (is_state : S → Type 0) (means : S → M) (r
   pub faults : kept.faults ≡ faults_along rules 0 rules.first tokens
 
 -- so for some text of this length
-pub record IsRightForLength {S M : Type 0} (is_state : S → Type 0) (means : S → M) (rules : Rules M) (len : ℕ) (kept : Kept S) : Type 0 where
+pub record IsRightForLength {S M : Type 0} (is_state : S → Type 0) (means : S → M) (rules : Rules M) (len : ℕ)
+    (kept : Kept S) : Type 0 where
   pub text : List ℕ
   pub utf8 : IsUtf8 text
   pub long : length text ≡ len

@@ -13,3 +13,6 @@ pub mod status;
 #[cfg(test)]
 mod tests;
 mod words;
+
+pub use run::run;
+pub use status::Status;

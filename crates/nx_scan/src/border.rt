@@ -1,6 +1,7 @@
 //! Laws of tokens and their borders. Nothing here runs.
 
-ghost use Rattle.nx_scan.specs.Borders.{TokensFit, TokensAtEnds, TokensAreOfKind, TokensDependOnRest, TokensDependOnThemselves, EditsLeaveTokens, TokensJoin, TokensGoOn, TokensFromBorder};
+ghost use Rattle.nx_scan.specs.Borders.{TokensFit, TokensAtEnds, TokensAreOfKind, TokensDependOnRest, TokensDependOnThemselves};
+ghost use Rattle.nx_scan.specs.Borders.{EditsLeaveTokens, TokensJoin, TokensGoOn, TokensFromBorder};
 
 /// A token is bytes of its text, at least one, and ends at a place.
 pub fn tokens_fit()

@@ -6,14 +6,8 @@ ghost use Rattle.std.specs.Option.{option_map};
 ghost use Rattle.nx_base.specs.Tokens.{begins_with, piece, in_subset, doctype_bytes};
 
 use crate::mark::{find_past, stands_at};
+use nx_base::character::is_quote;
 use nx_text::text::Text;
-
-/// Whether the byte begins a quoted text.
-fn is_quote(byte: u8) -> bool
-    ensures { result ≡ (byte == 34 || byte == 39) }
-{
-    matches!(byte, b'"' | b'\'')
-}
 
 /// Whether the subset is open and the mark stands at `at`.
 fn stands_in_subset(text: &Text, at: usize, subset: bool, mark: &[u8]) -> bool
@@ -38,7 +32,7 @@ fn piece_end(text: &Text, at: usize, byte: u8, subset: bool) -> Option<usize>
     ensures end { result ≡ option_map (λ n. at + n) (piece subset (drop at text.now)) }
     ensures within { IfSome result (λ end. (at < end) × (end ≤ length text.now)) }
 {
-    if is_quote(byte) {
+    if is_quote(char::from(byte)) {
         find_past(text, at + 1, &[byte])
     } else if stands_in_subset(text, at, subset, b"<!--") {
         find_past(text, at + 4, b"-->")

@@ -10,3 +10,5 @@ pub mod doctype_law;
 mod mark;
 pub mod scan;
 mod tag;
+
+pub use scan::scan_token;

@@ -1,6 +1,7 @@
 -- What reading finds at the front of a list of bytes, part by part. What a line is, `Grammar` says; reading
 -- finds the command of a line exactly where the line is that command.
-use Rattle.std.specs.Prelude.{◌≡◌, ℕ, zero, suc, Bool, ◌||◌, ◌==◌, nat_lt, if◌then◌else◌, List, [], ◌∷◌, ◌++◌, length, take, drop, codes, encode_utf8, Option, Some, None, option_map, option_and_then, Result, Ok, Err}
+use Rattle.std.specs.Prelude.{◌≡◌, ℕ, zero, suc, Bool, ◌||◌, ◌==◌, nat_lt, if◌then◌else◌, List, [], ◌∷◌, ◌++◌, length, take, drop, codes}
+use Rattle.std.specs.Prelude.{encode_utf8, Option, Some, None, option_map, option_and_then, Result, Ok, Err}
 use Rattle.std.specs.List.{prefix_len, position_or_len}
 use lib.Utf8.{scalar}
 use Rattle.std.specs.Char.{is_ascii_digit, is_digit}

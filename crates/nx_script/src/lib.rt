@@ -14,3 +14,8 @@ pub mod reply;
 #[cfg(test)]
 mod tests;
 pub mod write;
+
+pub use command::Command;
+pub use read::{ScriptFault, read_line};
+pub use reply::{Refusal, Reply};
+pub use write::write_reply;

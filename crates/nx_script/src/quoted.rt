@@ -3,7 +3,8 @@
 ghost use Rattle.std.specs.Prelude.{◌≡◌, ◌<◌, ◌≤◌, length, IfOk};
 ghost use Rattle.std.specs.List.{prefix_len};
 ghost use Rattle.std.specs.Str.Parse.{AllDigits, digits_value};
-ghost use Rattle.nx_script.specs.Reading.{Finds, onto, is_hex_digit, escaped_by, closed_at, code_at, braced_at, scalar_at, escape_at, piece_at, pieces_at, after_quote};
+ghost use Rattle.nx_script.specs.Reading.{Finds, onto, is_hex_digit, escaped_by, closed_at, code_at, braced_at, scalar_at, escape_at};
+ghost use Rattle.nx_script.specs.Reading.{piece_at, pieces_at, after_quote};
 
 use crate::read::ScriptFault;
 use std::alloc::Global;

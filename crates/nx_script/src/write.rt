@@ -3,7 +3,8 @@
 ghost use Rattle.std.specs.Prelude.{◌≡◌, ◌++◌, IfOk, OnOk, codes, string_bytes};
 ghost use Rattle.nx_host.specs.Out.{WritesInParts, CountsOutFault};
 ghost use Rattle.nx_script.specs.FaultLines.{errors_text};
-ghost use Rattle.nx_script.specs.Printing.{reply_text, frontier_text, taken_text, refused_text, refusal_text, bad_position_text, not_utf8_text};
+ghost use Rattle.nx_script.specs.Printing.{reply_text, frontier_text, taken_text, refused_text, refusal_text, bad_position_text};
+ghost use Rattle.nx_script.specs.Printing.{not_utf8_text};
 
 use crate::fault_line::errors_text;
 use crate::reply::{Refusal, Reply};

@@ -14,3 +14,5 @@ pub mod law;
 pub mod session;
 #[cfg(test)]
 mod tests;
+
+pub use session::Session;

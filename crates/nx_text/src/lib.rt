@@ -4,3 +4,5 @@
 #![tactic(auto)]
 
 pub mod text;
+
+pub use text::{Text, TextFault};

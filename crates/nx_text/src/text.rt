@@ -1,6 +1,7 @@
 //! A text that is edited at its places.
 
-ghost use Rattle.std.specs.Prelude.{◌≡◌, ◌+◌, ◌<◌, ◌≤◌, ◌^◌, ◌↔◌, [], length, encode_utf8, slice_get, slice_range, IsTrue, IfOk, OnSome, IfSome, MatchOption};
+ghost use Rattle.std.specs.Prelude.{◌≡◌, ◌+◌, ◌<◌, ◌≤◌, ◌^◌, ◌↔◌, [], length, encode_utf8, slice_get, slice_range, IsTrue, IfOk, OnSome};
+ghost use Rattle.std.specs.Prelude.{IfSome, MatchOption};
 ghost use Rattle.std.specs.Str.{IsUtf8};
 ghost use Rattle.nx_base.specs.Text.{IsPlace};
 ghost use Rattle.nx_text.specs.Editing.{Inserts, Deletes};

@@ -2,12 +2,12 @@
 use Rattle.std.proofs.Common.{◌≡◌, ℕ, ◌<◌, ◌≤◌, Bool, true, false, not, eqb, ◌&&◌, List, [], ◌∷◌, ◌++◌, length, drop, Option, Some, None, Result, Ok, Err, refl, sym, ap, subst, ◌∙◌, arith, inl, inr}
 use Rattle.std.proofs.lemmas.Bool.{cases_Bool, eqb-true, ne_eqb, eq-eqb, and_parts, or_cases}
 use Rattle.std.proofs.lemmas.Bool.Decides.{nat_tests}
-use Rattle.nx_base.specs.Characters.{is_space, is_name_start}
+use Rattle.nx_base.specs.Characters.{is_space, is_name_start, is_quote}
 use Rattle.rnc_lex.specs.declared.front.Front.{Front}
 use Rattle.rnc_lex.specs.declared.letter.Letter.{Letter}
 use Rattle.rnc_lex.specs.declared.fault.LexFault.{LexFault}
 use Rattle.rnc_lex.specs.declared.token.Lexeme.{Lexeme}
-use Rattle.rnc_lex.specs.Tokens.{begins_nc_name, is_quote, Stands, identifier, keyword, escaped_identifier, prefixed_name, namespace_wildcard, short_literal as short_stands, long_literal as long_stands, symbol, IsPassedOver, space, comment, BeginsNothing}
+use Rattle.rnc_lex.specs.Tokens.{begins_nc_name, Stands, identifier, keyword, escaped_identifier, prefixed_name, namespace_wildcard, short_literal as short_stands, long_literal as long_stands, symbol, IsPassedOver, space, comment, BeginsNothing}
 use Rattle.rnc_lex.specs.Reading.{front, front_of, literal, escaped_name, named, marked, comment_len}
 use Rattle.rnc_lex.proofs.Meant.{Meant, is_meant, IsFront}
 use Rattle.rnc_lex.proofs.Names.{IsName, name_parts, keyword_is, identifier_is}

@@ -6,7 +6,8 @@ use Rattle.std.proofs.lemmas.List.{append_assoc, length-append, take_at, drop_at
 use Rattle.rnc_lex.specs.declared.letter.Letter.{Letter}
 use Rattle.rnc_lex.specs.declared.token.Lexeme.{Lexeme}
 use Rattle.rnc_lex.specs.declared.token.Lexeme.TheVariants as lexeme
-use Rattle.rnc_lex.specs.Tokens.{said, utf8, Begins, is_quote, AreInLine, three, AreUpToThree, short_literal as short_stands, long_literal as long_stands}
+use Rattle.nx_base.specs.Characters.{is_quote}
+use Rattle.rnc_lex.specs.Tokens.{said, utf8, Begins, AreInLine, three, AreUpToThree, short_literal as short_stands, long_literal as long_stands}
 use Rattle.rnc_lex.specs.Reading.{front, begins_two, begins_three, before_three, up_to_three, long_literal, is_in_line, line_len, closed, short_literal, literal}
 use Rattle.rnc_lex.proofs.Escapes.{chosen}
 use Rattle.rnc_lex.proofs.Prefixes.{Pass, FirstFails, prefix_len_is, front_passes, both, not_false}

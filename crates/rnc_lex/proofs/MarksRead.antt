@@ -4,7 +4,7 @@ use Rattle.std.specs.List.{AllByRecursion}
 use Rattle.std.proofs.lemmas.Bool.{cases_Bool, eqb-true, eqb-false, ne_eqb, and_parts}
 use Rattle.std.proofs.lemmas.List.{take-append-drop}
 use Rattle.std.proofs.lemmas.List.Folds.{length-prefix_len}
-use Rattle.nx_base.specs.Characters.{is_space, is_name_start}
+use Rattle.nx_base.specs.Characters.{is_space, is_name_start, is_quote}
 use Rattle.rnc_lex.specs.declared.letter.Letter.{Letter}
 use Rattle.rnc_lex.specs.declared.fault.LexFault.TheVariants.{BadCharacter}
 use Rattle.rnc_lex.specs.declared.token.Symbol.{Symbol}
@@ -12,7 +12,7 @@ use Rattle.rnc_lex.specs.declared.token.Symbol.TheVariants as mark
 use Rattle.rnc_lex.specs.declared.token.Lexeme.{Lexeme}
 use Rattle.rnc_lex.specs.declared.token.Lexeme.TheVariants as lexeme
 use Rattle.rnc_lex.specs.Words.{symbol_text}
-use Rattle.rnc_lex.specs.Tokens.{said, Begins, begins_nc_name, is_quote, symbol, comment}
+use Rattle.rnc_lex.specs.Tokens.{said, Begins, begins_nc_name, symbol, comment}
 use Rattle.rnc_lex.specs.Reading.{front, mark_in, singles, single_symbol, double_symbol, symbol_or, marked_single, marked, comment_len}
 use Rattle.rnc_lex.proofs.Escapes.{chosen}
 use Rattle.rnc_lex.proofs.Prefixes.{Pass, FirstFails, prefix_len_is, front_passes, rest_fails, not_false}

@@ -5,7 +5,8 @@ use Rattle.rnc_lex.specs.declared.letter.Letter.{Letter}
 use Rattle.rnc_lex.specs.declared.fault.LexFault.{LexFault}
 use Rattle.rnc_lex.specs.declared.fault.LexFault.TheVariants.{BadEscape, BadLiteral, BadCharacter, NoMemory}
 use Rattle.rnc_lex.specs.declared.token.Lexeme.{Lexeme}
-use Rattle.rnc_lex.specs.Tokens.{is_quote, Stands, IsPassedOver}
+use Rattle.nx_base.specs.Characters.{is_quote}
+use Rattle.rnc_lex.specs.Tokens.{Stands, IsPassedOver}
 use Rattle.rnc_lex.specs.Reading.{front}
 use Rattle.rnc_lex.proofs.Prefixes.{take_front}
 

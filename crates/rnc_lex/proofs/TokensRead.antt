@@ -1,7 +1,7 @@
 -- The tokens that are read are the tokens of the letters, and a fault is read where one is.
 use Rattle.std.proofs.Common.{◌≡◌, ℕ, zero, suc, ◌≤◌, Bool, true, false, not, eqb, List, [], ◌∷◌, ◌++◌, length, take, drop, Option, Some, None, Result, Ok, Err, refl, sym, ap, ◌∙◌, arith, inl, inr}
 use Rattle.std.proofs.lemmas.Bool.{eqb-true, or_cases}
-use Rattle.nx_base.specs.Characters.{is_space}
+use Rattle.nx_base.specs.Characters.{is_space, is_quote}
 use Rattle.std.proofs.lemmas.List.{append-nil, take-append-drop}
 use Rattle.rnc_lex.specs.declared.front.Front.{Front}
 use Rattle.rnc_lex.specs.declared.letter.Letter.{Letter}
@@ -9,7 +9,7 @@ use Rattle.rnc_lex.specs.declared.fault.LexFault.{LexFault}
 use Rattle.rnc_lex.specs.declared.fault.LexFault.TheVariants.{BadEscape, BadLiteral, BadCharacter, NoMemory}
 use Rattle.rnc_lex.specs.declared.token.Lexeme.{Lexeme}
 use Rattle.rnc_lex.specs.declared.token.RncToken.{RncToken}
-use Rattle.rnc_lex.specs.Tokens.{said, place_of, Begins, is_quote, IsPassedOver, space, comment, AreTokens, ended, passed, taken, BeginsNoToken, BeginsNothing}
+use Rattle.rnc_lex.specs.Tokens.{said, place_of, Begins, IsPassedOver, space, comment, AreTokens, ended, passed, taken, BeginsNoToken, BeginsNothing}
 use Rattle.rnc_lex.specs.Reading.{then_found, front, front_of, listed, after_front, tokens_from}
 use Rattle.rnc_lex.proofs.LettersRead.{then_found_same, then_found_twice}
 use Rattle.rnc_lex.proofs.TokenSteps.{tokens_skip, tokens_cons}

@@ -1,5 +1,6 @@
 -- The letters of a text: its characters after line ends and escapes (ISO/IEC 19757-2, Annex C).
-use Rattle.std.specs.Prelude.{◌≡◌, ◌≢◌, ℕ, ◌-◌, ◌==◌, ◌⊎◌, Bool, true, false, if◌then◌else◌, List, [], ◌∷◌, ◌++◌, length, replicate, codes, IsTrue}
+use Rattle.std.specs.Prelude.{◌≡◌, ◌≢◌, ℕ, ◌-◌, ◌==◌, ◌⊎◌, Bool, true, false, if◌then◌else◌, List, [], ◌∷◌, ◌++◌, length, replicate}
+use Rattle.std.specs.Prelude.{codes, IsTrue}
 use Rattle.std.specs.Str.{chars, encode_utf8_all}
 use Rattle.std.specs.Str.Parse.{IsNumeral, digits_value}
 use Rattle.nx_base.specs.Characters.{is_char}
@@ -34,7 +35,8 @@ IsLineEnd spelled rest = (spelled ≡ codes "\r\n") ⊎ ((spelled ≡ codes "\r"
 -- what stands for a letter of this character, written or from an escape, in front of the rest
 pub data StandsFor (spelled rest : List ℕ) (c : ℕ) (written : Bool) : Type 0 where
   -- a Char that neither ends a line nor begins an escape stands for itself
-  itself : spelled ≡ c ∷ [] → IsTrue (is_char c) → c ≢ 13 → (BeginsEscape (c ∷ rest) → ⊥) → written ≡ true → StandsFor spelled rest c written
+  itself : spelled ≡ c ∷ [] → IsTrue (is_char c) → c ≢ 13 → (BeginsEscape (c ∷ rest) → ⊥) → written ≡ true
+      → StandsFor spelled rest c written
   -- a written line end stands for LF
   line_end : IsLineEnd spelled rest → c ≡ 10 → written ≡ true → StandsFor spelled rest c written
   -- an escape stands for the Char that it denotes

@@ -1,13 +1,14 @@
 -- What reading finds at the front of characters and of letters. Which letters and tokens a text has, `Letters` and
 -- `Tokens` say; reading finds those, and a fault exactly where there are none.
-use Rattle.std.specs.Prelude.{◌≡◌, ℕ, zero, suc, ◌+◌, ◌&&◌, ◌==◌, not, nat_lt, Bool, true, false, if◌then◌else◌, List, [], ◌∷◌, ◌++◌, length, take, drop, slice_index, Option, Some, None, Result, Ok, Err}
+use Rattle.std.specs.Prelude.{◌≡◌, ℕ, zero, suc, ◌+◌, ◌&&◌, ◌==◌, not, nat_lt, Bool, true, false, if◌then◌else◌, List, [], ◌∷◌, ◌++◌}
+use Rattle.std.specs.Prelude.{length, take, drop, slice_index, Option, Some, None, Result, Ok, Err}
 use Rattle.std.specs.List.{prefix_len, find}
 use Rattle.std.specs.Option.{option_map}
 use Rattle.std.specs.Char.{is_ascii_hexdigit}
 use Rattle.std.specs.Str.{chars, bytes_eq}
 use Rattle.std.specs.Str.Parse.{digits_value}
 use Rattle.nx_base.specs.CharacterCodes.{char_of_code}
-use Rattle.nx_base.specs.Characters.{is_char, is_space}
+use Rattle.nx_base.specs.Characters.{is_char, is_space, is_quote}
 use Rattle.rnc_lex.specs.declared.escape.First.{First}
 use Rattle.rnc_lex.specs.declared.escape.First.TheVariants as first
 use Rattle.rnc_lex.specs.declared.front.Front.{Front}
@@ -23,7 +24,7 @@ use Rattle.rnc_lex.specs.declared.token.Lexeme.TheVariants as lexeme
 use Rattle.rnc_lex.specs.declared.token.RncToken.{RncToken}
 use Rattle.rnc_lex.specs.Letters.{place, without_mark}
 use Rattle.rnc_lex.specs.Words.{keyword_text}
-use Rattle.rnc_lex.specs.Tokens.{utf8, begins_nc_name, is_nc_name_char, is_quote}
+use Rattle.rnc_lex.specs.Tokens.{utf8, begins_nc_name, is_nc_name_char}
 
 -- a call answers what reading finds, seen by view, unless memory runs out
 abbrev pub Finds : {A B : Type 0} → (A → B) → Result A LexFault → Result B LexFault → Type 0
@@ -52,7 +53,8 @@ of_char more (Some c) = first.Letter c false more
 unfoldable pub escaped : ℕ → List ℕ → First
 escaped before inside =
     let count = prefix_len is_ascii_hexdigit inside in
-    if nat_lt 0 count && slice_index inside count == 125 then of_char (before + count + 1) (char_of_code (digits_value 16 (take count inside)))
+    if nat_lt 0 count && slice_index inside count == 125 then of_char (before + count + 1)
+    (char_of_code (digits_value 16 (take count inside)))
     else first.BrokenEscape
 
 -- what `\` (92) and the characters behind it begin with: itself, unless `x`s and `{` (123) follow it

@@ -2,7 +2,7 @@
 use Rattle.std.specs.Prelude.{◌≡◌, ◌≢◌, ℕ, ◌&&◌, ◌||◌, ◌==◌, ◌⊎◌, Bool, true, not, List, [], ◌∷◌, ◌++◌, map, codes, Result, Ok, Err, IsTrue}
 use Rattle.std.specs.List.{AllByRecursion}
 use Rattle.std.specs.Str.{encode_utf8_all}
-use Rattle.nx_base.specs.Characters.{is_space, is_name_start, is_name_char, is_nc_name}
+use Rattle.nx_base.specs.Characters.{is_space, is_name_start, is_name_char, is_nc_name, is_quote}
 use Rattle.rnc_lex.specs.declared.letter.Letter.{Letter}
 use Rattle.rnc_lex.specs.declared.fault.LexFault.{LexFault}
 use Rattle.rnc_lex.specs.declared.fault.LexFault.TheVariants.{BadEscape, BadLiteral, BadCharacter, NoMemory}
@@ -50,13 +50,10 @@ IsQualified rest = (more : List ℕ) × (rest ≡ codes ":" ++ more) × Begins (
 abbrev pub IsPlainName : List Letter → List Letter → Type 0
 IsPlainName name rest = IsWholeName name rest × (IsQualified (said rest) → ⊥)
 
--- `"` (34) or `'` (39)
-abbrev pub is_quote : ℕ → Bool
-is_quote c = (c == 34) || (c == 39)
-
 -- letters that may stand between two such quotes: not the quote, and no written newline (10)
 abbrev pub AreInLine : ℕ → List Letter → Type 0
-AreInLine quote inside = AllByRecursion (λ (letter : Letter). (letter.character ≢ quote) × ((letter.character ≡ 10) × (letter.written ≡ true) → ⊥)) inside
+AreInLine quote inside = AllByRecursion
+    (λ (letter : Letter). (letter.character ≢ quote) × ((letter.character ≡ 10) × (letter.written ≡ true) → ⊥)) inside
 
 -- three such quotes
 abbrev pub three : ℕ → List ℕ
@@ -83,14 +80,16 @@ pub data Stands (letters rest : List Letter) (found : Lexeme) : Type 0 where
       found ≡ lexeme.NamespaceWildcard (utf8 name) → Stands letters rest found
   -- between two quotes, of which three in a row would open another literal instead
   short_literal : (first last : Letter) (inside : List Letter) → letters ≡ first ∷ inside ++ last ∷ [] →
-      IsTrue (is_quote first.character) → last.character ≡ first.character → AreInLine first.character inside → (inside ≡ [] → Begins (λ c. c == first.character) (said rest) → ⊥) →
+      IsTrue (is_quote first.character) → last.character ≡ first.character → AreInLine first.character inside →
+      (inside ≡ [] → Begins (λ c. c == first.character) (said rest) → ⊥) →
       found ≡ lexeme.Literal (utf8 inside) → Stands letters rest found
   -- between three quotes and the next three in a row
   long_literal : (quote : ℕ) (before inside behind : List Letter) → letters ≡ before ++ inside ++ behind → IsTrue (is_quote quote) →
       said before ≡ three quote → said behind ≡ three quote → AreUpToThree quote (said inside) → found ≡ lexeme.Literal (utf8 inside) →
       Stands letters rest found
   -- a mark that doesn't go on to a longer one
-  symbol : (s : Symbol) → said letters ≡ symbol_text s → ((t : Symbol) (c : ℕ) (more : List ℕ) → said rest ≡ c ∷ more → symbol_text t ≢ symbol_text s ++ c ∷ []) →
+  symbol : (s : Symbol) → said letters ≡ symbol_text s
+      → ((t : Symbol) (c : ℕ) (more : List ℕ) → said rest ≡ c ∷ more → symbol_text t ≢ symbol_text s ++ c ∷ []) →
       found ≡ lexeme.Symbol s → Stands letters rest found
 
 -- these letters, in front of the rest, are passed over
@@ -128,11 +127,13 @@ BeginsNothing letters = BeginsNoToken letters × ((front more : List Letter) →
 
 -- behind tokens, at this place, a quote stands, and no literal
 abbrev pub BadLiteralAt : List ℕ → ℕ → Type 0
-BadLiteralAt text at = (rest : List Letter) × StandsBehindTokens text rest × Begins is_quote (said rest) × BeginsNoToken rest × (at ≡ place_of rest)
+BadLiteralAt text at = (rest : List Letter) × StandsBehindTokens text rest × Begins is_quote
+    (said rest) × BeginsNoToken rest × (at ≡ place_of rest)
 
 -- behind tokens, at this place, a letter stands that is no quote, and with which nothing begins
 abbrev pub NoTokenAt : List ℕ → ℕ → Type 0
-NoTokenAt text at = (rest : List Letter) × StandsBehindTokens text rest × Begins (λ c. not (is_quote c)) (said rest) × BeginsNothing rest × (at ≡ place_of rest)
+NoTokenAt text at = (rest : List Letter) × StandsBehindTokens text rest × Begins (λ c. not (is_quote c))
+    (said rest) × BeginsNothing rest × (at ≡ place_of rest)
 
 -- what reading a text answers: its tokens, or the place of the first fault. Escapes and Chars are judged in the whole text
 -- before its tokens are

@@ -5,11 +5,11 @@ ghost use Rattle.rnc_lex.specs.Reading.{Finds, comment_len, marked, marked_singl
 
 use crate::fault::LexFault;
 use crate::letter::Letter;
-use crate::literal::{is_quote, literal};
+use crate::literal::literal;
 use crate::name::{begins_nc_name, escaped_name, named};
 use crate::symbol::{double_symbol, single_symbol};
 use crate::token::Lexeme;
-use nx_base::character::is_space;
+use nx_base::character::{is_quote, is_space};
 use std::alloc::Global;
 
 /// A token, or what is passed over, and how many letters it has behind its first.

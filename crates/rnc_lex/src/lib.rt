@@ -18,3 +18,7 @@ mod symbol;
 mod tests;
 mod text;
 pub mod token;
+
+pub use fault::LexFault;
+pub use lex::tokens;
+pub use token::{RncToken, RncTokens};

@@ -2,8 +2,8 @@
 
 ghost use Rattle.std.specs.Prelude.{◌≡◌, ◌≤◌, ◌+◌, length, IfOk, IfSome};
 ghost use Rattle.std.specs.Bool.{OnTrue};
-ghost use Rattle.rnc_lex.specs.Tokens.{is_quote};
-ghost use Rattle.rnc_lex.specs.Reading.{Finds, begins_two, begins_three, before_three, is_in_line, line_len, literal, long_literal, short_literal};
+ghost use Rattle.rnc_lex.specs.Reading.{Finds, begins_two, begins_three, before_three, is_in_line, line_len, literal, long_literal};
+ghost use Rattle.rnc_lex.specs.Reading.{short_literal};
 
 use crate::fault::LexFault;
 use crate::front::Front;
@@ -11,13 +11,6 @@ use crate::letter::Letter;
 use crate::text::bytes_of_all;
 use crate::token::Lexeme;
 use std::alloc::Global;
-
-/// Whether a literal may begin with the character.
-pub(crate) fn is_quote(c: char) -> bool
-    ensures { result ≡ is_quote c }
-{
-    c == '"' || c == '\''
-}
 
 /// The literal that begins with this quote.
 #[tactic(auto, unfolding(crate::specs::Reading::literal))]

@@ -4,7 +4,8 @@ use Rattle.std.specs.Prelude.{ℕ, List, ◌∷◌}
 use Rattle.rnc_lex.specs.declared.token.Lexeme.{Lexeme}
 use Rattle.rnc_lex.specs.declared.token.Lexeme.TheVariants.{Identifier, PrefixedName, Keyword as word, Symbol as mark}
 use Rattle.rnc_lex.specs.declared.token.Symbol.{Symbol}
-use Rattle.rnc_lex.specs.declared.token.Symbol.TheVariants.{LeftBrace, RightBrace, LeftParenthesis, RightParenthesis, LeftBracket, RightBracket, Follows}
+use Rattle.rnc_lex.specs.declared.token.Symbol.TheVariants.{LeftBrace, RightBrace, LeftParenthesis, RightParenthesis, LeftBracket}
+use Rattle.rnc_lex.specs.declared.token.Symbol.TheVariants.{RightBracket, Follows}
 use Rattle.rnc_lex.specs.declared.token.Keyword.{Keyword}
 
 -- a bracket and the one that closes it

@@ -3,7 +3,8 @@ use Rattle.std.specs.Prelude.{◌≡◌, ℕ, ◌+◌, ◌-◌, ◌≤◌, ◌�
 use Rattle.rnc_lex.specs.declared.token.Lexeme.{Lexeme}
 use Rattle.rnc_lex.specs.declared.token.Lexeme.TheVariants.{Keyword as word, Symbol as mark}
 use Rattle.rnc_lex.specs.declared.token.RncToken.{RncToken}
-use Rattle.rnc_lex.specs.declared.token.Symbol.TheVariants.{LeftBrace, RightBrace, LeftParenthesis, RightParenthesis, LeftBracket, RightBracket, Equals}
+use Rattle.rnc_lex.specs.declared.token.Symbol.TheVariants.{LeftBrace, RightBrace, LeftParenthesis, RightParenthesis, LeftBracket}
+use Rattle.rnc_lex.specs.declared.token.Symbol.TheVariants.{RightBracket, Equals}
 use Rattle.rnc_lex.specs.declared.token.Keyword.TheVariants as keyword
 use Rattle.rnc_parse.specs.declared.declaration.Declaration.{Declaration}
 use Rattle.rnc_parse.specs.declared.declaration.Declaration.TheVariants as declaration

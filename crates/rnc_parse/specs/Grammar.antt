@@ -3,7 +3,8 @@ use Rattle.std.specs.Prelude.{◌≡◌, ℕ, List, [], ◌∷◌, codes}
 use Rattle.rnc_lex.specs.declared.token.Lexeme.{Lexeme}
 use Rattle.rnc_lex.specs.declared.token.Lexeme.TheVariants.{Identifier, Keyword as word, Symbol as mark}
 use Rattle.rnc_lex.specs.declared.token.Symbol.{Symbol}
-use Rattle.rnc_lex.specs.declared.token.Symbol.TheVariants.{LeftBrace, RightBrace, LeftParenthesis, RightParenthesis, Equals, BarEquals, AmpersandEquals, Comma, Bar, Ampersand, QuestionMark, Star, Plus, Minus}
+use Rattle.rnc_lex.specs.declared.token.Symbol.TheVariants.{LeftBrace, RightBrace, LeftParenthesis, RightParenthesis, Equals, BarEquals}
+use Rattle.rnc_lex.specs.declared.token.Symbol.TheVariants.{AmpersandEquals, Comma, Bar, Ampersand, QuestionMark, Star, Plus, Minus}
 use Rattle.rnc_lex.specs.declared.token.Keyword.TheVariants as keyword
 use Rattle.rnc_parse.specs.declared.surface.Namespace.TheVariants.{Uri}
 use Rattle.rnc_parse.specs.declared.surface.TypeName.{TypeName}
@@ -13,7 +14,11 @@ use Rattle.rnc_parse.specs.declared.surface.Defined.{Defined}
 use Rattle.rnc_parse.specs.declared.surface.Defined.TheVariants as defined
 use Rattle.rnc_parse.specs.declared.surface.Combine.{Combine}
 use Rattle.rnc_parse.specs.declared.surface.Combine.TheVariants as combine
-use Rattle.rnc_parse.specs.Written.{WrittenClass, WrittenPattern, element, attribute, list, mixed, ref, parent_ref, empty, any_text, not_allowed, value, typed, typed_but, external, grammar, optional, zero_or_more, one_or_more, choice, group, interleave, WrittenItem, define, div, include, WrittenItems, no_items, item_then, WrittenReplacement, define_anew, div_anew, WrittenReplacements, no_replacements, replacement_then, joined}
+use Rattle.rnc_parse.specs.Written.{WrittenClass, WrittenPattern, element, attribute, list, mixed, ref, parent_ref, empty, any_text}
+use Rattle.rnc_parse.specs.Written.{not_allowed, value, typed, typed_but, external, grammar, optional, zero_or_more, one_or_more, choice}
+use Rattle.rnc_parse.specs.Written.{group, interleave, WrittenItem, define, div, include, WrittenItems, no_items, item_then}
+use Rattle.rnc_parse.specs.Written.{WrittenReplacement, define_anew, div_anew, WrittenReplacements, no_replacements, replacement_then}
+use Rattle.rnc_parse.specs.Written.{joined}
 use Rattle.rnc_parse.specs.Scopes.{Scope}
 use Rattle.rnc_parse.specs.Annotations.{IsGroup, MayBegin, NamesElement, Follow}
 use Rattle.rnc_parse.specs.Classes.{IsClass}

@@ -1,9 +1,13 @@
--- What reading finds at the front of tokens: the steps and loops that all parts share. The program's own functions; no public contract rests on them.
-use Rattle.std.specs.Prelude.{◌≡◌, ℕ, zero, suc, Bool, false, ◌==◌, if◌then◌else◌, List, [], ◌∷◌, length, Option, Some, None, Result, Ok, Err}
+-- What reading finds at the front of tokens: the steps and loops that all parts share. The program's own functions; no public
+-- contract rests on them.
+use Rattle.std.specs.Prelude.{◌≡◌, ℕ, zero, suc, Bool, false, ◌==◌, if◌then◌else◌, List, [], ◌∷◌, length, Option, Some, None, Result, Ok}
+use Rattle.std.specs.Prelude.{Err}
 use Rattle.rnc_lex.specs.declared.token.Lexeme.{Lexeme}
 use Rattle.rnc_lex.specs.declared.token.Lexeme.TheVariants.{Symbol as mark}
 use Rattle.rnc_lex.specs.declared.token.Symbol.{Symbol}
-use Rattle.rnc_lex.specs.declared.token.Symbol.TheVariants.{LeftBrace, RightBrace, LeftParenthesis, RightParenthesis, LeftBracket, RightBracket, Equals, BarEquals, AmpersandEquals, Comma, Bar, Ampersand, QuestionMark, Star, Plus, Minus, Tilde, Follows}
+use Rattle.rnc_lex.specs.declared.token.Symbol.TheVariants.{LeftBrace, RightBrace, LeftParenthesis, RightParenthesis, LeftBracket}
+use Rattle.rnc_lex.specs.declared.token.Symbol.TheVariants.{RightBracket, Equals, BarEquals, AmpersandEquals, Comma, Bar, Ampersand}
+use Rattle.rnc_lex.specs.declared.token.Symbol.TheVariants.{QuestionMark, Star, Plus, Minus, Tilde, Follows}
 use Rattle.rnc_parse.specs.declared.stop.Stop.{Stop}
 use Rattle.rnc_parse.specs.declared.stop.Stop.TheVariants as stop
 use Rattle.rnc_parse.specs.Scopes.{Use, of_names, of_types}

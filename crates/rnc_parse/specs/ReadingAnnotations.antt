@@ -3,7 +3,8 @@ use Rattle.std.specs.Prelude.{◌≡◌, Bool, true, false, if◌then◌else◌,
 use Rattle.rnc_lex.specs.declared.token.Lexeme.{Lexeme}
 use Rattle.rnc_lex.specs.declared.token.Lexeme.TheVariants.{Identifier, PrefixedName, Keyword as word, Symbol as mark}
 use Rattle.rnc_lex.specs.declared.token.Symbol.{Symbol}
-use Rattle.rnc_lex.specs.declared.token.Symbol.TheVariants.{LeftBrace, RightBrace, LeftParenthesis, RightParenthesis, LeftBracket, RightBracket, Follows}
+use Rattle.rnc_lex.specs.declared.token.Symbol.TheVariants.{LeftBrace, RightBrace, LeftParenthesis, RightParenthesis, LeftBracket}
+use Rattle.rnc_lex.specs.declared.token.Symbol.TheVariants.{RightBracket, Follows}
 use Rattle.rnc_parse.specs.declared.stop.Stop.{Stop}
 use Rattle.rnc_parse.specs.declared.stop.Stop.TheVariants as stop
 use Rattle.rnc_parse.specs.declared.annotation.Bracket.{Bracket}

@@ -3,7 +3,9 @@ use Rattle.std.specs.Prelude.{ℕ, zero, suc, Bool, ◌&&◌, if◌then◌else�
 use Rattle.rnc_lex.specs.declared.token.Lexeme.{Lexeme}
 use Rattle.rnc_lex.specs.declared.token.Lexeme.TheVariants.{Identifier, Literal, Keyword as word, Symbol as mark}
 use Rattle.rnc_lex.specs.declared.token.Symbol.{Symbol}
-use Rattle.rnc_lex.specs.declared.token.Symbol.TheVariants.{LeftBrace, RightBrace, LeftParenthesis, RightParenthesis, LeftBracket, Equals, BarEquals, AmpersandEquals, Comma, Bar, Ampersand, QuestionMark, Star, Plus, Minus}
+use Rattle.rnc_lex.specs.declared.token.Symbol.TheVariants.{LeftBrace, RightBrace, LeftParenthesis, RightParenthesis, LeftBracket, Equals}
+use Rattle.rnc_lex.specs.declared.token.Symbol.TheVariants.{BarEquals, AmpersandEquals, Comma, Bar, Ampersand, QuestionMark, Star, Plus}
+use Rattle.rnc_lex.specs.declared.token.Symbol.TheVariants.{Minus}
 use Rattle.rnc_lex.specs.declared.token.Keyword.{Keyword}
 use Rattle.rnc_lex.specs.declared.token.Keyword.TheVariants as keyword
 use Rattle.rnc_parse.specs.declared.surface.Namespace.{Namespace}
@@ -18,7 +20,11 @@ use Rattle.rnc_parse.specs.declared.sign.Repeat.{Repeat}
 use Rattle.rnc_parse.specs.declared.sign.Repeat.TheVariants as repeat
 use Rattle.rnc_parse.specs.Scopes.{Scope}
 use Rattle.rnc_parse.specs.Parts.{built_in}
-use Rattle.rnc_parse.specs.Written.{WrittenClass, WrittenPattern, element, attribute, list, mixed, ref, parent_ref, empty, any_text, not_allowed, value, typed, typed_but, external, grammar, optional, zero_or_more, one_or_more, choice, group, interleave, WrittenItem, define, div, include, WrittenItems, no_items, item_then, items_and, WrittenReplacement, define_anew, div_anew, WrittenReplacements, no_replacements, replacement_then, replacements_and, joined_or}
+use Rattle.rnc_parse.specs.Written.{WrittenClass, WrittenPattern, element, attribute, list, mixed, ref, parent_ref, empty, any_text}
+use Rattle.rnc_parse.specs.Written.{not_allowed, value, typed, typed_but, external, grammar, optional, zero_or_more, one_or_more, choice}
+use Rattle.rnc_parse.specs.Written.{group, interleave, WrittenItem, define, div, include, WrittenItems, no_items, item_then, items_and}
+use Rattle.rnc_parse.specs.Written.{WrittenReplacement, define_anew, div_anew, WrittenReplacements, no_replacements, replacement_then}
+use Rattle.rnc_parse.specs.Written.{replacements_and, joined_or}
 use Rattle.rnc_parse.specs.declared.surface.Pattern.{Pattern}
 use Rattle.rnc_parse.specs.Views.{pattern_of}
 use Rattle.rnc_parse.specs.Reading.{Reading, read, no_reading, ◌>>=◌, first, behind, stands, behind_symbol, loop_at}

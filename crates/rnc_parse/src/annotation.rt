@@ -2,7 +2,8 @@
 
 ghost use Rattle.std.specs.Prelude.{◌≡◌, option_copied, reverse};
 ghost use Rattle.rnc_parse.specs.Reading.{Finds, first};
-ghost use Rattle.rnc_parse.specs.ReadingAnnotations.{bracket_of, behind_bracket, LeavesClosers, is_element_name, is_follower, group_at, opening_at, follower_at, follow_at};
+ghost use Rattle.rnc_parse.specs.ReadingAnnotations.{bracket_of, behind_bracket, LeavesClosers, is_element_name, is_follower, group_at};
+ghost use Rattle.rnc_parse.specs.ReadingAnnotations.{opening_at, follower_at, follow_at};
 
 use crate::cursor::Cursor;
 use crate::stop::Stop;

@@ -2,7 +2,9 @@
 
 ghost use Rattle.std.specs.Prelude.{◌≡◌, option_copied};
 ghost use Rattle.rnc_parse.specs.Reading.{Finds};
-ghost use Rattle.rnc_parse.specs.ReadingFiles.{namespace_uri_at, namespace_declaration_at, default_prefix_at, default_declaration_at, library_declaration_at, declaration_at, is_declaration, is_namespace_word, declarations_at};
+ghost use Rattle.rnc_parse.specs.ReadingFiles.{namespace_uri_at, namespace_declaration_at, default_prefix_at, default_declaration_at};
+ghost use Rattle.rnc_parse.specs.ReadingFiles.{library_declaration_at, declaration_at, is_declaration, is_namespace_word};
+ghost use Rattle.rnc_parse.specs.ReadingFiles.{declarations_at};
 
 use crate::cursor::Cursor;
 use crate::part::{any_id, is_inherit, literal};

@@ -1,6 +1,7 @@
 //! Laws of reading. Nothing here runs.
 
-ghost use Rattle.rnc_parse.specs.Laws.{TextsAreReadAsOne, WhatIsReadIsNotRefused, TextsAreRefusedForOneCause, TextsAreReadOrRefused, FilesSayOneThing, TokensSayOneThing, WhatIsSaidIsNotRefused};
+ghost use Rattle.rnc_parse.specs.Laws.{TextsAreReadAsOne, WhatIsReadIsNotRefused, TextsAreRefusedForOneCause, TextsAreReadOrRefused};
+ghost use Rattle.rnc_parse.specs.Laws.{FilesSayOneThing, TokensSayOneThing, WhatIsSaidIsNotRefused};
 
 /// A text is read as one surface at most.
 pub fn texts_are_read_as_one()

@@ -29,3 +29,6 @@ mod stop;
 pub mod surface;
 #[cfg(test)]
 mod tests;
+
+pub use read::{ReadFault, read};
+pub use surface::Surface;

@@ -4,7 +4,8 @@ ghost use Rattle.std.specs.Prelude.{◌≡◌, option_copied};
 ghost use Rattle.rnc_parse.specs.Looking.{scope_in};
 ghost use Rattle.rnc_parse.specs.Views.{class_of};
 ghost use Rattle.rnc_parse.specs.Reading.{Finds};
-ghost use Rattle.rnc_parse.specs.ReadingClasses.{is_wildcard, begins_except, wildcard_at, class_at, class_inside, except_class_at, several_classes_at, more_classes_at, annotated_class_at, one_class_at, parenthesized_at};
+ghost use Rattle.rnc_parse.specs.ReadingClasses.{is_wildcard, begins_except, wildcard_at, class_at, class_inside, except_class_at};
+ghost use Rattle.rnc_parse.specs.ReadingClasses.{several_classes_at, more_classes_at, annotated_class_at, one_class_at, parenthesized_at};
 
 use crate::annotation::{follow, opening};
 use crate::cursor::Cursor;
@@ -80,7 +81,9 @@ impl Reader {
         left: usize,
         cursor: &mut Cursor<'_>,
     ) -> Result<NameClass, Stop>
-        ensures { Finds class_of cursor.new result (except_class_at (scope_in self.now.look_ups) unprefixed.now (class_inside (scope_in self.now.look_ups) unprefixed.now left) cursor.old) }
+        ensures { Finds class_of cursor.new result
+            (except_class_at (scope_in self.now.look_ups) unprefixed.now
+            (class_inside (scope_in self.now.look_ups) unprefixed.now left) cursor.old) }
     {
         let class = self.wildcard(cursor)?;
         cursor.advance();
@@ -97,7 +100,9 @@ impl Reader {
         left: usize,
         cursor: &mut Cursor<'_>,
     ) -> Result<NameClass, Stop>
-        ensures { Finds class_of cursor.new result (several_classes_at (scope_in self.now.look_ups) unprefixed.now (class_inside (scope_in self.now.look_ups) unprefixed.now left) cursor.old) }
+        ensures { Finds class_of cursor.new result
+            (several_classes_at (scope_in self.now.look_ups) unprefixed.now
+            (class_inside (scope_in self.now.look_ups) unprefixed.now left) cursor.old) }
     {
         let first = self.one_class(unprefixed, left, cursor)?;
         follow(self.alloc, cursor)?;
@@ -116,7 +121,9 @@ impl Reader {
         left: usize,
         cursor: &mut Cursor<'_>,
     ) -> Result<NameClass, Stop>
-        ensures { Finds class_of cursor.new result (more_classes_at (scope_in self.now.look_ups) unprefixed.now (class_inside (scope_in self.now.look_ups) unprefixed.now left) (class_of first) cursor.old) }
+        ensures { Finds class_of cursor.new result
+            (more_classes_at (scope_in self.now.look_ups) unprefixed.now
+            (class_inside (scope_in self.now.look_ups) unprefixed.now left) (class_of first) cursor.old) }
     {
         let mut classes = Vec::new(self.alloc);
         classes.push(first)?;
@@ -137,7 +144,9 @@ impl Reader {
         left: usize,
         cursor: &mut Cursor<'_>,
     ) -> Result<NameClass, Stop>
-        ensures { Finds class_of cursor.new result (annotated_class_at (scope_in self.now.look_ups) unprefixed.now (class_inside (scope_in self.now.look_ups) unprefixed.now left) cursor.old) }
+        ensures { Finds class_of cursor.new result
+            (annotated_class_at (scope_in self.now.look_ups) unprefixed.now
+            (class_inside (scope_in self.now.look_ups) unprefixed.now left) cursor.old) }
     {
         opening(self.alloc, cursor)?;
         let class = self.one_class(unprefixed, left, cursor)?;
@@ -154,7 +163,9 @@ impl Reader {
         left: usize,
         cursor: &mut Cursor<'_>,
     ) -> Result<NameClass, Stop>
-        ensures { Finds class_of cursor.new result (one_class_at (scope_in self.now.look_ups) unprefixed.now (class_inside (scope_in self.now.look_ups) unprefixed.now left) cursor.old) }
+        ensures { Finds class_of cursor.new result
+            (one_class_at (scope_in self.now.look_ups) unprefixed.now
+            (class_inside (scope_in self.now.look_ups) unprefixed.now left) cursor.old) }
     {
         match cursor.first() {
             Some(Lexeme::Identifier(name)) => {
@@ -188,7 +199,9 @@ impl Reader {
         left: usize,
         cursor: &mut Cursor<'_>,
     ) -> Result<NameClass, Stop>
-        ensures { Finds class_of cursor.new result (parenthesized_at (scope_in self.now.look_ups) unprefixed.now (class_inside (scope_in self.now.look_ups) unprefixed.now left) cursor.old) }
+        ensures { Finds class_of cursor.new result
+            (parenthesized_at (scope_in self.now.look_ups) unprefixed.now
+            (class_inside (scope_in self.now.look_ups) unprefixed.now left) cursor.old) }
     {
         if left == 0 {
             return Err(Stop::Syntax);

@@ -4,7 +4,8 @@ ghost use Rattle.std.specs.Prelude.{◌≡◌, option_copied, IfOk};
 ghost use Rattle.rnc_parse.specs.Parts.{built_in};
 ghost use Rattle.rnc_parse.specs.Looking.{scope_in};
 ghost use Rattle.rnc_parse.specs.Reading.{Finds};
-ghost use Rattle.rnc_parse.specs.ReadingParts.{one_literal_at, literal_at, is_literal, any_id_at, identifier_at, is_type, begins_data, param_at, all_params_at, params_at, type_at, handed_on_at, reference_at, is_inherit};
+ghost use Rattle.rnc_parse.specs.ReadingParts.{one_literal_at, literal_at, is_literal, any_id_at, identifier_at, is_type, begins_data};
+ghost use Rattle.rnc_parse.specs.ReadingParts.{param_at, all_params_at, params_at, type_at, handed_on_at, reference_at, is_inherit};
 
 use crate::annotation::opening;
 use crate::cursor::Cursor;

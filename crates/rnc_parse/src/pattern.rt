@@ -9,7 +9,10 @@ ghost use Rattle.rnc_parse.specs.Looking.{scope_in};
 ghost use Rattle.rnc_parse.specs.Views.{pattern_of, item_of, items_in, replacement_of, replacements_in};
 ghost use Rattle.rnc_parse.specs.Written.{grammar, div, include, div_anew};
 ghost use Rattle.rnc_parse.specs.Reading.{Finds, first, behind};
-ghost use Rattle.rnc_parse.specs.ReadingPatterns.{defined_of, combine_of, begins_annotation, add_item, add_replacement, joined_all, inside_at, between, pattern_within, data_at, behind_primary_at, joined_by, particle_at, primary_at, items_within, item_at, definition_at, include_at, replacements_within, replacement_at};
+ghost use Rattle.rnc_parse.specs.ReadingPatterns.{defined_of, combine_of, begins_annotation, add_item, add_replacement, joined_all};
+ghost use Rattle.rnc_parse.specs.ReadingPatterns.{inside_at, between, pattern_within, data_at, behind_primary_at, joined_by, particle_at};
+ghost use Rattle.rnc_parse.specs.ReadingPatterns.{primary_at, items_within, item_at, definition_at, include_at, replacements_within};
+ghost use Rattle.rnc_parse.specs.ReadingPatterns.{replacement_at};
 
 use crate::annotation::{follow, group, is_element_name, opening};
 use crate::cursor::Cursor;
@@ -82,7 +85,8 @@ fn add_replacement(
     replacements: &mut Vec<Replacement>,
     one: Option<Replacement>,
 ) -> Result<(), NoMemory>
-    ensures { OnOk result (replacements_in replacements.new.items ≡ add_replacement (replacements_in replacements.old.items) (option_map replacement_of one)) }
+    ensures { OnOk result (replacements_in replacements.new.items ≡ add_replacement (replacements_in replacements.old.items)
+        (option_map replacement_of one)) }
 {
     match one {
         Some(one) => {
@@ -137,7 +141,8 @@ impl Reader {
     #[tactic(auto, unfolding(crate::specs::ReadingPatterns::pattern_within))]
     #[cycle(pattern)]
     pub(crate) fn pattern(&self, left: usize, cursor: &mut Cursor<'_>) -> Result<Pattern, Stop>
-        ensures { Finds pattern_of cursor.new result (pattern_within (scope_in self.now.look_ups) left (inside_at (scope_in self.now.look_ups) left) cursor.old) }
+        ensures { Finds pattern_of cursor.new result
+            (pattern_within (scope_in self.now.look_ups) left (inside_at (scope_in self.now.look_ups) left) cursor.old) }
     {
         opening(self.alloc, cursor)?;
         if begins_data(cursor) {
@@ -151,7 +156,8 @@ impl Reader {
     #[tactic(auto, unfolding(crate::specs::ReadingPatterns::data_at, crate::specs::ReadingPatterns::opened_primary_at))]
     #[cycle(pattern)]
     fn data(&self, left: usize, cursor: &mut Cursor<'_>) -> Result<Pattern, Stop>
-        ensures { Finds pattern_of cursor.new result (data_at (scope_in self.now.look_ups) left (inside_at (scope_in self.now.look_ups) left) cursor.old) }
+        ensures { Finds pattern_of cursor.new result
+            (data_at (scope_in self.now.look_ups) left (inside_at (scope_in self.now.look_ups) left) cursor.old) }
     {
         let name = self.type_name(cursor)?;
         let params = params(self.alloc, cursor)?;
@@ -174,7 +180,9 @@ impl Reader {
         left: usize,
         cursor: &mut Cursor<'_>,
     ) -> Result<Pattern, Stop>
-        ensures { Finds pattern_of cursor.new result (behind_primary_at (scope_in self.now.look_ups) left (inside_at (scope_in self.now.look_ups) left) (pattern_of first) cursor.old) }
+        ensures { Finds pattern_of cursor.new result
+            (behind_primary_at (scope_in self.now.look_ups) left (inside_at (scope_in self.now.look_ups) left)
+            (pattern_of first) cursor.old) }
     {
         let first = marked(self.alloc, first, cursor)?;
         match sign_of(cursor.first()) {
@@ -192,7 +200,9 @@ impl Reader {
         left: usize,
         cursor: &mut Cursor<'_>,
     ) -> Result<Pattern, Stop>
-        ensures { Finds pattern_of cursor.new result (joined_by (scope_in self.now.look_ups) left (inside_at (scope_in self.now.look_ups) left) (pattern_of first) cursor.old (Some sign)) }
+        ensures { Finds pattern_of cursor.new result
+            (joined_by (scope_in self.now.look_ups) left (inside_at (scope_in self.now.look_ups) left)
+            (pattern_of first) cursor.old (Some sign)) }
     {
         let mut particles = Vec::new(self.alloc);
         particles.push(first)?;
@@ -208,7 +218,8 @@ impl Reader {
     #[tactic(auto, unfolding(crate::specs::ReadingPatterns::particle_at, crate::specs::ReadingPatterns::opened_primary_at))]
     #[cycle(pattern)]
     fn particle(&self, left: usize, cursor: &mut Cursor<'_>) -> Result<Pattern, Stop>
-        ensures { Finds pattern_of cursor.new result (particle_at (scope_in self.now.look_ups) left (inside_at (scope_in self.now.look_ups) left) cursor.old) }
+        ensures { Finds pattern_of cursor.new result
+            (particle_at (scope_in self.now.look_ups) left (inside_at (scope_in self.now.look_ups) left) cursor.old) }
     {
         opening(self.alloc, cursor)?;
         let primary = self.primary(left, cursor)?;
@@ -219,7 +230,8 @@ impl Reader {
     #[tactic(auto, unfolding(crate::specs::ReadingPatterns::primary_at))]
     #[cycle(pattern)]
     fn primary(&self, left: usize, cursor: &mut Cursor<'_>) -> Result<Pattern, Stop>
-        ensures { Finds pattern_of cursor.new result (primary_at (scope_in self.now.look_ups) left (inside_at (scope_in self.now.look_ups) left) cursor.old) }
+        ensures { Finds pattern_of cursor.new result
+            (primary_at (scope_in self.now.look_ups) left (inside_at (scope_in self.now.look_ups) left) cursor.old) }
     {
         match cursor.first() {
             Some(Lexeme::Keyword(Keyword::Element)) => {
@@ -272,7 +284,8 @@ impl Reader {
         left: usize,
         cursor: &mut Cursor<'_>,
     ) -> Result<Pattern, Stop>
-        ensures { Finds pattern_of cursor.new result (between opening closing (inside_at (scope_in self.now.look_ups) left).pattern cursor.old) }
+        ensures { Finds pattern_of cursor.new result
+            (between opening closing (inside_at (scope_in self.now.look_ups) left).pattern cursor.old) }
     {
         cursor.expect(opening)?;
         if left == 0 {
@@ -287,7 +300,8 @@ impl Reader {
     #[tactic(auto, unfolding(crate::specs::ReadingPatterns::inside_at))]
     #[cycle(pattern)]
     fn braced_items(&self, left: usize, cursor: &mut Cursor<'_>) -> Result<Vec<Item>, Stop>
-        ensures { Finds (λ items. items_in items.items) cursor.new result (between LeftBrace RightBrace (inside_at (scope_in self.now.look_ups) left).items cursor.old) }
+        ensures { Finds (λ items. items_in items.items) cursor.new result
+            (between LeftBrace RightBrace (inside_at (scope_in self.now.look_ups) left).items cursor.old) }
     {
         cursor.expect(Symbol::LeftBrace)?;
         if left == 0 {
@@ -302,7 +316,8 @@ impl Reader {
     #[tactic(auto, unfolding(crate::specs::ReadingPatterns::items_within))]
     #[cycle(pattern)]
     pub(crate) fn items(&self, left: usize, cursor: &mut Cursor<'_>) -> Result<Vec<Item>, Stop>
-        ensures { Finds (λ items. items_in items.items) cursor.new result (items_within (scope_in self.now.look_ups) left (inside_at (scope_in self.now.look_ups) left) cursor.old) }
+        ensures { Finds (λ items. items_in items.items) cursor.new result
+            (items_within (scope_in self.now.look_ups) left (inside_at (scope_in self.now.look_ups) left) cursor.old) }
     {
         let mut items = Vec::new(self.alloc);
         'items: while cursor.goes_on() {
@@ -316,7 +331,8 @@ impl Reader {
     #[tactic(auto, unfolding(crate::specs::ReadingPatterns::item_at))]
     #[cycle(pattern)]
     fn item(&self, left: usize, cursor: &mut Cursor<'_>) -> Result<Option<Item>, Stop>
-        ensures { Finds (option_map item_of) cursor.new result (item_at (scope_in self.now.look_ups) left (inside_at (scope_in self.now.look_ups) left) cursor.old) }
+        ensures { Finds (option_map item_of) cursor.new result
+            (item_at (scope_in self.now.look_ups) left (inside_at (scope_in self.now.look_ups) left) cursor.old) }
     {
         opening(self.alloc, cursor)?;
         if begins_annotation(cursor) {
@@ -348,7 +364,8 @@ impl Reader {
         left: usize,
         cursor: &mut Cursor<'_>,
     ) -> Result<(Defined, Combine, Pattern), Stop>
-        ensures { Finds (λ d. (d.0, d.1, pattern_of d.2)) cursor.new result (definition_at (scope_in self.now.look_ups) left (inside_at (scope_in self.now.look_ups) left) cursor.old) }
+        ensures { Finds (λ d. (d.0, d.1, pattern_of d.2)) cursor.new result
+            (definition_at (scope_in self.now.look_ups) left (inside_at (scope_in self.now.look_ups) left) cursor.old) }
     {
         let name = defined(cursor)?;
         let combine = combine(cursor)?;
@@ -360,7 +377,8 @@ impl Reader {
     #[tactic(auto, unfolding(crate::specs::ReadingPatterns::include_at))]
     #[cycle(pattern)]
     fn include(&self, left: usize, cursor: &mut Cursor<'_>) -> Result<Item, Stop>
-        ensures { Finds item_of cursor.new result (include_at (scope_in self.now.look_ups) left (inside_at (scope_in self.now.look_ups) left) cursor.old) }
+        ensures { Finds item_of cursor.new result
+            (include_at (scope_in self.now.look_ups) left (inside_at (scope_in self.now.look_ups) left) cursor.old) }
     {
         let file = self.reference(cursor)?;
         if !cursor.stands(Symbol::LeftBrace) {
@@ -377,7 +395,8 @@ impl Reader {
         left: usize,
         cursor: &mut Cursor<'_>,
     ) -> Result<Vec<Replacement>, Stop>
-        ensures { Finds (λ rs. replacements_in rs.items) cursor.new result (between LeftBrace RightBrace (inside_at (scope_in self.now.look_ups) left).replacements cursor.old) }
+        ensures { Finds (λ rs. replacements_in rs.items) cursor.new result
+            (between LeftBrace RightBrace (inside_at (scope_in self.now.look_ups) left).replacements cursor.old) }
     {
         cursor.expect(Symbol::LeftBrace)?;
         if left == 0 {
@@ -392,7 +411,8 @@ impl Reader {
     #[tactic(auto, unfolding(crate::specs::ReadingPatterns::replacements_within))]
     #[cycle(pattern)]
     fn replacements(&self, left: usize, cursor: &mut Cursor<'_>) -> Result<Vec<Replacement>, Stop>
-        ensures { Finds (λ rs. replacements_in rs.items) cursor.new result (replacements_within (scope_in self.now.look_ups) left (inside_at (scope_in self.now.look_ups) left) cursor.old) }
+        ensures { Finds (λ rs. replacements_in rs.items) cursor.new result
+            (replacements_within (scope_in self.now.look_ups) left (inside_at (scope_in self.now.look_ups) left) cursor.old) }
     {
         let mut replacements = Vec::new(self.alloc);
         'replacements: while cursor.goes_on() {
@@ -406,7 +426,8 @@ impl Reader {
     #[tactic(auto, unfolding(crate::specs::ReadingPatterns::replacement_at))]
     #[cycle(pattern)]
     fn replacement(&self, left: usize, cursor: &mut Cursor<'_>) -> Result<Option<Replacement>, Stop>
-        ensures { Finds (option_map replacement_of) cursor.new result (replacement_at (scope_in self.now.look_ups) left (inside_at (scope_in self.now.look_ups) left) cursor.old) }
+        ensures { Finds (option_map replacement_of) cursor.new result
+            (replacement_at (scope_in self.now.look_ups) left (inside_at (scope_in self.now.look_ups) left) cursor.old) }
     {
         opening(self.alloc, cursor)?;
         if begins_annotation(cursor) {

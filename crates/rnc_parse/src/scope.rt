@@ -132,7 +132,8 @@ impl LookUps {
 
     /// Binds a prefix of names to a namespace.
     fn bind(&mut self, prefix: &Bytes, ns: &Namespace) -> Result<(), Clash>
-        ensures { (done : List Declaration) → HoldsSoFar self.old done → Declares (done ++ declaration.Namespace prefix.now ns.now ∷ []) self.new result }
+        ensures { (done : List Declaration) → HoldsSoFar self.old done → Declares
+            (done ++ declaration.Namespace prefix.now ns.now ∷ []) self.new result }
     {
         if !may_bind(prefix, ns) {
             return Err(Clash::Twice(prefix.copy()?));
@@ -148,7 +149,8 @@ impl LookUps {
 
     /// Sets the namespace of names of elements without a prefix.
     fn set_default(&mut self, ns: &Namespace) -> Result<(), Clash>
-        ensures { (done : List Declaration) → HoldsSoFar self.old done → Declares (done ++ declaration.Default None ns.now ∷ []) self.new result }
+        ensures { (done : List Declaration) → HoldsSoFar self.old done → Declares
+            (done ++ declaration.Default None ns.now ∷ []) self.new result }
     {
         if self.unprefixed.is_some() {
             return Err(Clash::Twice(Bytes::new(self.alloc)));
@@ -159,7 +161,8 @@ impl LookUps {
 
     /// Sets the namespace of names of elements without a prefix, and binds a prefix to it.
     fn bind_default(&mut self, prefix: &Bytes, ns: &Namespace) -> Result<(), Clash>
-        ensures { (done : List Declaration) → HoldsSoFar self.old done → Declares (done ++ declaration.Default (Some prefix.now) ns.now ∷ []) self.new result }
+        ensures { (done : List Declaration) → HoldsSoFar self.old done → Declares
+            (done ++ declaration.Default (Some prefix.now) ns.now ∷ []) self.new result }
     {
         match self.set_default(ns) {
             Ok(()) => self.bind(prefix, ns),
@@ -169,7 +172,8 @@ impl LookUps {
 
     /// Binds a prefix of types to a library.
     fn bind_library(&mut self, prefix: &Bytes, uri: &Bytes) -> Result<(), Clash>
-        ensures { (done : List Declaration) → HoldsSoFar self.old done → Declares (done ++ declaration.Datatypes prefix.now uri.now ∷ []) self.new result }
+        ensures { (done : List Declaration) → HoldsSoFar self.old done → Declares
+            (done ++ declaration.Datatypes prefix.now uri.now ∷ []) self.new result }
     {
         if self.libraries.get(prefix.as_slice()).is_some() {
             return Err(Clash::Twice(prefix.copy()?));

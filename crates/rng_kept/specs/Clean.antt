@@ -6,7 +6,8 @@ use Rattle.nx_base.specs.Trees.{Attribute, Children, nil, string, element, AreCh
 use Rattle.rng_types.specs.declared.datatype.Datatype.{Datatype}
 use Rattle.rng_types.specs.declared.datatype.Except.{Except}
 use Rattle.rng_core.specs.Names.{Class}
-use Rattle.rng_core.specs.Patterns.{Pattern, Definition, empty, any_text, typed, literal, listed, attribute, ref, one_or_more, choice, group, interleave}
+use Rattle.rng_core.specs.Patterns.{Pattern, Definition, empty, any_text, typed, literal, listed, attribute, ref, one_or_more, choice}
+use Rattle.rng_core.specs.Patterns.{group, interleave}
 use Rattle.rng_core.specs.Matching.{Matches}
 use Rattle.rng_core.specs.Soundness.{IsSoundPattern}
 use Rattle.rng_kept.specs.SmallPatterns.{is_not_allowed}

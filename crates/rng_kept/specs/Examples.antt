@@ -6,7 +6,8 @@ use Rattle.rng_types.specs.declared.datatype.Datatype.{Datatype}
 use Rattle.rng_types.specs.declared.kind.Word.TheVariants.{NcName}
 use Rattle.rng_types.specs.declared.kind.Form.TheVariants.{One}
 use Rattle.rng_core.specs.Names.{the_name}
-use Rattle.rng_core.specs.Patterns.{Pattern, Definition, empty, any_text, typed, attribute, ref, one_or_more, choice, group, interleave, Language}
+use Rattle.rng_core.specs.Patterns.{Pattern, Definition, empty, any_text, typed, attribute, ref, one_or_more, choice, group, interleave}
+use Rattle.rng_core.specs.Patterns.{Language}
 use Rattle.rng_kept.specs.Moves.{Move, take, skip_to, any_value, any_string, missing_attributes, missing_content}
 use Rattle.rng_kept.specs.KeptLists.{Kept, NoneIsViable}
 use Rattle.rng_kept.specs.Residuals.{Residual}

@@ -3,7 +3,8 @@ use Rattle.std.specs.Prelude.{◌≡◌, ℕ, suc, ◌-◌, Bool, true, false, L
 use Rattle.std.specs.List.{AllByRecursion}
 use Rattle.nx_base.specs.declared.name.Name.{Name}
 use Rattle.nx_base.specs.Characters.{is_blank, is_of_chars}
-use Rattle.nx_base.specs.Trees.{Attribute, Children, AreChildren, Event, Enter, Att, TagEnd, Chars, Leave, children_flat, attributes_flat, AreWritable}
+use Rattle.nx_base.specs.Trees.{Attribute, Children, AreChildren, Event, Enter, Att, TagEnd, Chars, Leave, children_flat, attributes_flat}
+use Rattle.nx_base.specs.Trees.{AreWritable}
 use Rattle.rng_kept.specs.Events.{IsText}
 
 pub data Move : Type 0 where

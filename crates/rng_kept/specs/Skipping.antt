@@ -2,7 +2,8 @@
 -- front can always be left out.
 use Rattle.std.specs.Prelude.{List, [], map, slice_get}
 use Rattle.nx_base.specs.declared.name.Name.{Name}
-use Rattle.rng_core.specs.Patterns.{Pattern, Definition, not_allowed, empty, any_text, typed, literal, listed, attribute, ref, one_or_more, choice, group, interleave}
+use Rattle.rng_core.specs.Patterns.{Pattern, Definition, not_allowed, empty, any_text, typed, literal, listed, attribute, ref}
+use Rattle.rng_core.specs.Patterns.{one_or_more, choice, group, interleave}
 use Rattle.rng_kept.specs.SmallPatterns.{choice_of, group_of, interleave_of, star}
 use Rattle.rng_kept.specs.Openings.{Opening, joined, then_group, then_interleave, under_interleave, open_definition}
 

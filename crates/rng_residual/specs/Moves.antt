@@ -5,7 +5,8 @@ use Rattle.nx_base.specs.Trees.{Event, Enter, Att, TagEnd, Chars, Leave, AreWrit
 use Rattle.rng_core.specs.Patterns.{Pattern, Definition, Language}
 use Rattle.rng_core.specs.Validity.{Valid, Viable}
 use Rattle.rng_kept.specs.Events.{IsAmong, IsText, AreText, IsDistinct}
-use Rattle.rng_kept.specs.Moves.{Move, take, skip_to, any_value, any_string, missing_attributes, missing_content, attributes_of, is_tag_open, open_elements}
+use Rattle.rng_kept.specs.Moves.{Move, take, skip_to, any_value, any_string, missing_attributes, missing_content, attributes_of}
+use Rattle.rng_kept.specs.Moves.{is_tag_open, open_elements}
 use Rattle.rng_kept.specs.KeptLists.{IsRestOf, CanMove}
 use Rattle.rng_kept.specs.SmallPatterns.{is_not_allowed}
 use Rattle.rng_kept.specs.Residuals.{Residual, is_in_tag, Takes}

@@ -2,7 +2,8 @@
 
 ghost use Rattle.rng_residual.specs.Derivatives.{DerivesStrings, DerivesAttributes};
 ghost use Rattle.rng_residual.specs.Merging.{MergedTakeTheSame};
-ghost use Rattle.rng_residual.specs.Moves.{FramesStand, KnownIsTold, KnownFramesBegin, MovesStand, FrontsAreViable, StandingGoesOn, AnswersTellMoves, RestsAreTaken, TagsAreTold, MissingPartsGoOn};
+ghost use Rattle.rng_residual.specs.Moves.{FramesStand, KnownIsTold, KnownFramesBegin, MovesStand, FrontsAreViable, StandingGoesOn};
+ghost use Rattle.rng_residual.specs.Moves.{AnswersTellMoves, RestsAreTaken, TagsAreTold, MissingPartsGoOn};
 ghost use Rattle.rng_residual.specs.Openings.{OpensExactly};
 ghost use Rattle.rng_residual.specs.Required.{OnlyIsExact, RequiredIsExact};
 ghost use Rattle.rng_residual.specs.Restricted.{RestrictedIsApart};

@@ -1,6 +1,6 @@
 use Rattle.std.proofs.Common.{◌≡◌, ◌+◌, drop}
 use Rattle.std.specs.List.{position_or_len}
-use Rattle.nx_events.specs.XmlDeclaration.{is_quote}
+use Rattle.nx_base.specs.Characters.{is_quote}
 use Rattle.nx_events.proofs.front.quote_place.Given as goal
 
 abbrev pub invariant-loop-i : goal.invariant-loop-i
