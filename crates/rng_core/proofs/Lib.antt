@@ -5,3 +5,4 @@ pub mod Borne
 pub mod Choices
 pub mod Documents
 pub mod Same
+pub mod SortedNames

@@ -7,4 +7,5 @@ pub mod Matching
 pub mod Validity
 pub mod Soundness
 pub mod Equality
+pub mod SortedClasses
 pub mod Weights

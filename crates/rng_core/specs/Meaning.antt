@@ -7,7 +7,8 @@ use Rattle.rng_core.specs.declared.grammar.Pat.TheVariants as pat
 use Rattle.rng_core.specs.declared.grammar.Def.{Def}
 use Rattle.rng_core.specs.declared.grammar.Grammar.{Grammar}
 use Rattle.rng_core.specs.Names.{Class, any_name, ns_name, the_name, either, without}
-use Rattle.rng_core.specs.Patterns.{Pattern, Definition, Language, not_allowed, empty, any_text, typed, literal, listed, attribute, ref, one_or_more, choice, group, interleave}
+use Rattle.rng_core.specs.Patterns.{Pattern, Definition, Language, not_allowed, empty, any_text, typed, literal, listed}
+use Rattle.rng_core.specs.Patterns.{attribute, ref, one_or_more, choice, group, interleave}
 
 abbrev pub class_of : NameClass → Class
 class_of class.AnyName = any_name

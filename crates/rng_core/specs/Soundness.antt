@@ -11,7 +11,8 @@ use Rattle.rng_types.specs.declared.datatype.Except.{Except}
 use Rattle.rng_types.specs.declared.datatype.Except.TheVariants.{Own, BuiltinString, BuiltinToken}
 use Rattle.rng_core.specs.declared.grammar.Grammar.{Grammar}
 use Rattle.rng_core.specs.Names.{Class, any_name, ns_name, the_name, either, without}
-use Rattle.rng_core.specs.Patterns.{Pattern, Definition, not_allowed, empty, any_text, typed, literal, listed, attribute, ref, one_or_more, choice, group, interleave}
+use Rattle.rng_core.specs.Patterns.{Pattern, Definition, not_allowed, empty, any_text, typed, literal, listed}
+use Rattle.rng_core.specs.Patterns.{attribute, ref, one_or_more, choice, group, interleave}
 use Rattle.rng_core.specs.Meaning.{pattern_of, definitions_of}
 
 -- the namespaces and names that are written in a class are UTF-8

@@ -1,7 +1,7 @@
 -- Names that a class doesn't mention are in it alike.
 use Rattle.std.specs.Prelude.{ℕ, Bool, true, false, not, ◌&&◌, ◌||◌, List, [], codes}
 use Rattle.std.specs.Str.{bytes_eq}
-use Rattle.nx_base.specs.Names.{is_namespace}
+use Rattle.nx_base.specs.Names.{is_namespace, is_xml_name, is_attribute_name}
 use Rattle.nx_base.specs.declared.name.Name.{Name}
 use Rattle.rng_core.specs.declared.name_class.Bearer.{Bearer}
 use Rattle.rng_core.specs.declared.name_class.Bearer.TheVariants.{Element, Attribute}
@@ -55,6 +55,11 @@ meets_part c (without x y) = overlaps c (without x y)
 unfoldable pub borne : Bearer → Class → Class
 borne Element c = c
 borne Attribute c = without c (the_name xmlns_name)
+
+-- whether an element, or an attribute, can have a name
+abbrev pub is_borne_name : Bearer → Name → Bool
+is_borne_name Element name = is_xml_name name
+is_borne_name Attribute name = is_attribute_name name
 
 -- some such name is in both classes
 abbrev pub OverlapAs : Bearer → Class → Class → Type 0

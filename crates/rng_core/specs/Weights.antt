@@ -1,6 +1,7 @@
 -- How much of a pattern is still to be let go.
 use Rattle.std.specs.Prelude.{ℕ, suc, ◌+◌, ◌*◌}
-use Rattle.rng_core.specs.Patterns.{Pattern, not_allowed, empty, any_text, typed, literal, listed, attribute, ref, one_or_more, choice, group, interleave}
+use Rattle.rng_core.specs.Patterns.{Pattern, not_allowed, empty, any_text, typed, literal, listed, attribute, ref}
+use Rattle.rng_core.specs.Patterns.{one_or_more, choice, group, interleave}
 
 -- how many nodes a pattern has
 abbrev pub node_count : Pattern → ℕ

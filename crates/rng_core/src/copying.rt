@@ -5,7 +5,8 @@
 
 ghost use Rattle.std.specs.Prelude.{◌≡◌, IfOk, map};
 ghost use Rattle.rng_core.specs.Meaning.{class_of, pattern_of, definition_of};
-ghost use Rattle.rng_core.specs.Patterns.{not_allowed, empty, any_text, typed, literal, listed, attribute, ref, one_or_more, choice, group, interleave};
+ghost use Rattle.rng_core.specs.Patterns.{not_allowed, empty, any_text, typed, literal, listed, attribute, ref};
+ghost use Rattle.rng_core.specs.Patterns.{one_or_more, choice, group, interleave};
 ghost use Rattle.rng_core.specs.Spine.{choices};
 
 use crate::grammar::{Def, Pat};

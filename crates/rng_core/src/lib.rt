@@ -11,5 +11,6 @@ pub mod grammar;
 pub mod law;
 pub mod name_class;
 pub mod overlap;
+mod sorted_class;
 #[cfg(test)]
 mod tests;

@@ -4,7 +4,9 @@
 //! the right side of a choice, or in an except, is as deep as the brackets of a schema at most: there they recurse.
 
 ghost use Rattle.std.specs.Prelude.{◌≡◌, ◌&&◌, ◌||◌, IfOk};
-ghost use Rattle.nx_base.specs.Names.{is_namespace as is_namespace_text, is_local as is_local_text, is_xml_name as is_name_of_xml, is_attribute_name as is_name_of_attribute, same_name as same_name_as};
+ghost use Rattle.nx_base.specs.Names.{is_namespace as is_namespace_text, is_local as is_local_text};
+ghost use Rattle.nx_base.specs.Names.{is_xml_name as is_name_of_xml, is_attribute_name as is_name_of_attribute};
+ghost use Rattle.nx_base.specs.Names.{same_name as same_name_as};
 ghost use Rattle.rng_core.specs.Names.{covers, has_name, has_attribute_name};
 ghost use Rattle.rng_core.specs.Unmentioned.{borne};
 ghost use Rattle.rng_core.specs.Meaning.{class_of};
@@ -91,7 +93,7 @@ pub(crate) fn same_name(a: &Name, b: &Name) -> bool
 
 impl NameClass {
     /// Whether the class has a name, by what is written in it.
-    fn covers(&self, name: &Name) -> bool
+    pub(crate) fn covers(&self, name: &Name) -> bool
         ensures { result ≡ covers (class_of self.now) name.now }
     {
         let mut class = self;

@@ -1,16 +1,23 @@
 //! Whether two name classes share a name.
 //!
-//! Choices are taken apart, so that two choices of n and m names cost n times m comparisons of names at most, and
-//! less where a name or a wildcard is shared. Only where both sides are wildcards are their excepts searched.
+//! Choices are taken apart, and the single names of the second class are sorted, so that two choices of n and m names
+//! cost n + m look-ups. Where there is no memory for that, each name is compared with each. Only where both sides are
+//! wildcards are their excepts searched.
 
-ghost use Rattle.std.specs.Prelude.{◌≡◌, ◌||◌, ◌↔◌, [], IsTrue, IsOk, IfOk};
-ghost use Rattle.rng_core.specs.Names.{Overlap};
+ghost use Rattle.std.specs.Prelude.{◌≡◌, ◌||◌, ◌↔◌, [], IsTrue, IsOk, IfOk, IfSome};
+ghost use Rattle.nx_base.specs.declared.name.Name.{Name};
+ghost use Rattle.rng_core.specs.Names.{Overlap, covers, has_name};
+ghost use Rattle.rng_core.specs.SortedClasses.{covers_sorted};
 ghost use Rattle.rng_core.specs.Meaning.{class_of};
 ghost use Rattle.rng_core.specs.declared.name_class.Bearer.TheVariants.{Attribute};
-ghost use Rattle.rng_core.specs.Unmentioned.{OverlapAs, covers_others_in, covers_others, share_others_in as share_others_of, meets_as, overlaps as overlaps_of, meets_part, borne, tries, parts_meet};
+ghost use Rattle.rng_core.specs.Unmentioned.{OverlapAs, covers_others_in, covers_others};
+ghost use Rattle.rng_core.specs.Unmentioned.{share_others_in as share_others_of, meets_as, overlaps as overlaps_of};
+ghost use Rattle.rng_core.specs.Unmentioned.{meets_part, borne, tries, parts_meet};
 
 use crate::name_class::{Bearer, NameClass, is_namespace};
+use crate::sorted_class::SortedClass;
 use nx_base::memory::NoMemory;
+use nx_base::name::Name;
 use std::alloc::Global;
 
 impl NameClass {
@@ -141,8 +148,30 @@ fn wildcard_overlaps(bearer: Bearer, wildcard: &NameClass, other: &NameClass) ->
     }
 }
 
+/// Whether a class has the name as one of an element, or of an attribute: told by the class sorted, if there is that.
+fn has_sorted<'a>(
+    bearer: Bearer,
+    class: &NameClass,
+    sorted: Option<&SortedClass<'a>>,
+    name: &'a Name,
+) -> bool
+    requires { IfSome sorted (λ s. (n : Name) → covers_sorted s.now n ≡ covers (class_of class.now) n) }
+    ensures { result ≡ has_name (borne bearer (class_of class.now)) name.now }
+{
+    match sorted {
+        Some(sorted) => sorted.has_as(bearer, name),
+        None => class.has_as(bearer, name),
+    }
+}
+
 /// Whether some name of an element, or of an attribute, is in both classes.
-fn overlaps(bearer: Bearer, a: &NameClass, b: &NameClass) -> bool
+fn overlaps<'a>(
+    bearer: Bearer,
+    a: &'a NameClass,
+    b: &NameClass,
+    sorted: Option<&SortedClass<'a>>,
+) -> bool
+    requires { IfSome sorted (λ s. (n : Name) → covers_sorted s.now n ≡ covers (class_of b.now) n) }
     ensures { result ≡ parts_meet bearer (class_of a.now) (class_of b.now) }
 {
     let mut left = a;
@@ -151,9 +180,9 @@ fn overlaps(bearer: Bearer, a: &NameClass, b: &NameClass) -> bool
             NameClass::AnyName => return wildcard_overlaps(bearer, left, b),
             NameClass::NsName(_) => return wildcard_overlaps(bearer, left, b),
             NameClass::Except(_, _) => return wildcard_overlaps(bearer, left, b),
-            NameClass::Name(name) => return b.has_as(bearer, name),
+            NameClass::Name(name) => return has_sorted(bearer, b, sorted, name),
             NameClass::Choice(front, last) => {
-                if overlaps(bearer, last, b) {
+                if overlaps(bearer, last, b, sorted) {
                     return true;
                 }
                 left = front;
@@ -162,19 +191,34 @@ fn overlaps(bearer: Bearer, a: &NameClass, b: &NameClass) -> bool
     }
 }
 
-impl NameClass {
-    /// Whether some name that an element, or an attribute, can have is in both classes.
-    pub fn overlaps(&self, other: &NameClass, bearer: Bearer) -> bool
-        ensures { IsTrue result ↔ OverlapAs bearer (class_of self.now) (class_of other.now) }
-    {
-        overlaps(bearer, self, other)
+/// The same with the second class sorted, where there is memory for that.
+fn overlaps_sorted<'a>(alloc: Global, bearer: Bearer, a: &'a NameClass, b: &'a NameClass) -> bool
+    ensures { result ≡ parts_meet bearer (class_of a.now) (class_of b.now) }
+{
+    match SortedClass::sorted(alloc, b) {
+        Ok(sorted) => overlaps(bearer, a, b, Some(&sorted)),
+        Err(_) => overlaps(bearer, a, b, None),
     }
 }
 
-/// Whether some name is in both classes. It takes no memory.
-pub fn overlap(_alloc: Global, a: &NameClass, b: &NameClass) -> Result<bool, NoMemory>
+impl NameClass {
+    /// Whether some name that an element, or an attribute, can have is in both classes.
+    pub fn overlaps(&self, alloc: Global, other: &NameClass, bearer: Bearer) -> bool
+        ensures { IsTrue result ↔ OverlapAs bearer (class_of self.now) (class_of other.now) }
+    {
+        match (self, other) {
+            (NameClass::Choice(_, _), NameClass::Choice(_, _)) => {
+                overlaps_sorted(alloc, bearer, self, other)
+            }
+            _ => overlaps(bearer, self, other, None),
+        }
+    }
+}
+
+/// Whether some name is in both classes. It never fails.
+pub fn overlap(alloc: Global, a: &NameClass, b: &NameClass) -> Result<bool, NoMemory>
     ensures succeeds { IsOk result }
     ensures found { IfOk result (λ some. IsTrue some ↔ Overlap (class_of a.now) (class_of b.now)) }
 {
-    Ok(a.overlaps(b, Bearer::Element))
+    Ok(a.overlaps(alloc, b, Bearer::Element))
 }

@@ -7,8 +7,12 @@ use Rattle.rng_restrict.specs.Reaching.{Somewhere}
 
 -- in a group or an interleave both sides have an attribute with a name in common, which is one that an attribute can have
 pub data HasAttributeOverlap (p : Pattern) : Type 0 where
-  in_group : {a b x y : Pattern} {c d : Class} → Stands (group a b) p → Occurs (attribute c x) a → Occurs (attribute d y) b → AttributeOverlap c d → HasAttributeOverlap p
-  in_interleave : {a b x y : Pattern} {c d : Class} → Stands (interleave a b) p → Occurs (attribute c x) a → Occurs (attribute d y) b → AttributeOverlap c d → HasAttributeOverlap p
+  in_group : {a b x y : Pattern} {c d : Class} →
+      Stands (group a b) p → Occurs (attribute c x) a → Occurs (attribute d y) b → AttributeOverlap c d →
+      HasAttributeOverlap p
+  in_interleave : {a b x y : Pattern} {c d : Class} →
+      Stands (interleave a b) p → Occurs (attribute c x) a → Occurs (attribute d y) b → AttributeOverlap c d →
+      HasAttributeOverlap p
 
 abbrev pub BreaksAttributeOverlap : Pattern → List Definition → Type 0
 BreaksAttributeOverlap start defs = Somewhere HasAttributeOverlap start defs

@@ -4,7 +4,8 @@ use Rattle.rng_core.specs.Patterns.{Pattern, Definition}
 use Rattle.rng_core.specs.Meaning.{pattern_of, definitions_of}
 use Rattle.rng_core.specs.declared.grammar.Grammar.{Grammar}
 use Rattle.rng_restrict.specs.declared.fault.RestrictFault.{RestrictFault}
-use Rattle.rng_restrict.specs.declared.fault.RestrictFault.TheVariants.{Path, Mixture, AttributeOverlap, WildcardOnce, InterleaveOverlap, TextTwice, NoMemory}
+use Rattle.rng_restrict.specs.declared.fault.RestrictFault.TheVariants.{Path, Mixture, AttributeOverlap, WildcardOnce}
+use Rattle.rng_restrict.specs.declared.fault.RestrictFault.TheVariants.{InterleaveOverlap, TextTwice, NoMemory}
 use Rattle.rng_restrict.specs.Paths.{BreaksPath}
 use Rattle.rng_restrict.specs.Contents.{BreaksMixture}
 use Rattle.rng_restrict.specs.Attributes.{BreaksAttributeOverlap, BreaksWildcardOnce}

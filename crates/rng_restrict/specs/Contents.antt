@@ -3,7 +3,8 @@ use Rattle.std.specs.Prelude.{◌≡◌, ℕ, List}
 use Rattle.rng_types.specs.declared.datatype.Datatype.{Datatype}
 use Rattle.rng_types.specs.declared.datatype.Except.{Except}
 use Rattle.rng_core.specs.Names.{Class}
-use Rattle.rng_core.specs.Patterns.{Pattern, Definition, not_allowed, empty, any_text, typed, literal, listed, attribute, ref, one_or_more, choice, group, interleave}
+use Rattle.rng_core.specs.Patterns.{Pattern, Definition, not_allowed, empty, any_text, typed, literal, listed}
+use Rattle.rng_core.specs.Patterns.{attribute, ref, one_or_more, choice, group, interleave}
 use Rattle.rng_restrict.specs.declared.content.Content.{Content}
 use Rattle.rng_restrict.specs.declared.content.Content.TheVariants.{Empty, Complex, Simple}
 use Rattle.rng_restrict.specs.Reaching.{IsReached}

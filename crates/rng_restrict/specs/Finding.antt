@@ -1,11 +1,13 @@
 -- Tests that find the faults, one pattern at a time.
-use Rattle.std.specs.Prelude.{◌≡◌, ℕ, Bool, true, false, not, ◌||◌, ◌&&◌, ◌==◌, nat_lt, if◌then◌else◌, List, [], ◌∷◌, ◌++◌, Option, Some, None, slice_get, slice_range, drop, length, get_or}
+use Rattle.std.specs.Prelude.{◌≡◌, ℕ, Bool, true, false, not, ◌||◌, ◌&&◌, ◌==◌, nat_lt, if◌then◌else◌, List, [], ◌∷◌}
+use Rattle.std.specs.Prelude.{◌++◌, Option, Some, None, slice_get, slice_range, drop, length, get_or}
 use Rattle.std.specs.List.{list_any, sum_by}
 use Rattle.rng_core.specs.Names.{Class, any_name, ns_name, the_name, either, without}
 use Rattle.rng_core.specs.declared.name_class.Bearer.{Bearer}
 use Rattle.rng_core.specs.declared.name_class.Bearer.TheVariants.{Element, Attribute}
 use Rattle.rng_core.specs.Unmentioned.{borne, overlaps}
-use Rattle.rng_core.specs.Patterns.{Pattern, Definition, not_allowed, empty, any_text, typed, literal, listed, attribute, ref, one_or_more, choice, group, interleave}
+use Rattle.rng_core.specs.Patterns.{Pattern, Definition, not_allowed, empty, any_text, typed, literal, listed}
+use Rattle.rng_core.specs.Patterns.{attribute, ref, one_or_more, choice, group, interleave}
 use Rattle.rng_restrict.specs.declared.content.Content.{Content}
 use Rattle.rng_restrict.specs.declared.content.Content.TheVariants.{Empty, Complex, Simple}
 use Rattle.rng_restrict.specs.declared.path.Parts.{Parts}

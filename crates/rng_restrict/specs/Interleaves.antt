@@ -7,7 +7,9 @@ use Rattle.rng_restrict.specs.Reaching.{Somewhere}
 
 -- both sides refer to an element with a name in common
 pub data HasInterleaveOverlap (defs : List Definition) (p : Pattern) : Type 0 where
-  elements_overlap : {a b : Pattern} {i j : ℕ} {d e : Definition} → Stands (interleave a b) p → Occurs (ref i) a → slice_get defs i ≡ Some d → Occurs (ref j) b → slice_get defs j ≡ Some e → Overlap d.class e.class → HasInterleaveOverlap defs p
+  elements_overlap : {a b : Pattern} {i j : ℕ} {d e : Definition} →
+      Stands (interleave a b) p → Occurs (ref i) a → slice_get defs i ≡ Some d → Occurs (ref j) b →
+      slice_get defs j ≡ Some e → Overlap d.class e.class → HasInterleaveOverlap defs p
 
 abbrev pub BreaksInterleaveOverlap : Pattern → List Definition → Type 0
 BreaksInterleaveOverlap start defs = Somewhere (HasInterleaveOverlap defs) start defs

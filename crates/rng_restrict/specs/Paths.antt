@@ -3,18 +3,22 @@ use Rattle.std.specs.Prelude.{ℕ, List, ◌⊎◌}
 use Rattle.rng_types.specs.declared.datatype.Datatype.{Datatype}
 use Rattle.rng_types.specs.declared.datatype.Except.{Except}
 use Rattle.rng_core.specs.Names.{Class}
-use Rattle.rng_core.specs.Patterns.{Pattern, Definition, empty, any_text, typed, literal, listed, attribute, ref, one_or_more, group, interleave}
+use Rattle.rng_core.specs.Patterns.{Pattern, Definition, empty, any_text, typed, literal, listed, attribute, ref}
+use Rattle.rng_core.specs.Patterns.{one_or_more, group, interleave}
 use Rattle.rng_restrict.specs.Standing.{Stands}
 use Rattle.rng_restrict.specs.Reaching.{Somewhere}
 
 -- a prohibited path stands in a pattern
 pub data HasPath (p : Pattern) : Type 0 where
   -- 10.2.2: attribute//attribute, attribute//ref
-  attribute_below_attribute : {c d : Class} {body inner : Pattern} → Stands (attribute c body) p → Stands (attribute d inner) body → HasPath p
+  attribute_below_attribute : {c d : Class} {body inner : Pattern} →
+      Stands (attribute c body) p → Stands (attribute d inner) body → HasPath p
   ref_below_attribute : {c : Class} {body : Pattern} {i : ℕ} → Stands (attribute c body) p → Stands (ref i) body → HasPath p
   -- 10.2.3: oneOrMore//group//attribute, oneOrMore//interleave//attribute
-  attribute_below_repeated_group : {r a b body : Pattern} {c : Class} → Stands (one_or_more r) p → Stands (group a b) r → Stands (attribute c body) (group a b) → HasPath p
-  attribute_below_repeated_interleave : {r a b body : Pattern} {c : Class} → Stands (one_or_more r) p → Stands (interleave a b) r → Stands (attribute c body) (interleave a b) → HasPath p
+  attribute_below_repeated_group : {r a b body : Pattern} {c : Class} →
+      Stands (one_or_more r) p → Stands (group a b) r → Stands (attribute c body) (group a b) → HasPath p
+  attribute_below_repeated_interleave : {r a b body : Pattern} {c : Class} →
+      Stands (one_or_more r) p → Stands (interleave a b) r → Stands (attribute c body) (interleave a b) → HasPath p
   -- 10.2.4: list//list, list//ref, list//attribute, list//text, list//interleave
   list_below_list : {body inner : Pattern} → Stands (listed body) p → Stands (listed inner) body → HasPath p
   ref_below_list : {body : Pattern} {i : ℕ} → Stands (listed body) p → Stands (ref i) body → HasPath p

@@ -6,7 +6,8 @@ use Rattle.rng_restrict.specs.Standing.{Stands}
 -- a definition that a reference in the start names, or one in the content of a definition that is reached
 pub data IsReached (start : Pattern) (defs : List Definition) : Definition → Type 0 where
   from_start : {i : ℕ} {d : Definition} → Stands (ref i) start → slice_get defs i ≡ Some d → IsReached start defs d
-  from_content : {i : ℕ} {d e : Definition} → IsReached start defs e → Stands (ref i) e.content → slice_get defs i ≡ Some d → IsReached start defs d
+  from_content : {i : ℕ} {d e : Definition} →
+      IsReached start defs e → Stands (ref i) e.content → slice_get defs i ≡ Some d → IsReached start defs d
 
 -- the start has the fault, or the content of a definition that is reached
 pub data Somewhere (HasFault : Pattern → Type 0) (start : Pattern) (defs : List Definition) : Type 0 where

@@ -20,7 +20,9 @@ fn gather<'a>(
     found: &mut Vec<&'a NameClass>,
     pattern: &'a Pat,
 ) -> Result<bool, NoMemory>
-    ensures { IfOk result (λ fault. (fault ≡ has_part is_attribute_overlap (pattern_of pattern.now)) × (map (λ c. class_of c.now) found.new.items ≡ map (λ c. class_of c.now) found.old.items ++ attribute_classes (pattern_of pattern.now))) }
+    ensures { IfOk result (λ fault. (fault ≡ has_part is_attribute_overlap (pattern_of pattern.now))
+        × (map (λ c. class_of c.now) found.new.items
+        ≡ map (λ c. class_of c.now) found.old.items ++ attribute_classes (pattern_of pattern.now))) }
 {
     match pattern {
         Pat::NotAllowed => Ok(false),
@@ -53,13 +55,18 @@ fn gather_sides<'a>(
     a: &'a Pat,
     b: &'a Pat,
 ) -> Result<bool, NoMemory>
-    ensures { IfOk result (λ fault. (fault ≡ (any_share Attribute (attribute_classes (pattern_of a.now)) (attribute_classes (pattern_of b.now)) || (has_part is_attribute_overlap (pattern_of a.now) || has_part is_attribute_overlap (pattern_of b.now)))) × (map (λ c. class_of c.now) found.new.items ≡ map (λ c. class_of c.now) found.old.items ++ (attribute_classes (pattern_of a.now) ++ attribute_classes (pattern_of b.now)))) }
+    ensures { IfOk result (λ fault.
+        (fault ≡ (any_share Attribute (attribute_classes (pattern_of a.now)) (attribute_classes (pattern_of b.now))
+        || (has_part is_attribute_overlap (pattern_of a.now) || has_part is_attribute_overlap (pattern_of b.now))))
+        × (map (λ c. class_of c.now) found.new.items
+        ≡ map (λ c. class_of c.now) found.old.items
+        ++ (attribute_classes (pattern_of a.now) ++ attribute_classes (pattern_of b.now)))) }
 {
     let before = found.len();
     let first = gather(alloc, found, a)?;
     let between = found.len();
     let second = gather(alloc, found, b)?;
-    let shared = sides_share(found.as_slice(), before, between);
+    let shared = sides_share(alloc, found.as_slice(), before, between);
     Ok(any_fault(shared, first, second))
 }
 

@@ -3,7 +3,8 @@
 ghost use Rattle.std.specs.Prelude.{◌≡◌};
 ghost use Rattle.rng_core.specs.Meaning.{pattern_of};
 ghost use Rattle.rng_restrict.specs.Contents.{greater as greater_of};
-ghost use Rattle.rng_restrict.specs.Finding.{are_groupable, grouped as grouped_types, chosen as chosen_types, content_of, is_mixture as is_mixture_of};
+ghost use Rattle.rng_restrict.specs.Finding.{are_groupable, grouped as grouped_types, chosen as chosen_types};
+ghost use Rattle.rng_restrict.specs.Finding.{content_of, is_mixture as is_mixture_of};
 
 use rng_core::grammar::Pat;
 

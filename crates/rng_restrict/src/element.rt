@@ -21,14 +21,15 @@ fn shared_or_known(
     numbers: &[u32],
     others: &[u32],
 ) -> Result<bool, NoMemory>
-    ensures { let all = map definition_of defs.now in IfOk result (λ fault. fault ≡ (known || any_share Element (classes_at all numbers.now) (classes_at all others.now))) }
+    ensures { let all = map definition_of defs.now in IfOk result (λ fault.
+        fault ≡ (known || any_share Element (classes_at all numbers.now) (classes_at all others.now))) }
 {
     if known {
         return Ok(true);
     }
     let classes = classes_of_numbers(alloc, defs, numbers)?;
     let other_classes = classes_of_numbers(alloc, defs, others)?;
-    Ok(some_share(classes.as_slice(), other_classes.as_slice()))
+    Ok(some_share(alloc, classes.as_slice(), other_classes.as_slice()))
 }
 
 /// Adds the numbers of the elements that a pattern refers to, where the references occur in it. Answers whether two of
@@ -36,7 +37,10 @@ fn shared_or_known(
 #[cycle(elements)]
 #[tactic(auto, using(crate::proofs::Alike::none_added, crate::proofs::Alike::number_added, crate::proofs::Alike::both_added))]
 fn gather(alloc: Global, defs: &Defs, found: &mut Vec<u32>, pattern: &Pat) -> Result<bool, NoMemory>
-    ensures { let all = map definition_of defs.now in IfOk result (λ fault. (fault ≡ has_part (is_element_overlap all) (pattern_of pattern.now)) × PassAlike (classes_at all found.new.items) (classes_at all found.old.items ++ element_classes all (pattern_of pattern.now))) }
+    ensures { let all = map definition_of defs.now in IfOk result (λ fault.
+        (fault ≡ has_part (is_element_overlap all) (pattern_of pattern.now))
+        × PassAlike (classes_at all found.new.items)
+        (classes_at all found.old.items ++ element_classes all (pattern_of pattern.now))) }
 {
     match pattern {
         Pat::NotAllowed => Ok(false),
@@ -75,7 +79,12 @@ fn gather_sides(
     a: &Pat,
     b: &Pat,
 ) -> Result<bool, NoMemory>
-    ensures { let all = map definition_of defs.now in IfOk result (λ fault. (fault ≡ (any_share Element (element_classes all (pattern_of a.now)) (element_classes all (pattern_of b.now)) || (has_part (is_element_overlap all) (pattern_of a.now) || has_part (is_element_overlap all) (pattern_of b.now)))) × PassAlike (classes_at all found.new.items) (classes_at all found.old.items ++ (element_classes all (pattern_of a.now) ++ element_classes all (pattern_of b.now)))) }
+    ensures { let all = map definition_of defs.now in IfOk result (λ fault.
+        (fault ≡ (any_share Element (element_classes all (pattern_of a.now)) (element_classes all (pattern_of b.now))
+        || (has_part (is_element_overlap all) (pattern_of a.now) || has_part (is_element_overlap all) (pattern_of b.now))))
+        × PassAlike (classes_at all found.new.items)
+        (classes_at all found.old.items
+        ++ (element_classes all (pattern_of a.now) ++ element_classes all (pattern_of b.now)))) }
 {
     let mut numbers = Vec::new(alloc);
     let first = gather(alloc, defs, &mut numbers, a)?;

@@ -6,7 +6,10 @@ ghost use Rattle.rng_restrict.specs.Paths.{BreaksPath};
 ghost use Rattle.rng_restrict.specs.Contents.{BreaksMixture};
 ghost use Rattle.rng_restrict.specs.Attributes.{BreaksAttributeOverlap, BreaksWildcardOnce};
 ghost use Rattle.rng_restrict.specs.Interleaves.{BreaksInterleaveOverlap, BreaksTextTwice};
-ghost use Rattle.rng_restrict.specs.Finding.{AreReached, passes, some_passes, has_part, begins_path, is_mixture as is_mixture_of, is_attribute_overlap, has_wildcard_once as has_wildcard_once_of, is_element_overlap, is_text_twice};
+ghost use Rattle.rng_restrict.specs.Finding.{AreReached, passes, some_passes, has_part, begins_path};
+ghost use Rattle.rng_restrict.specs.Finding.{is_mixture as is_mixture_of, is_attribute_overlap};
+ghost use Rattle.rng_restrict.specs.Finding.{has_wildcard_once as has_wildcard_once_of, is_element_overlap};
+ghost use Rattle.rng_restrict.specs.Finding.{is_text_twice};
 
 use crate::attribute::has_attribute_overlap;
 use crate::content::is_mixture;
@@ -75,7 +78,8 @@ pub(crate) fn breaks_mixture(grammar: &Grammar, numbers: &[u32]) -> bool
 
 /// Whether attributes overlap in the content of a definition.
 fn attribute_overlap_at(alloc: Global, defs: &Defs, number: u32) -> Result<bool, NoMemory>
-    ensures { let all = map definition_of defs.now in IfOk result (λ found. found ≡ passes (has_part is_attribute_overlap) (slice_get all number)) }
+    ensures { let all = map definition_of defs.now in IfOk result
+        (λ found. found ≡ passes (has_part is_attribute_overlap) (slice_get all number)) }
 {
     match defs.get(number as usize) {
         Some(def) => has_attribute_overlap(alloc, &def.content),
@@ -85,7 +89,8 @@ fn attribute_overlap_at(alloc: Global, defs: &Defs, number: u32) -> Result<bool,
 
 /// Whether attributes overlap in the content of one of these definitions.
 fn some_attribute_overlap(alloc: Global, defs: &Defs, numbers: &[u32]) -> Result<bool, NoMemory>
-    ensures { let all = map definition_of defs.now in IfOk result (λ found. found ≡ some_passes (has_part is_attribute_overlap) all numbers.now) }
+    ensures { let all = map definition_of defs.now in IfOk result
+        (λ found. found ≡ some_passes (has_part is_attribute_overlap) all numbers.now) }
 {
     for number in numbers {
         if attribute_overlap_at(alloc, defs, *number)? {
@@ -139,7 +144,8 @@ pub(crate) fn breaks_wildcard_once(grammar: &Grammar, numbers: &[u32]) -> bool
 
 /// Whether elements overlap in the content of a definition.
 fn element_overlap_at(alloc: Global, defs: &Defs, number: u32) -> Result<bool, NoMemory>
-    ensures { let all = map definition_of defs.now in IfOk result (λ found. found ≡ passes (has_part (is_element_overlap all)) (slice_get all number)) }
+    ensures { let all = map definition_of defs.now in IfOk result
+        (λ found. found ≡ passes (has_part (is_element_overlap all)) (slice_get all number)) }
 {
     match defs.get(number as usize) {
         Some(def) => has_element_overlap(alloc, defs, &def.content),
@@ -149,7 +155,8 @@ fn element_overlap_at(alloc: Global, defs: &Defs, number: u32) -> Result<bool, N
 
 /// Whether elements overlap in the content of one of these definitions.
 fn some_element_overlap(alloc: Global, defs: &Defs, numbers: &[u32]) -> Result<bool, NoMemory>
-    ensures { let all = map definition_of defs.now in IfOk result (λ found. found ≡ some_passes (has_part (is_element_overlap all)) all numbers.now) }
+    ensures { let all = map definition_of defs.now in IfOk result
+        (λ found. found ≡ some_passes (has_part (is_element_overlap all)) all numbers.now) }
 {
     for number in numbers {
         if element_overlap_at(alloc, defs, *number)? {

@@ -23,7 +23,8 @@ fn add_class<'a>(
     found: &mut Vec<&'a NameClass>,
     number: u32,
 ) -> Result<(), NoMemory>
-    ensures { OnOk result (map (λ c. class_of c.now) found.new.items ≡ map (λ c. class_of c.now) found.old.items ++ class_at (slice_get (map definition_of defs.now) number)) }
+    ensures { OnOk result (map (λ c. class_of c.now) found.new.items
+        ≡ map (λ c. class_of c.now) found.old.items ++ class_at (slice_get (map definition_of defs.now) number)) }
 {
     if let Some(def) = defs.get(number as usize) {
         found.push(&def.class)?;

@@ -49,7 +49,8 @@ impl Reach {
 
     /// Adds the definitions that references in a pattern name.
     fn add_all(&mut self, pattern: &Pat) -> Result<(), NoMemory>
-        ensures added { OnOk result (self.new.found.items ≡ with_references (length self.old.seen.items) (pattern_of pattern.now) self.old.found.items) }
+        ensures added { OnOk result (self.new.found.items
+            ≡ with_references (length self.old.seen.items) (pattern_of pattern.now) self.old.found.items) }
         ensures steady { length self.new.seen.items ≡ length self.old.seen.items }
     {
         match pattern {
@@ -79,7 +80,8 @@ impl Reach {
 
     /// Adds the definitions that the content of one refers to.
     fn follow(&mut self, defs: &Defs, number: u32) -> Result<(), NoMemory>
-        ensures added { OnOk result (self.new.found.items ≡ with_content (length self.old.seen.items) (slice_get (map definition_of defs.now) number) self.old.found.items) }
+        ensures added { OnOk result (self.new.found.items
+            ≡ with_content (length self.old.seen.items) (slice_get (map definition_of defs.now) number) self.old.found.items) }
         ensures steady { length self.new.seen.items ≡ length self.old.seen.items }
     {
         match defs.get(number as usize) {

@@ -1,5 +1,6 @@
 -- Numbers by their decimal literals: XML Schema Part 2, sections 3.2.3 and 3.3.13.
-use Rattle.std.specs.Prelude.{◌≡◌, ℕ, nat_le, ◌*◌, ◌^◌, ◌+◌, ℤ, pos, neg_ℤ, Bool, false, ◌==◌, ◌&&◌, ◌||◌, if◌then◌else◌, List, [], ◌∷◌, ◌++◌, length, drop}
+use Rattle.std.specs.Prelude.{◌≡◌, ℕ, nat_le, ◌*◌, ◌^◌, ◌+◌, ℤ, pos, neg_ℤ, Bool, false, ◌==◌, ◌&&◌, ◌||◌}
+use Rattle.std.specs.Prelude.{if◌then◌else◌, List, [], ◌∷◌, ◌++◌, length, drop}
 use Rattle.std.specs.List.{list_all, before_first, after_first, prefix_len}
 use Rattle.std.specs.Char.{is_ascii_digit}
 use Rattle.std.specs.Ordering.{int_cmp}

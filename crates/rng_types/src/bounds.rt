@@ -5,7 +5,11 @@ ghost use Rattle.std.specs.List.{list_all, list_any};
 ghost use Rattle.std.specs.Str.{is_utf8};
 ghost use Rattle.rng_types.specs.Spaces.{collapsed};
 ghost use Rattle.rng_types.specs.Numbers.{number_of, is_decimal};
-ghost use Rattle.rng_types.specs.NumberMembers.{is_lower as is_lower_relation, is_upper as is_upper_relation, is_number_bound, is_decimal_except, is_number_met, takes_number, is_number_left as is_left_number, leaves_room as leaves_room_to, has_room as has_room_between, is_limit_left as is_left_limit, has_decimal as has_some_decimal};
+ghost use Rattle.rng_types.specs.NumberMembers.{is_lower as is_lower_relation, is_upper as is_upper_relation};
+ghost use Rattle.rng_types.specs.NumberMembers.{is_number_bound, is_decimal_except, is_number_met, takes_number};
+ghost use Rattle.rng_types.specs.NumberMembers.{is_number_left as is_left_number, leaves_room as leaves_room_to};
+ghost use Rattle.rng_types.specs.NumberMembers.{has_room as has_room_between, is_limit_left as is_left_limit};
+ghost use Rattle.rng_types.specs.NumberMembers.{has_decimal as has_some_decimal};
 
 use crate::datatype::Except;
 use crate::excepts::text_of;

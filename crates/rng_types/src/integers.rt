@@ -6,7 +6,9 @@ ghost use Rattle.std.specs.List.{list_all};
 ghost use Rattle.rng_types.specs.Numbers.{is_integer};
 ghost use Rattle.rng_types.specs.Offsets.{whole_number, end_of};
 ghost use Rattle.rng_types.specs.WellMade.{suits};
-ghost use Rattle.rng_types.specs.NumberMembers.{is_integer_except, is_number_met, takes_number, is_number_left, over, limit_over, raised as raised_to, lower_end as greatest_lower_end, some_below, has_integer as has_some_integer};
+ghost use Rattle.rng_types.specs.NumberMembers.{is_integer_except, is_number_met, takes_number, is_number_left, over};
+ghost use Rattle.rng_types.specs.NumberMembers.{limit_over, raised as raised_to, lower_end as greatest_lower_end};
+ghost use Rattle.rng_types.specs.NumberMembers.{some_below, has_integer as has_some_integer};
 ghost use Rattle.rng_types.specs.declared.kind.Form.TheVariants.{One};
 ghost use Rattle.rng_types.specs.declared.kind.Word.TheVariants.{Integer};
 

@@ -1,7 +1,8 @@
 //! Lengths that facets allow.
 
 ghost use Rattle.std.specs.Prelude.{◌≡◌, ◌≤◌, ◌^◌, max};
-ghost use Rattle.rng_types.specs.TextMembers.{is_length_met as is_met, allows as allows_length, least_from, least_length as least_of_all, has_length as has_some_length};
+ghost use Rattle.rng_types.specs.TextMembers.{is_length_met as is_met, allows as allows_length, least_from};
+ghost use Rattle.rng_types.specs.TextMembers.{least_length as least_of_all, has_length as has_some_length};
 
 use crate::facet::{Facet, Relation};
 

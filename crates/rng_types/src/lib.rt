@@ -6,7 +6,7 @@
 //! row. Nothing here knows of patterns: `rng_core` stands above.
 //!
 //! Whether a member is left (`members`) is told by the form, from lengths and bounds alone: no text is made, and nothing is
-//! searched beyond one number more than there are excepts. Definitions in `specs/`: `Types`, `Facets`, `Words`, `Numbers`
+//! searched beyond two numbers more than there are excepts. Definitions in `specs/`: `Types`, `Facets`, `Words`, `Numbers`
 //! and `Members` say what is meant; `Answers`, `MemberTest` and `Equality` are tests of it, which laws (`laws`) tie to it.
 #![tactic(auto)]
 

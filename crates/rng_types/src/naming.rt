@@ -9,7 +9,10 @@ ghost use Rattle.rng_types.specs.declared.kind.Takes.TheVariants.{Bounds};
 ghost use Rattle.rng_types.specs.declared.facet.Relation.{Relation};
 ghost use Rattle.rng_types.specs.Rows.{row_of};
 ghost use Rattle.rng_types.specs.WellMade.{is_well_made};
-ghost use Rattle.rng_types.specs.Naming.{length_relation as length_relation_of, bound_relation as bound_relation_of, param_relation, is_length as is_length_text, is_bound as is_bound_text, facet_with, facet_of, is_taken, is_literal, range_end, range_of, type_of, IsUnlessMemory};
+ghost use Rattle.rng_types.specs.Naming.{length_relation as length_relation_of, bound_relation as bound_relation_of};
+ghost use Rattle.rng_types.specs.Naming.{param_relation, is_length as is_length_text, is_bound as is_bound_text};
+ghost use Rattle.rng_types.specs.Naming.{facet_with, facet_of, is_taken, is_literal, range_end, range_of, type_of};
+ghost use Rattle.rng_types.specs.Naming.{IsUnlessMemory};
 
 use crate::datatype::{Datatype, Param};
 use crate::facet::{Facet, Facets, Relation};
@@ -88,7 +91,9 @@ fn length_of(value: &[u8]) -> u32
 
 /// The word of a value that is a bound for a word of the form.
 fn bound_word(form: Word, text: &str) -> Option<&str>
-    ensures { MatchOption result (is_bound_text (One form) text.now ≡ false) (λ word. (is_bound_text (One form) text.now ≡ true) × (word.now ≡ collapsed text.now)) }
+    ensures { MatchOption result
+        (is_bound_text (One form) text.now ≡ false)
+        (λ word. (is_bound_text (One form) text.now ≡ true) × (word.now ≡ collapsed text.now)) }
 {
     let word = only_word(text)?;
     if form.fits(word) && has_few_digits(word.as_bytes()) {
@@ -100,7 +105,9 @@ fn bound_word(form: Word, text: &str) -> Option<&str>
 
 /// The word of a value that is a bound for a text of the form.
 fn bound_of(form: Form, value: &[u8]) -> Option<&str>
-    ensures { MatchOption result (is_bound_text form value.now ≡ false) (λ word. (is_bound_text form value.now ≡ true) × (word.now ≡ collapsed value.now)) }
+    ensures { MatchOption result
+        (is_bound_text form value.now ≡ false)
+        (λ word. (is_bound_text form value.now ≡ true) × (word.now ≡ collapsed value.now)) }
 {
     match form {
         Form::One(word) => match str::from_utf8(value) {

@@ -4,7 +4,13 @@ ghost use Rattle.std.specs.Prelude.{◌≡◌, ◌≤◌, ◌*◌, ◌^◌, ◌+
 ghost use Rattle.std.specs.List.{list_all, prefix_len, position_or_len};
 ghost use Rattle.std.specs.Char.{is_ascii_digit};
 ghost use Rattle.std.specs.Ordering.{nat_cmp};
-ghost use Rattle.rng_types.specs.Numbers.{is_negative as is_negative_text, unsigned as unsigned_text, is_point, is_zero, whole_part as whole_of, fraction_part as fraction_of, is_digits as are_digits, is_decimal as is_decimal_text, is_integer as is_integer_text, number_of, compared, without_leading_zeros as without_zeros_before, without_trailing_zeros as without_zeros_behind, significant as significant_digits, has_few_digits as has_few};
+ghost use Rattle.rng_types.specs.Numbers.{is_negative as is_negative_text, unsigned as unsigned_text, is_point};
+ghost use Rattle.rng_types.specs.Numbers.{is_zero, whole_part as whole_of, fraction_part as fraction_of};
+ghost use Rattle.rng_types.specs.Numbers.{is_digits as are_digits, is_decimal as is_decimal_text};
+ghost use Rattle.rng_types.specs.Numbers.{is_integer as is_integer_text, number_of, compared};
+ghost use Rattle.rng_types.specs.Numbers.{without_leading_zeros as without_zeros_before};
+ghost use Rattle.rng_types.specs.Numbers.{without_trailing_zeros as without_zeros_behind};
+ghost use Rattle.rng_types.specs.Numbers.{significant as significant_digits, has_few_digits as has_few};
 
 use std::cmp::Ordering;
 

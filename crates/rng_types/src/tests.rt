@@ -51,7 +51,8 @@ static LITERALS: [(&str, &str, bool); 60] = [
     ("decimal", "+1.50", true), ("decimal", ".5", true), ("decimal", "5.", true), ("decimal", ".", false),
     ("decimal", "1e3", false), ("decimal", "1.2.3", false), ("decimal", "-", false), ("decimal", "1 2", false),
     ("integer", "+007", true), ("integer", "1.0", false), ("integer", "123456789012345678901234567890123456789", true),
-    ("nonPositiveInteger", "0", true), ("nonPositiveInteger", "1", false), ("negativeInteger", "-0", false), ("negativeInteger", "-1", true),
+    ("nonPositiveInteger", "0", true), ("nonPositiveInteger", "1", false), ("negativeInteger", "-0", false),
+    ("negativeInteger", "-1", true),
     ("nonNegativeInteger", "-0", true), ("nonNegativeInteger", "-1", false), ("positiveInteger", "+0", false),
     ("byte", "128", false), ("byte", "-128", true), ("byte", " +7 ", true), ("short", "32768", false),
     ("int", "-2147483648", true), ("int", "2147483648", false), ("long", "9223372036854775808", false),
@@ -93,10 +94,12 @@ fn compares_values(rt: HostRuntime) -> Result<(), Fail> {
 static FACETS: [(&str, &str, &str, &str, bool); 15] = [
     ("decimal", "minInclusive", "0001234567890123456789012345.678900", "1", false),
     ("string", "length", "2", "\u{e9}\u{e9}", true), ("string", "minLength", "2", "a", false), ("token", "maxLength", "3", " a  b ", true),
-    ("NMTOKENS", "maxLength", "1", "abc", true), ("NMTOKENS", "maxLength", "1", "a b", false), ("normalizedString", "length", "3", "a\tb", true),
+    ("NMTOKENS", "maxLength", "1", "abc", true), ("NMTOKENS", "maxLength", "1", "a b", false),
+    ("normalizedString", "length", "3", "a\tb", true),
     ("int", "minInclusive", "5", " +007 ", true), ("int", "minInclusive", " 5 ", "4", false), ("integer", "minInclusive", "10", "9", false),
-    ("decimal", "maxInclusive", "1.50", "1.5", true), ("decimal", "maxExclusive", "1.50", "1.5", false), ("decimal", "minExclusive", "-0.1", "-0.09", true),
-    ("decimal", "minExclusive", "-0.1", "-0.11", false), ("byte", "maxInclusive", "1000", "128", false),
+    ("decimal", "maxInclusive", "1.50", "1.5", true), ("decimal", "maxExclusive", "1.50", "1.5", false),
+    ("decimal", "minExclusive", "-0.1", "-0.09", true), ("decimal", "minExclusive", "-0.1", "-0.11", false),
+    ("byte", "maxInclusive", "1000", "128", false),
 ];
 
 #[test]

@@ -6,7 +6,8 @@ ghost use Rattle.std.specs.List.{list_all, slice_split, position_or_len};
 ghost use Rattle.std.specs.Str.{chars};
 ghost use Rattle.rng_types.specs.Spaces.{is_some_text};
 ghost use Rattle.nx_base.specs.Characters.{is_of_chars};
-ghost use Rattle.rng_types.specs.Words.{is_nm_token, is_subtag, is_language as is_language_text, is_true as is_true_text, is_false as is_false_text, is_word};
+ghost use Rattle.rng_types.specs.Words.{is_nm_token, is_subtag, is_language as is_language_text};
+ghost use Rattle.rng_types.specs.Words.{is_true as is_true_text, is_false as is_false_text, is_word};
 
 use crate::kind::Word;
 use crate::number::{is_decimal, is_integer};
