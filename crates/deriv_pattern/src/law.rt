@@ -1,0 +1,13 @@
+//! Laws of what the functions here ask for. Nothing here runs.
+
+ghost use Rattle.deriv_pattern.specs.Leaves.{SoundAreInOrder, LeftInOrder};
+
+/// The patterns of a sound grammar are in order.
+pub fn sound_are_in_order()
+    ensures { SoundAreInOrder }
+{}
+
+/// What is left of patterns that are in order is in order.
+pub fn left_is_in_order()
+    ensures { LeftInOrder }
+{}
