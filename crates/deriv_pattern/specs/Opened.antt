@@ -15,6 +15,6 @@ openings_of opened = map opening_of opened
 
 -- an opening of a part as one of the whole, of which this is the other side
 abbrev pub placed : Place → Pattern → Opening → Opening
-placed InGroup q o = then_group q o
-placed InFirst q o = then_interleave q o
-placed InSecond q o = under_interleave q o
+placed InGroup = then_group
+placed InFirst = then_interleave
+placed InSecond = under_interleave

@@ -22,10 +22,21 @@ use rng_types::datatype::{Datatype, Except, Excepts};
 use std::alloc::Global;
 
 /// Whether there is nothing but white space, or nothing at all.
-pub(crate) fn is_blank(text: &[u8]) -> bool
+pub fn is_blank(text: &[u8]) -> bool
     ensures { result ≡ is_blank_text text.now }
 {
     text.iter().all(|byte| is_space(char::from(*byte)))
+}
+
+/// The bytes of a text as a text.
+fn text_of(bytes: &[u8]) -> &str
+    requires { IsTrue (is_utf8 bytes.now) }
+    ensures { result.now ≡ bytes.now }
+{
+    let Ok(text) = str::from_utf8(bytes) else {
+        unreachable!();
+    };
+    text
 }
 
 /// Whether a text is of a type, and no except takes it away.
@@ -48,10 +59,7 @@ pub(crate) fn is_value(datatype: &Datatype, wanted: &Bytes, text: &str) -> bool
     if !datatype.accepts(text) {
         return false;
     }
-    match str::from_utf8(wanted.as_slice()) {
-        Ok(wanted) => datatype.same(text, wanted),
-        Err(_) => unreachable!(),
-    }
+    datatype.same(text, text_of(wanted.as_slice()))
 }
 
 /// Whether a type has a member that no except takes away, and that is one token where one is asked for.
@@ -97,13 +105,8 @@ fn has_one_token(alloc: Global, datatype: &Datatype, wanted: &Bytes) -> Result<b
     requires { IsTrue (is_utf8 wanted.now) }
     ensures { IfOk result (λ found. found ≡ is_some (one_token_of datatype.now wanted.now)) }
 {
-    match str::from_utf8(wanted.as_slice()) {
-        Ok(wanted) => {
-            let token = datatype.as_one_token(alloc, wanted)?;
-            Ok(token.is_some())
-        }
-        Err(_) => unreachable!(),
-    }
+    let token = datatype.as_one_token(alloc, text_of(wanted.as_slice()))?;
+    Ok(token.is_some())
 }
 
 /// Whether the body of a list matches some words, one at least.

@@ -10,7 +10,7 @@
 pub mod attributes;
 mod boxes;
 pub mod law;
-mod leaves;
+pub mod leaves;
 pub mod openings;
 mod parts;
 pub mod required;

@@ -1,14 +1,14 @@
 //! What an element's name opens: the definitions whose elements may begin here, with what is left behind the element.
 
-ghost use Rattle.std.specs.Prelude.{ℕ, ◌≡◌, ◌==◌, ◌≤◌, length, IfOk, map, slice_get};
+ghost use Rattle.std.specs.Prelude.{ℕ, ◌≡◌, ◌==◌, ◌≤◌, length, IfOk, OnOk, map, slice_get};
 ghost use Rattle.std.specs.List.{position_or_len};
 ghost use Rattle.rng_core.specs.Meaning.{pattern_of, definition_of};
 ghost use Rattle.rng_core.specs.Patterns.{choice, empty};
-ghost use Rattle.rng_kept.specs.SmallPatterns.{star as star_of};
+ghost use Rattle.rng_kept.specs.SmallPatterns.{choice_of as choice_of_both, star as star_of};
 ghost use Rattle.rng_kept.specs.Openings as s;
 ghost use Rattle.rng_kept.specs.Skipping as skipping;
 ghost use Rattle.rng_kept.specs.Entering as entering;
-ghost use Rattle.deriv_pattern.specs.Opened.{openings_of, placed};
+ghost use Rattle.deriv_pattern.specs.Opened.{opening_of, openings_of, placed};
 
 use crate::boxes::{boxed, boxed_copy, boxed_empty, boxed_choice, boxed_not_allowed};
 use crate::parts::{either_side, first_of_many};
@@ -52,7 +52,17 @@ fn place_of(number: u32, opened: &[Open]) -> usize
         .count()
 }
 
+/// Adds to what is left by an opening what is left by another one of its number. Where there is no memory, the opening is lost.
+fn with_rest(alloc: Global, one: &mut Open, rest: &Pat) -> Result<(), NoMemory>
+    ensures { OnOk result (opening_of one.new ≡ s.opening one.old.number (choice_of_both (pattern_of one.old.rest) (pattern_of rest.now))) }
+{
+    let old = mem::replace(&mut one.rest, Pat::NotAllowed);
+    one.rest = choice_of(alloc, old, rest)?;
+    Ok(())
+}
+
 /// The openings with one more; of each number there is one, with the rests of all.
+#[tactic(auto, using(crate::proofs::Opened::added_behind, crate::proofs::Opened::added_at))]
 fn added(alloc: Global, opened: Vec<Open>, more: Open) -> Result<Vec<Open>, NoMemory>
     ensures { IfOk result (λ made. openings_of made.items ≡ s.added more.number (pattern_of more.rest) (openings_of opened.items)) }
 {
@@ -62,8 +72,7 @@ fn added(alloc: Global, opened: Vec<Open>, more: Open) -> Result<Vec<Open>, NoMe
         opened.push(more)?;
         return Ok(opened);
     }
-    let rest = mem::replace(&mut opened[place].rest, Pat::NotAllowed);
-    opened[place].rest = choice_of(alloc, rest, &more.rest)?;
+    with_rest(alloc, &mut opened[place], &more.rest)?;
     Ok(opened)
 }
 

@@ -50,7 +50,7 @@ pub fn nullable(p: &Pat) -> bool
 }
 
 /// Whether the two are put together alike.
-fn same_pattern(p: &Pat, q: &Pat) -> bool
+pub fn same_pattern(p: &Pat, q: &Pat) -> bool
     ensures { result ≡ same_patterns (pattern_of p.now) (pattern_of q.now) }
 {
     p.same(q)

@@ -62,6 +62,7 @@ fn after_word(alloc: Global, word: &str, p: &Pat) -> Result<Box<Pat>, NoMemory>
 }
 
 /// Whether the words of a text match the body of a list.
+#[tactic(auto, using(crate::proofs::InOrder::word_in_order))]
 fn words_match(alloc: Global, text: &str, body: &Pat) -> Result<bool, NoMemory>
     requires { IsInOrder (pattern_of body.now) }
     ensures { IfOk result (λ found. found ≡ is_nullable (s.after_words (words text.now) (pattern_of body.now))) }
