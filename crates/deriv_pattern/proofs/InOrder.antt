@@ -1,5 +1,5 @@
 -- What is left of patterns that are in order is in order.
-use Rattle.std.proofs.Common.{ℕ, Bool, true, List, [], ◌∷◌, map, ◌==◌, Option, None, Some, tt}
+use Rattle.std.proofs.Common.{ℕ, Bool, true, List, [], ◌∷◌, map, ◌==◌, Option, None, Some}
 use Rattle.std.specs.Prelude.{slice_get}
 use Rattle.nx_base.specs.declared.name.Name.{Name}
 use Rattle.rng_core.specs.Names.{has_name}
@@ -58,10 +58,10 @@ loosen_in_order (literal type text) c = if_keeps order_keeps (solid_tests.of_val
 loosen_in_order (listed p) c = if_keeps order_keeps (solid_tests.of_list p) (listed p) c
 loosen_in_order (attribute class p) c = c
 loosen_in_order (ref i) c = tt
-loosen_in_order (one_or_more p) c = more_in_order _ (loosen_in_order p c)
-loosen_in_order (choice p q) c = both_chosen _ _ (loosen_in_order p c.0) (loosen_in_order q c.1)
-loosen_in_order (group p q) c = both_grouped _ _ (loosen_in_order p c.0) (loosen_in_order q c.1)
-loosen_in_order (interleave p q) c = both_shuffled _ _ (loosen_in_order p c.0) (loosen_in_order q c.1)
+loosen_in_order (one_or_more p) c = more_in_order (loosen p) (loosen_in_order p c)
+loosen_in_order (choice p q) c = both_chosen (loosen p) (loosen q) (loosen_in_order p c.0) (loosen_in_order q c.1)
+loosen_in_order (group p q) c = both_grouped (loosen p) (loosen q) (loosen_in_order p c.0) (loosen_in_order q c.1)
+loosen_in_order (interleave p q) c = both_shuffled (loosen p) (loosen q) (loosen_in_order p c.0) (loosen_in_order q c.1)
 
 close_in_order : (p : Pattern) → IsInOrder p → IsInOrder (close p)
 close_in_order not_allowed c = tt
@@ -72,10 +72,10 @@ close_in_order (literal type text) c = c
 close_in_order (listed p) c = c
 close_in_order (attribute class p) c = tt
 close_in_order (ref i) c = tt
-close_in_order (one_or_more p) c = more_in_order _ (close_in_order p c)
-close_in_order (choice p q) c = both_chosen _ _ (close_in_order p c.0) (close_in_order q c.1)
-close_in_order (group p q) c = both_grouped _ _ (close_in_order p c.0) (close_in_order q c.1)
-close_in_order (interleave p q) c = both_shuffled _ _ (close_in_order p c.0) (close_in_order q c.1)
+close_in_order (one_or_more p) c = more_in_order (close p) (close_in_order p c)
+close_in_order (choice p q) c = both_chosen (close p) (close q) (close_in_order p c.0) (close_in_order q c.1)
+close_in_order (group p q) c = both_grouped (close p) (close q) (close_in_order p c.0) (close_in_order q c.1)
+close_in_order (interleave p q) c = both_shuffled (close p) (close q) (close_in_order p c.0) (close_in_order q c.1)
 
 drop_in_order : (p : Pattern) → IsInOrder p → IsInOrder (drop p)
 drop_in_order not_allowed c = tt
@@ -86,10 +86,10 @@ drop_in_order (literal type text) c = c
 drop_in_order (listed p) c = c
 drop_in_order (attribute class p) c = tt
 drop_in_order (ref i) c = tt
-drop_in_order (one_or_more p) c = more_in_order _ (drop_in_order p c)
-drop_in_order (choice p q) c = both_chosen _ _ (drop_in_order p c.0) (drop_in_order q c.1)
-drop_in_order (group p q) c = both_grouped _ _ (drop_in_order p c.0) (drop_in_order q c.1)
-drop_in_order (interleave p q) c = both_shuffled _ _ (drop_in_order p c.0) (drop_in_order q c.1)
+drop_in_order (one_or_more p) c = more_in_order (drop p) (drop_in_order p c)
+drop_in_order (choice p q) c = both_chosen (drop p) (drop q) (drop_in_order p c.0) (drop_in_order q c.1)
+drop_in_order (group p q) c = both_grouped (drop p) (drop q) (drop_in_order p c.0) (drop_in_order q c.1)
+drop_in_order (interleave p q) c = both_shuffled (drop p) (drop q) (drop_in_order p c.0) (drop_in_order q c.1)
 
 ending_in_order : (p : Pattern) → IsInOrder p → IsInOrder (ending p)
 ending_in_order not_allowed c = tt
@@ -100,10 +100,10 @@ ending_in_order (literal type text) c = (c, tt)
 ending_in_order (listed p) c = (c, tt)
 ending_in_order (attribute class p) c = tt
 ending_in_order (ref i) c = (tt, tt)
-ending_in_order (one_or_more p) c = both_grouped _ _ (ending_in_order p c) (star_in_order p c)
-ending_in_order (choice p q) c = both_chosen _ _ (ending_in_order p c.0) (ending_in_order q c.1)
-ending_in_order (group p q) c = both_chosen _ _ (both_grouped _ _ (ending_in_order p c.0) c.1) (ending_in_order q c.1)
-ending_in_order (interleave p q) c = both_shuffled _ _ (ending_in_order p c.0) (ending_in_order q c.1)
+ending_in_order (one_or_more p) c = both_grouped (ending p) (star p) (ending_in_order p c) (star_in_order p c)
+ending_in_order (choice p q) c = both_chosen (ending p) (ending q) (ending_in_order p c.0) (ending_in_order q c.1)
+ending_in_order (group p q) c = both_chosen (group_of (ending p) q) (ending q) (both_grouped (ending p) q (ending_in_order p c.0) c.1) (ending_in_order q c.1)
+ending_in_order (interleave p q) c = both_shuffled (ending p) (ending q) (ending_in_order p c.0) (ending_in_order q c.1)
 
 -- ---- openings
 

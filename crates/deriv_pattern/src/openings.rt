@@ -1,7 +1,7 @@
 //! What an element's name opens: the definitions whose elements may begin here, with what is left behind the element.
 
 ghost use Rattle.std.specs.Prelude.{ℕ, ◌≡◌, ◌==◌, ◌≤◌, length, IfOk, OnOk, map, slice_get};
-ghost use Rattle.std.specs.List.{position_or_len};
+ghost use Rattle.std.specs.List.{list_any, position_or_len};
 ghost use Rattle.rng_core.specs.Meaning.{pattern_of, definition_of};
 ghost use Rattle.rng_core.specs.Patterns.{choice, empty};
 ghost use Rattle.rng_kept.specs.SmallPatterns.{choice_of as choice_of_both, star as star_of};
@@ -62,7 +62,7 @@ fn with_rest(alloc: Global, one: &mut Open, rest: &Pat) -> Result<(), NoMemory>
 }
 
 /// The openings with one more; of each number there is one, with the rests of all.
-#[tactic(auto, using(crate::proofs::Opened::added_behind, crate::proofs::Opened::added_at))]
+#[tactic(auto, using(crate::proofs::Opened::added_at))]
 fn added(alloc: Global, opened: Vec<Open>, more: Open) -> Result<Vec<Open>, NoMemory>
     ensures { IfOk result (λ made. openings_of made.items ≡ s.added more.number (pattern_of more.rest) (openings_of opened.items)) }
 {
@@ -318,9 +318,16 @@ pub fn rest_at(alloc: Global, number: u32, opened: &[Open]) -> Result<Pat, NoMem
     Ok(left)
 }
 
+/// Whether one of the openings has the number.
+fn some_has(number: u32, opened: &[Open]) -> bool
+    ensures { result ≡ list_any (λ one. number == one.number) opened.now }
+{
+    opened.iter().any(|one| number == one.number)
+}
+
 /// Whether there is an opening of the number.
 pub fn has_number(number: u32, opened: &[Open]) -> bool
     ensures { result ≡ entering.has_number number (openings_of opened.now) }
 {
-    opened.iter().any(|one| number == one.number)
+    some_has(number, opened)
 }

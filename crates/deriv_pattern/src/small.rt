@@ -38,8 +38,9 @@ pub fn nullable(p: &Pat) -> bool
         Pat::Text => true,
         Pat::OneOrMore(body) => nullable(body),
         Pat::Choice(a, b) => nullable(a) || nullable(b),
-        Pat::Group(a, b) => nullable(a) && nullable(b),
-        Pat::Interleave(a, b) => nullable(a) && nullable(b),
+        // Parts of one whole nest to the left, so that asking the last one first mostly ends at once.
+        Pat::Group(a, b) => nullable(b) && nullable(a),
+        Pat::Interleave(a, b) => nullable(b) && nullable(a),
         Pat::NotAllowed => false,
         Pat::Typed(_, _) => false,
         Pat::Value(_, _) => false,
