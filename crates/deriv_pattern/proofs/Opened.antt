@@ -1,7 +1,7 @@
 -- Lists of openings, as the code keeps them.
-use Rattle.std.proofs.Common.{◌≡◌, ℕ, ◌<◌, List, [], ◌∷◌, ◌++◌, length, map, set, get_or, Bool, true, false, ◌==◌, ◌||◌, refl, sym, ap, ◌∙◌, suc, zero, arith, ◌+◌, cond}
+use Rattle.std.proofs.Common.{◌≡◌, ℕ, ◌<◌, List, [], ◌∷◌, ◌++◌, length, set, get_or, Bool, true, false, ◌==◌, ◌||◌, refl, sym, ap, ◌∙◌, suc, zero, arith, ◌+◌, cond}
 use Rattle.std.specs.Prelude.{if◌then◌else◌, not}
-use Rattle.std.specs.List.{prefix_len, position_or_len, list_any}
+use Rattle.std.specs.List.{position_or_len, list_any}
 use Rattle.std.proofs.lemmas.List.{map-append}
 use Rattle.rng_core.specs.Meaning.{pattern_of}
 use Rattle.rng_core.specs.Patterns.{Pattern}

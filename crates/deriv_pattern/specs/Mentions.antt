@@ -2,7 +2,8 @@
 use Rattle.std.specs.Prelude.{◌++◌, List, [], ◌∷◌}
 use Rattle.nx_base.specs.declared.name.Name.{Name}
 use Rattle.rng_core.specs.Names.{Class, any_name, ns_name, the_name, either, without}
-use Rattle.rng_core.specs.Patterns.{Pattern, not_allowed, empty, any_text, typed, literal, listed, attribute, ref, one_or_more, choice, group, interleave}
+use Rattle.rng_core.specs.Patterns.{Pattern, not_allowed, empty, any_text, typed, literal, listed, attribute, ref}
+use Rattle.rng_core.specs.Patterns.{one_or_more, choice, group, interleave}
 
 -- the names that a class mentions
 abbrev pub names_in : Class → List Name

@@ -115,12 +115,7 @@ fn behind_attribute(
 }
 
 /// Behind an attribute.
-pub fn after_attribute(
-    alloc: Global,
-    p: &Pat,
-    name: &Name,
-    value: &str,
-) -> Result<Pat, NoMemory>
+pub fn after_attribute(alloc: Global, p: &Pat, name: &Name, value: &str) -> Result<Pat, NoMemory>
     requires { IsInOrder (pattern_of p.now) }
     ensures { IfOk result (λ left. pattern_of left ≡ s.after_attribute name.now value.now (pattern_of p.now)) }
 {

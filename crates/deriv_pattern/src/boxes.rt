@@ -80,7 +80,11 @@ pub(crate) fn boxed_group(alloc: Global, a: Box<Pat>, b: Box<Pat>) -> Result<Box
 
 /// An interleave in a box.
 #[inline(never)]
-pub(crate) fn boxed_interleave(alloc: Global, a: Box<Pat>, b: Box<Pat>) -> Result<Box<Pat>, NoMemory>
+pub(crate) fn boxed_interleave(
+    alloc: Global,
+    a: Box<Pat>,
+    b: Box<Pat>,
+) -> Result<Box<Pat>, NoMemory>
     ensures { IfOk result (λ made. pattern_of made.value ≡ interleave (pattern_of a.value) (pattern_of b.value)) }
 {
     boxed(alloc, Pat::Interleave(a, b))

@@ -17,5 +17,3 @@ pub mod required;
 pub mod small;
 pub mod solid;
 pub mod strings;
-#[cfg(test)]
-mod tests;

@@ -10,7 +10,7 @@ ghost use Rattle.rng_kept.specs.Skipping as skipping;
 ghost use Rattle.rng_kept.specs.Entering as entering;
 ghost use Rattle.deriv_pattern.specs.Opened.{opening_of, openings_of, placed};
 
-use crate::boxes::{boxed, boxed_copy, boxed_empty, boxed_choice, boxed_not_allowed};
+use crate::boxes::{boxed, boxed_choice, boxed_copy, boxed_empty, boxed_not_allowed};
 use crate::parts::{either_side, first_of_many};
 use crate::small::{
     beside_first, choice_of, either, group_of, interleave_of, nullable, shuffled, star,
@@ -46,15 +46,13 @@ fn place_of(number: u32, opened: &[Open]) -> usize
     ensures place { result ≡ position_or_len (λ one. number == one.number) opened.now }
     ensures within { result ≤ length opened.now }
 {
-    opened
-        .iter()
-        .take_while(|one| number != one.number)
-        .count()
+    opened.iter().take_while(|one| number != one.number).count()
 }
 
 /// Adds to what is left by an opening what is left by another one of its number. Where there is no memory, the opening is lost.
 fn with_rest(alloc: Global, one: &mut Open, rest: &Pat) -> Result<(), NoMemory>
-    ensures { OnOk result (opening_of one.new ≡ s.opening one.old.number (choice_of_both (pattern_of one.old.rest) (pattern_of rest.now))) }
+    ensures { OnOk result (opening_of one.new
+        ≡ s.opening one.old.number (choice_of_both (pattern_of one.old.rest) (pattern_of rest.now))) }
 {
     let old = mem::replace(&mut one.rest, Pat::NotAllowed);
     one.rest = choice_of(alloc, old, rest)?;

@@ -67,7 +67,7 @@ pub(crate) fn one_of_interleave(
 ) -> Result<Box<Pat>, NoMemory>
     ensures { IfOk result (λ made. pattern_of made.value ≡
         choice_of (interleave_of (pattern_of left.value) (pattern_of q.now))
-            (interleave_of (pattern_of p.now) (pattern_of second.value))) }
+        (interleave_of (pattern_of p.now) (pattern_of second.value))) }
 {
     let front = beside(alloc, left, q)?;
     either(alloc, front, beside_first(alloc, p, second)?)

@@ -122,7 +122,12 @@ fn takes_list(alloc: Global, solid: bool, text: &str, body: &Pat) -> Result<bool
 }
 
 /// Behind the text, or behind some text that isn't blank.
-pub(crate) fn behind_string(alloc: Global, solid: bool, text: &str, p: &Pat) -> Result<Box<Pat>, NoMemory>
+pub(crate) fn behind_string(
+    alloc: Global,
+    solid: bool,
+    text: &str,
+    p: &Pat,
+) -> Result<Box<Pat>, NoMemory>
     requires { IsInOrder (pattern_of p.now) }
     ensures { IfOk result (λ left. pattern_of left.value ≡ s.after_by (tests_of solid text.now) (pattern_of p.now)) }
 {

@@ -1,4 +1,4 @@
-use Rattle.std.proofs.Common.{ap, ◌≡◌, ◌∙◌, ◌==◌, ◌++◌, ◌∷◌, [], length, arith}
+use Rattle.std.proofs.Common.{ap, ◌≡◌, ◌∙◌, ◌==◌, length, arith}
 use Rattle.std.specs.List.{position_or_len}
 use Rattle.deriv_pattern.specs.Opened.{openings_of}
 use Rattle.deriv_pattern.proofs.Opened.{added_last}
