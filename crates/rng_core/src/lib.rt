@@ -14,3 +14,7 @@ pub mod overlap;
 mod sorted_class;
 #[cfg(test)]
 mod tests;
+
+pub use grammar::{Def, Defs, Grammar, Pat};
+pub use name_class::NameClass;
+pub use overlap::overlap;

@@ -34,3 +34,8 @@ pub mod schema;
 pub mod sorting;
 mod takes;
 mod waiting;
+
+pub use fault::LiveFault;
+pub use matcher::Matcher;
+pub use prune::prune;
+pub use schema::Schema;

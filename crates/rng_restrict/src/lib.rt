@@ -29,3 +29,6 @@ mod reach;
 mod tests;
 mod text;
 mod wildcard;
+
+pub use check::check;
+pub use fault::RestrictFault;

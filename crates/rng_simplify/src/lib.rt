@@ -44,3 +44,6 @@ mod stop;
 #[cfg(test)]
 mod tests;
 pub mod types;
+
+pub use fault::SchemaFault;
+pub use simplify::simplify;

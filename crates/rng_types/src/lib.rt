@@ -35,3 +35,6 @@ mod table;
 #[cfg(test)]
 mod tests;
 pub mod word;
+
+pub use datatype::{Datatype, Except, Excepts, Param};
+pub use fault::TypeFault;
