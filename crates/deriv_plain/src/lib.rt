@@ -9,6 +9,4 @@ pub mod plain;
 mod required;
 pub mod step;
 mod tags;
-#[cfg(test)]
-mod tests;
 pub mod ways;
