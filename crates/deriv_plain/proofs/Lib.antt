@@ -1,0 +1,4 @@
+mod Alike
+mod Joined
+mod Steady
+mod Needed
