@@ -10,8 +10,12 @@
 pub mod attributes;
 mod boxes;
 pub mod law;
+mod leaves;
 pub mod openings;
+mod parts;
 pub mod required;
 pub mod small;
 pub mod solid;
 pub mod strings;
+#[cfg(test)]
+mod tests;
