@@ -26,3 +26,5 @@ mod Leavings
 mod Derived
 mod Assembled
 mod Knowing
+mod InOrder
+mod Findings

@@ -17,7 +17,8 @@ pub data ValuesAre (Ok : List ℕ → Type 0) : List Attribute → Type 0 where
 pub data StringsAre (Ok : List ℕ → Type 0) : Children → Type 0 where
   no_strings : StringsAre Ok nil
   one_string : {text : List ℕ} {rest : Children} → Ok text → StringsAre Ok rest → StringsAre Ok (string text rest)
-  one_element : {n : Name} {a : List Attribute} {k rest : Children} → ValuesAre Ok a → StringsAre Ok k → StringsAre Ok rest → StringsAre Ok (element n a k rest)
+  one_element : {n : Name} {a : List Attribute} {k rest : Children} → ValuesAre Ok a → StringsAre Ok k → StringsAre Ok rest
+      → StringsAre Ok (element n a k rest)
 
 -- a text of characters that XML allows
 pub record IsOfChars (text : List ℕ) : Type 0 where

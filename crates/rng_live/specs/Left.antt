@@ -1,6 +1,7 @@
 -- What is left of a pattern by marks, and which definitions it refers to.
 use Rattle.std.specs.Prelude.{◌≡◌, ◌<◌, ℕ, zero, Bool, true, false, ◌&&◌, List, Option, None, Some, slice_get, get_or, map, nat_lt}
-use Rattle.rng_core.specs.Patterns.{Pattern, Definition, not_allowed, empty, any_text, typed, literal, listed, attribute, ref, one_or_more, choice, group, interleave}
+use Rattle.rng_core.specs.Patterns.{Pattern, Definition, not_allowed, empty, any_text, typed, literal, listed, attribute, ref, one_or_more}
+use Rattle.rng_core.specs.Patterns.{choice, group, interleave}
 use Rattle.rng_restrict.specs.Finding.{is_among, with_references}
 use Rattle.rng_live.specs.declared.condition.Condition.{Condition}
 use Rattle.rng_live.specs.declared.condition.Condition.TheVariants.{Known, If, Both, Either}
@@ -77,5 +78,7 @@ pub record IsLeft (count : ℕ) (marks : List Bool) (p : Pattern) (numbers numbe
   pub left : PrunesBy (λ q. lives_with marks q ≡ true) (λ q. lives_with marks q ≡ false) numbers' p r
 
 -- that is what is left, where the number is that of the pattern's condition, and the marks are those of the conditions that hold
-pub record LeavesTo (conditions : List Condition) (marks : List Bool) (count number : ℕ) (p : Pattern) (numbers numbers' : List ℕ) (r : Pattern) : Type 0 where
-  pub leaves : (low : ℕ) → Spells low conditions number p → AreHeld conditions marks → refs_are (λ i. nat_lt i count) p ≡ true → IsLeft count marks p numbers numbers' r
+pub record LeavesTo (conditions : List Condition) (marks : List Bool) (count number : ℕ) (p : Pattern) (numbers numbers' : List ℕ)
+    (r : Pattern) : Type 0 where
+  pub leaves : (low : ℕ) → Spells low conditions number p → AreHeld conditions marks → refs_are (λ i. nat_lt i count) p ≡ true
+      → IsLeft count marks p numbers numbers' r

@@ -9,3 +9,5 @@ pub mod Living
 pub mod Spelling
 pub mod Left
 pub mod Leaving
+pub mod Gathered
+pub mod Listed

@@ -8,7 +8,8 @@ use Rattle.rng_core.specs.declared.name_class.Bearer.{Bearer}
 use Rattle.rng_core.specs.declared.name_class.Bearer.TheVariants.{Element, Attribute}
 use Rattle.rng_core.specs.Names.{Class}
 use Rattle.rng_core.specs.Unmentioned.{borne, overlaps}
-use Rattle.rng_core.specs.Patterns.{Pattern, Definition, not_allowed, empty, any_text, typed, literal, listed, attribute, ref, one_or_more, choice, group, interleave}
+use Rattle.rng_core.specs.Patterns.{Pattern, Definition, not_allowed, empty, any_text, typed, literal, listed, attribute, ref, one_or_more}
+use Rattle.rng_core.specs.Patterns.{choice, group, interleave}
 use Rattle.rng_kept.specs.Nullable.{nullable}
 use Rattle.rng_kept.specs.SolidStrings.{has_words}
 use Rattle.rng_live.specs.Conditions.{is_marked}

@@ -26,14 +26,16 @@ pub record AreOrdered (waiters : List Waiter) (lists : List (Option ℕ)) : Type
   pub begins : (x place : ℕ) → list_of lists x ≡ Some place → place < length waiters
 
 -- a number was put on the list of another
-pub record IsNoted (on number : ℕ) (waiters : List Waiter) (lists : List (Option ℕ)) (waiters' : List Waiter) (lists' : List (Option ℕ)) : Type 0 where
+pub record IsNoted (on number : ℕ) (waiters : List Waiter) (lists : List (Option ℕ)) (waiters' : List Waiter)
+    (lists' : List (Option ℕ)) : Type 0 where
   pub still_ordered : AreOrdered waiters lists → AreOrdered waiters' lists'
   pub stays : (x k : ℕ) → OnList waiters (list_of lists x) k → OnList waiters' (list_of lists' x) k
   pub added : on < length lists → OnList waiters' (list_of lists' on) number
   pub steady : length lists' ≡ length lists
 
 -- a number was put on the lists of all that its condition rests on
-pub record IsNotedAt (number : ℕ) (c : Condition) (waiters : List Waiter) (lists : List (Option ℕ)) (waiters' : List Waiter) (lists' : List (Option ℕ)) : Type 0 where
+pub record IsNotedAt (number : ℕ) (c : Condition) (waiters : List Waiter) (lists : List (Option ℕ)) (waiters' : List Waiter)
+    (lists' : List (Option ℕ)) : Type 0 where
   pub still_ordered : AreOrdered waiters lists → AreOrdered waiters' lists'
   pub stays : (x k : ℕ) → OnList waiters (list_of lists x) k → OnList waiters' (list_of lists' x) k
   pub added : (x : ℕ) → RestsOn c x → x < length lists → OnList waiters' (list_of lists' x) number
@@ -42,7 +44,8 @@ pub record IsNotedAt (number : ℕ) (c : Condition) (waiters : List Waiter) (lis
 -- each of the first so many conditions stands on the lists of all that it rests on
 pub record AreListed (conditions : List Condition) (count : ℕ) (waiters : List Waiter) (lists : List (Option ℕ)) : Type 0 where
   pub ordered : AreOrdered waiters lists
-  pub listed : (k x : ℕ) (c : Condition) → k < count → slice_get conditions k ≡ Some c → RestsOn c x → x < length conditions → OnList waiters (list_of lists x) k
+  pub listed : (k x : ℕ) (c : Condition) → k < count → slice_get conditions k ≡ Some c → RestsOn c x → x < length conditions
+      → OnList waiters (list_of lists x) k
   pub steady : length lists ≡ length conditions
 
 -- ---- marks
@@ -68,9 +71,11 @@ pub data IsExcused (waiters : List Waiter) (list : Option ℕ) (waking next from
   wakes_now : RestsOn c waking → OnList waiters list k → IsExcused waiters list waking next from found k c
 
 -- what was found holds, and what holds by it was found or is excused
-pub record AreSettled (conditions : List Condition) (waiters : List Waiter) (list : Option ℕ) (waking next from : ℕ) (found : List ℕ) : Type 0 where
+pub record AreSettled (conditions : List Condition) (waiters : List Waiter) (list : Option ℕ) (waking next from : ℕ)
+    (found : List ℕ) : Type 0 where
   pub only : (k : ℕ) → is_among k found ≡ true → Holds conditions k
-  pub excused : (k : ℕ) (c : Condition) → slice_get conditions k ≡ Some c → is_among k found ≡ false → holds_where (λ i. is_among i found) c ≡ true
+  pub excused : (k : ℕ) (c : Condition) → slice_get conditions k ≡ Some c → is_among k found ≡ false
+      → holds_where (λ i. is_among i found) c ≡ true
       → IsExcused waiters list waking next from found k c
   pub within : next ≤ length found
 

@@ -4,7 +4,8 @@ use Rattle.nx_base.specs.Trees.{Attribute, Children}
 use Rattle.rng_types.specs.declared.datatype.Datatype.{Datatype}
 use Rattle.rng_types.specs.declared.datatype.Except.{Except}
 use Rattle.rng_core.specs.Names.{Class}
-use Rattle.rng_core.specs.Patterns.{Pattern, Definition, not_allowed, empty, any_text, typed, literal, listed, attribute, ref, one_or_more, choice, group, interleave}
+use Rattle.rng_core.specs.Patterns.{Pattern, Definition, not_allowed, empty, any_text, typed, literal, listed, attribute, ref, one_or_more}
+use Rattle.rng_core.specs.Patterns.{choice, group, interleave}
 use Rattle.rng_core.specs.Matching.{Matches}
 use Rattle.rng_restrict.specs.Standing.{Stands}
 use Rattle.rng_core.specs.Patterns.{Language}
@@ -19,21 +20,26 @@ pub data PrunesBy (Live Dead : Pattern → Type 0) (numbers : List ℕ) : Patter
   prunes_data : {type : Datatype} {excepts : List Except} → PrunesBy Live Dead numbers (typed type excepts) (typed type excepts)
   prunes_value : {type : Datatype} {text : List ℕ} → PrunesBy Live Dead numbers (literal type text) (literal type text)
   prunes_list : {p r : Pattern} → PrunesBy Live Dead numbers p r → PrunesBy Live Dead numbers (listed p) (listed r)
-  prunes_attribute : {class : Class} {p r : Pattern} → PrunesBy Live Dead numbers p r → PrunesBy Live Dead numbers (attribute class p) (attribute class r)
+  prunes_attribute : {class : Class} {p r : Pattern} → PrunesBy Live Dead numbers p r
+      → PrunesBy Live Dead numbers (attribute class p) (attribute class r)
   prunes_ref : {i k : ℕ} → slice_get numbers k ≡ Some i → PrunesBy Live Dead numbers (ref i) (ref k)
   prunes_one_or_more : {p r : Pattern} → PrunesBy Live Dead numbers p r → PrunesBy Live Dead numbers (one_or_more p) (one_or_more r)
   -- both sides live; the second is dead; the first is dead
-  prunes_neither : {p q r s : Pattern} → Live p → Live q → PrunesBy Live Dead numbers p r → PrunesBy Live Dead numbers q s → PrunesBy Live Dead numbers (choice p q) (choice r s)
+  prunes_neither : {p q r s : Pattern} → Live p → Live q → PrunesBy Live Dead numbers p r → PrunesBy Live Dead numbers q s
+      → PrunesBy Live Dead numbers (choice p q) (choice r s)
   prunes_second : {p q r : Pattern} → Live p → Dead q → PrunesBy Live Dead numbers p r → PrunesBy Live Dead numbers (choice p q) r
   prunes_first : {p q s : Pattern} → Dead p → PrunesBy Live Dead numbers q s → PrunesBy Live Dead numbers (choice p q) s
-  prunes_group : {p q r s : Pattern} → PrunesBy Live Dead numbers p r → PrunesBy Live Dead numbers q s → PrunesBy Live Dead numbers (group p q) (group r s)
-  prunes_interleave : {p q r s : Pattern} → PrunesBy Live Dead numbers p r → PrunesBy Live Dead numbers q s → PrunesBy Live Dead numbers (interleave p q) (interleave r s)
+  prunes_group : {p q r s : Pattern} → PrunesBy Live Dead numbers p r → PrunesBy Live Dead numbers q s
+      → PrunesBy Live Dead numbers (group p q) (group r s)
+  prunes_interleave : {p q r s : Pattern} → PrunesBy Live Dead numbers p r → PrunesBy Live Dead numbers q s
+      → PrunesBy Live Dead numbers (interleave p q) (interleave r s)
 
 abbrev pub Prunes : List Definition → List ℕ → Pattern → Pattern → Type 0
 Prunes g numbers p r = PrunesBy (Lives g) (IsDead g) numbers p r
 
 -- a definition is the one of a number, with its class and its pruned content
-pub record PrunesDefinitionBy (Live Dead : Pattern → Type 0) (g : List Definition) (numbers : List ℕ) (i : ℕ) (e : Definition) : Type 0 where
+pub record PrunesDefinitionBy (Live Dead : Pattern → Type 0) (g : List Definition) (numbers : List ℕ) (i : ℕ)
+    (e : Definition) : Type 0 where
   pub definition : Definition
   pub is : slice_get g i ≡ Some definition
   pub same_class : e.class ≡ definition.class
@@ -60,9 +66,11 @@ pub record IsPruned (old new : Language) : Type 0 where
   pub once : AreOnce numbers
   pub start : Prunes old.definitions numbers old.start new.start
   pub as_many : length new.definitions ≡ length numbers
-  pub definitions : (k i : ℕ) (e : Definition) → slice_get numbers k ≡ Some i → slice_get new.definitions k ≡ Some e → PrunesDefinition old.definitions numbers i e
+  pub definitions : (k i : ℕ) (e : Definition) → slice_get numbers k ≡ Some i → slice_get new.definitions k ≡ Some e
+      → PrunesDefinition old.definitions numbers i e
   pub reached : (k : ℕ) (d : Definition) → slice_get new.definitions k ≡ Some d → Reaches new.start new.definitions k
 
 -- two grammars match the same attributes and children whose strings are UTF-8
 abbrev pub MatchSame : Language → Language → Type 0
-MatchSame old new = (a : List Attribute) (c : Children) → ValuesAre IsOfUtf8 a → StringsAre IsOfUtf8 c → Matches new.definitions new.start a c ↔ Matches old.definitions old.start a c
+MatchSame old new = (a : List Attribute) (c : Children) → ValuesAre IsOfUtf8 a → StringsAre IsOfUtf8 c
+    → Matches new.definitions new.start a c ↔ Matches old.definitions old.start a c

@@ -4,7 +4,8 @@ use Rattle.rng_types.specs.declared.datatype.Datatype.{Datatype}
 use Rattle.rng_types.specs.declared.datatype.Except.{Except}
 use Rattle.rng_types.specs.MemberTest.{has_member}
 use Rattle.rng_core.specs.Names.{Class}
-use Rattle.rng_core.specs.Patterns.{Pattern, Definition, not_allowed, empty, any_text, typed, literal, listed, attribute, ref, one_or_more, choice, group, interleave}
+use Rattle.rng_core.specs.Patterns.{Pattern, Definition, not_allowed, empty, any_text, typed, literal, listed, attribute, ref, one_or_more}
+use Rattle.rng_core.specs.Patterns.{choice, group, interleave}
 use Rattle.rng_kept.specs.Nullable.{nullable}
 use Rattle.rng_kept.specs.SolidStrings.{has_words}
 use Rattle.rng_live.specs.declared.condition.Condition.{Condition}
@@ -21,15 +22,24 @@ pub data Spells (low : ℕ) (conditions : List Condition) : ℕ → Pattern → 
   spells_not_allowed : {k : ℕ} → IsAt low conditions k (Known false) → Spells low conditions k not_allowed
   spells_empty : {k : ℕ} → IsAt low conditions k (Known true) → Spells low conditions k empty
   spells_text : {k : ℕ} → IsAt low conditions k (Known true) → Spells low conditions k any_text
-  spells_data : {k : ℕ} {type : Datatype} {excepts : List Except} → IsAt low conditions k (Known (has_member type excepts false)) → Spells low conditions k (typed type excepts)
-  spells_value : {k : ℕ} {type : Datatype} {text : List ℕ} → IsAt low conditions k (Known true) → Spells low conditions k (literal type text)
-  spells_list : {k a : ℕ} {p : Pattern} → IsAt low conditions k (If (has_words p || nullable p) a) → Spells low conditions a p → Spells low conditions k (listed p)
-  spells_attribute : {k a : ℕ} {c : Class} {p : Pattern} → IsAt low conditions k (If (has_some_attribute_name c && (has_string p || nullable p)) a) → Spells low conditions a p → Spells low conditions k (attribute c p)
+  spells_data : {k : ℕ} {type : Datatype} {excepts : List Except} → IsAt low conditions k (Known (has_member type excepts false))
+      → Spells low conditions k (typed type excepts)
+  spells_value : {k : ℕ} {type : Datatype} {text : List ℕ} → IsAt low conditions k (Known true)
+      → Spells low conditions k (literal type text)
+  spells_list : {k a : ℕ} {p : Pattern} → IsAt low conditions k (If (has_words p || nullable p) a) → Spells low conditions a p
+      → Spells low conditions k (listed p)
+  spells_attribute : {k a : ℕ} {c : Class} {p : Pattern}
+      → IsAt low conditions k (If (has_some_attribute_name c && (has_string p || nullable p)) a) → Spells low conditions a p
+      → Spells low conditions k (attribute c p)
   spells_ref : {k i : ℕ} → IsAt low conditions k (If true i) → Spells low conditions k (ref i)
-  spells_one_or_more : {k a : ℕ} {p : Pattern} → IsAt low conditions k (If true a) → Spells low conditions a p → Spells low conditions k (one_or_more p)
-  spells_choice : {k a b : ℕ} {p q : Pattern} → IsAt low conditions k (Either a b) → Spells low conditions a p → Spells low conditions b q → Spells low conditions k (choice p q)
-  spells_group : {k a b : ℕ} {p q : Pattern} → IsAt low conditions k (Both a b) → Spells low conditions a p → Spells low conditions b q → Spells low conditions k (group p q)
-  spells_interleave : {k a b : ℕ} {p q : Pattern} → IsAt low conditions k (Both a b) → Spells low conditions a p → Spells low conditions b q → Spells low conditions k (interleave p q)
+  spells_one_or_more : {k a : ℕ} {p : Pattern} → IsAt low conditions k (If true a) → Spells low conditions a p
+      → Spells low conditions k (one_or_more p)
+  spells_choice : {k a b : ℕ} {p q : Pattern} → IsAt low conditions k (Either a b) → Spells low conditions a p → Spells low conditions b q
+      → Spells low conditions k (choice p q)
+  spells_group : {k a b : ℕ} {p q : Pattern} → IsAt low conditions k (Both a b) → Spells low conditions a p → Spells low conditions b q
+      → Spells low conditions k (group p q)
+  spells_interleave : {k a b : ℕ} {p q : Pattern} → IsAt low conditions k (Both a b) → Spells low conditions a p → Spells low conditions b q
+      → Spells low conditions k (interleave p q)
 
 -- a condition was added at the end, under a number
 pub record IsAdded (c : Condition) (before after : List Condition) (k : ℕ) : Type 0 where

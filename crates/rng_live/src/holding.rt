@@ -34,7 +34,8 @@ impl Held {
 
     /// Adds the condition of a number, if it wasn't found and holds by those that were.
     fn judge(&mut self, conditions: &[Condition], number: usize) -> Result<(), NoMemory>
-        ensures found { OnOk result (self.new.found.items ≡ judged conditions.now (length self.old.marks.items) number self.old.found.items) }
+        ensures found { OnOk result (self.new.found.items
+            ≡ judged conditions.now (length self.old.marks.items) number self.old.found.items) }
         ensures steady { length self.new.marks.items ≡ length self.old.marks.items }
     {
         let Some(condition) = condition_at(conditions, number) else {
@@ -63,7 +64,8 @@ impl Held {
     ) -> Result<(), NoMemory>
         requires ordered { AreOrdered waiting.now.waiters.items waiting.now.lists.items }
         requires whole { length self.old.marks.items ≡ length conditions.now }
-        ensures woken { OnOk result (AreWoken conditions.now waiting.now.waiters.items (list_of waiting.now.lists.items number) number self.old.found.items self.new.found.items) }
+        ensures woken { OnOk result (AreWoken conditions.now waiting.now.waiters.items (list_of waiting.now.lists.items number) number
+            self.old.found.items self.new.found.items) }
         ensures steady { length self.new.marks.items ≡ length self.old.marks.items }
     {
         let mut list = waiting.list(number);

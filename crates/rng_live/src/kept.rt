@@ -40,7 +40,8 @@ impl Kept {
     /// The new number of a definition, which is kept from now on.
     pub(crate) fn keep(&mut self, number: u32) -> Result<u32, NoMemory>
         ensures kept { OnOk result (self.new.numbers.items ≡ with_number (length self.old.seen.items) number self.old.numbers.items) }
-        ensures numbered { number < length self.old.seen.items → IfOk result (λ place. slice_get self.new.numbers.items place ≡ Some number) }
+        ensures numbered { number < length self.old.seen.items
+            → IfOk result (λ place. slice_get self.new.numbers.items place ≡ Some number) }
         ensures steady { length self.new.seen.items ≡ length self.old.seen.items }
     {
         let old = number as usize;

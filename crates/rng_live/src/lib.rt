@@ -22,6 +22,7 @@
 mod condition;
 pub mod depth;
 pub mod fault;
+pub mod gathering;
 mod holding;
 mod kept;
 mod left;
@@ -30,5 +31,6 @@ pub mod matcher;
 mod naming;
 pub mod prune;
 pub mod schema;
+pub mod sorting;
 mod takes;
 mod waiting;

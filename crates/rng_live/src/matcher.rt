@@ -147,7 +147,8 @@ pub trait Matcher: Drop {
         requires state { is_state self.old s.now }
         requires text { IsUtf8 text.now }
         ensures later { later self.old self.new }
-        ensures gives { IfOk result (Answers (is_state self.new) (means self.new) (answered (content.chars text.now (means self.old s.now)))) };
+        ensures gives { IfOk result (Answers (is_state self.new) (means self.new)
+            (answered (content.chars text.now (means self.old s.now)))) };
 
     /// Behind a string that isn't blank, whatever it should have been.
     fn chars_any(&mut self, alloc: Global, s: &Self::State) -> Result<Option<Self::State>, NoMemory>

@@ -49,8 +49,8 @@ fn left_definitions(
     defs: &Defs,
 ) -> Result<Defs, NoMemory>
     requires { length kept.old.seen.items ≡ length defs.now }
-    ensures left { IfOk result (λ made. LeavesAll life.now.conditions.now life.now.marks.now (map definition_of defs.now) kept.old.numbers.items
-        kept.new.numbers.items (map definition_of made)) }
+    ensures left { IfOk result (λ made. LeavesAll life.now.conditions.now life.now.marks.now (map definition_of defs.now)
+        kept.old.numbers.items kept.new.numbers.items (map definition_of made)) }
     ensures steady { length kept.new.seen.items ≡ length kept.old.seen.items }
 {
     let mut made = Defs::new(alloc);

@@ -1,14 +1,18 @@
 //! Schemas of which only what lives is left.
 
-ghost use Rattle.std.specs.Prelude.{◌≡◌, ◌↔◌, IsTrue};
+ghost use Rattle.std.specs.Prelude.{◌≡◌, ◌↔◌, IsTrue, IfOk};
 ghost use Rattle.std.specs.List.{list_any};
 ghost use Rattle.rng_core.specs.Names.{has_name};
 ghost use Rattle.rng_core.specs.Meaning.{class_of};
 ghost use Rattle.rng_kept.specs.Standing.{IsKnown};
 ghost use Rattle.rng_live.specs.Schemas.{schema_language};
+ghost use Rattle.rng_live.specs.Listed.{AreMentioned, AreNamespaces, AreLiterals};
 
-use nx_base::name::Name;
+use crate::gathering::{Asked, Texts, literals_of, mentions_of};
+use nx_base::memory::NoMemory;
+use nx_base::name::{Name, Names};
 use rng_core::grammar::{Def, Grammar};
+use std::alloc::Global;
 
 /// A grammar each pattern of which matches something, and each definition of which its start reaches. `prune` makes it.
 #[derive(Drop)]
@@ -36,5 +40,32 @@ impl Schema {
         ensures { IsTrue result ↔ IsKnown (schema_language self.now) name.now }
     {
         some_allows(self.grammar.defs.as_slice(), name)
+    }
+
+    /// The names that the classes of elements and attributes mention, by namespace and then by local part, without doubles.
+    pub fn mentioned(&self, alloc: Global) -> Result<Names, NoMemory>
+        ensures { IfOk result (AreMentioned (schema_language self.now).definitions) }
+    {
+        let defs = self.grammar.defs.as_slice();
+        let names = mentions_of(alloc, Asked::Names, defs)?;
+        Ok(names)
+    }
+
+    /// The namespaces that they mention, each as a name with an empty local part, in order and without doubles.
+    pub fn namespaces(&self, alloc: Global) -> Result<Names, NoMemory>
+        ensures { IfOk result (AreNamespaces (schema_language self.now).definitions) }
+    {
+        let defs = self.grammar.defs.as_slice();
+        let names = mentions_of(alloc, Asked::Namespaces, defs)?;
+        Ok(names)
+    }
+
+    /// The literals of the value patterns, as they are written, in order and without doubles.
+    pub fn values(&self, alloc: Global) -> Result<Texts, NoMemory>
+        ensures { IfOk result (AreLiterals (schema_language self.now).definitions) }
+    {
+        let defs = self.grammar.defs.as_slice();
+        let texts = literals_of(alloc, defs)?;
+        Ok(texts)
     }
 }

@@ -66,7 +66,8 @@ impl Takes {
     /// What both take, where each word goes to one of them.
     fn with_words(self, other: Takes) -> Takes
         ensures nothing { result.nothing ≡ (self.nothing && other.nothing) }
-        ensures something { result.something ≡ ((self.something && (other.something || other.nothing)) || (self.nothing && other.something)) }
+        ensures something { result.something
+            ≡ ((self.something && (other.something || other.nothing)) || (self.nothing && other.something)) }
     {
         Takes {
             nothing: self.nothing && other.nothing,

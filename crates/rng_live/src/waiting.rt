@@ -70,7 +70,8 @@ impl Waiting {
 
     /// Puts a condition on the lists of those that it rests on.
     fn add_all(&mut self, number: usize, condition: Condition) -> Result<(), NoMemory>
-        ensures { OnOk result (IsNotedAt number condition self.old.waiters.items self.old.lists.items self.new.waiters.items self.new.lists.items) }
+        ensures { OnOk result (IsNotedAt number condition self.old.waiters.items self.old.lists.items
+            self.new.waiters.items self.new.lists.items) }
     {
         match condition {
             Condition::Known(_) => Ok(()),

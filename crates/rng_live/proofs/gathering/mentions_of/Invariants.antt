@@ -1,0 +1,8 @@
+use Rattle.std.proofs.Common.{◌≡◌, [], take}
+use Rattle.std.specs.List.{fold}
+use Rattle.rng_core.specs.Meaning.{definition_of}
+use Rattle.rng_live.specs.Gathered.{with_definition}
+use Rattle.rng_live.proofs.gathering.mentions_of.Given as goal
+
+abbrev pub invariant-loop-def : goal.invariant-loop-def
+invariant-loop-def l = l.found.items ≡ fold (λ found def. with_definition l.asked (definition_of def) found) [] (take l.def-index l.defs)
