@@ -1,5 +1,6 @@
 -- What later matchers keep.
-use Rattle.std.specs.Prelude.{◌≡◌, Bool, false, List, refl, ◌∙◌}
+use Rattle.std.specs.Prelude.{◌≡◌, Bool, false, List}
+use Rattle.std.proofs.Common.{refl, ◌∙◌}
 use Rattle.nx_base.specs.Rules.{LaterLaws}
 use Rattle.rng_core.specs.Patterns.{Language}
 use Rattle.rng_kept.specs.Residuals.{Residual}

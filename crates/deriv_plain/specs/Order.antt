@@ -5,6 +5,8 @@ use Rattle.rng_core.specs.Meaning.{definition_of}
 use Rattle.rng_core.specs.Patterns.{Definition}
 use Rattle.rng_kept.specs.Residuals.{Outer, document, inside, Way, among, in_tag, Residual}
 use Rattle.deriv_pattern.specs.Leaves.{IsInOrder}
+use Rattle.deriv_plain.specs.declared.ways.OneWay.{OneWay}
+use Rattle.deriv_plain.specs.Ways.{residual_of}
 use Rattle.deriv_plain.specs.declared.step.Step.{Step}
 use Rattle.deriv_plain.specs.declared.step.Step.TheVariants as step
 
@@ -18,6 +20,10 @@ WayIsInOrder (in_tag p o) = IsInOrder p × OuterIsInOrder o
 
 abbrev pub AreInOrder : Residual → Type 0
 AreInOrder x = AllByRecursion WayIsInOrder x
+
+-- what a state of the matcher is
+abbrev pub IsState : List OneWay → Type 0
+IsState ways = AreInOrder (residual_of ways)
 
 -- the contents of definitions are in order
 abbrev pub ContentsAreInOrder : List Definition → Type 0

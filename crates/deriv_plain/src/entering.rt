@@ -75,8 +75,10 @@ fn tags_at_top(alloc: Global, defs: &[Def], opened: &[Open]) -> Result<Vec<OneWa
         ≡ map (entering.tag_at_top (map definition_of defs.now)) (openings_of opened.now)) }
 {
     let mut ways = no_way(alloc);
-    for one in opened {
+    let mut left = opened;
+    while let Some((one, rest)) = left.split_first() {
         ways.push(tag_at_top(alloc, defs, one)?)?;
+        left = rest;
     }
     Ok(ways)
 }
@@ -94,8 +96,10 @@ fn tags_of_both(
             (openings_of strict.now)) }
 {
     let mut ways = no_way(alloc);
-    for one in strict {
+    let mut left = strict;
+    while let Some((one, rest)) = left.split_first() {
         ways.push(tag_of_both(alloc, defs, loose, outer, one)?)?;
+        left = rest;
     }
     Ok(ways)
 }

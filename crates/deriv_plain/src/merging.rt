@@ -1,6 +1,7 @@
 //! Ways that are merged: those among children with the same outside are one.
 
-ghost use Rattle.std.specs.Prelude.{◌≡◌, IfOk};
+ghost use Rattle.std.specs.Prelude.{◌≡◌, IfOk, not};
+ghost use Rattle.std.specs.List.{prefix_len};
 ghost use Rattle.rng_core.specs.Meaning.{pattern_of};
 ghost use Rattle.rng_kept.specs.SmallPatterns as small;
 ghost use Rattle.rng_kept.specs.Merging as merging;
@@ -95,11 +96,13 @@ fn joined_way(alloc: Global, a: &OneWay, b: &OneWay) -> Result<OneWay, NoMemory>
     }
 }
 
-/// The first of the ways with which one is merged.
-fn joinable(ways: &[OneWay], way: &OneWay) -> Option<usize>
-    ensures { result ≡ first_joinable (way_of way.now) (residual_of ways.now) }
+/// How many ways stand before the first with which one is merged, or all of them.
+fn count_apart(ways: &[OneWay], way: &OneWay) -> usize
+    ensures { result ≡ prefix_len (λ other. not (merging.can_join_ways (way_of other) (way_of way.now))) ways.now }
 {
-    ways.iter().position(|other| can_join_ways(other, way))
+    ways.iter()
+        .take_while(|other| !can_join_ways(other, way))
+        .count()
 }
 
 /// With one way more.
@@ -110,15 +113,13 @@ pub(crate) fn with_way(
 ) -> Result<Vec<OneWay>, NoMemory>
     ensures { IfOk result (λ more. residual_of more.items ≡ merging.with_way (residual_of ways.items) (way_of way)) }
 {
-    match joinable(ways.as_slice(), &way) {
-        Some(i) => {
-            ways[i] = joined_way(alloc, &ways[i], &way)?;
-            Ok(ways)
-        }
-        None => {
-            ways.push(way)?;
-            Ok(ways)
-        }
+    let apart = count_apart(ways.as_slice(), &way);
+    if apart < ways.len() {
+        ways[apart] = joined_way(alloc, &ways[apart], &way)?;
+        Ok(ways)
+    } else {
+        ways.push(way)?;
+        Ok(ways)
     }
 }
 

@@ -11,6 +11,7 @@ use crate::around::Around;
 use crate::content::among_of;
 use crate::ways::{OneWay, just_one, no_way};
 use deriv_pattern::attributes::{after_any_attribute, after_attribute, close, drop_attributes};
+use deriv_pattern::law::left_is_in_order;
 use deriv_pattern::small::{is_not_allowed, nullable};
 use deriv_pattern::solid::loosen;
 use deriv_pattern::strings::after;
@@ -75,6 +76,7 @@ fn children_of(
     requires { IsInOrder (pattern_of content.now) }
     ensures { IfOk result (λ made. outer_of made.value ≡ tags.children_of (pattern_of content.now) (outer_of outer.now.value)) }
 {
+    left_is_in_order();
     let strict = close(alloc, content)?;
     let loose = loosen(alloc, &strict)?;
     let void = nullable(&after(alloc, &strict, "")?);
@@ -100,6 +102,7 @@ pub(crate) fn missing_way(alloc: Global, way: &OneWay) -> Result<Vec<OneWay>, No
     match way {
         OneWay::Among(_) => Ok(no_way(alloc)),
         OneWay::InTag(content, outer) => {
+            left_is_in_order();
             let content = drop_attributes(alloc, content)?;
             among_of(alloc, children_of(alloc, &content, outer)?)
         }

@@ -1,8 +1,10 @@
 //! The states of a matcher: ways to go on.
 
-ghost use Rattle.std.specs.Prelude.{◌≡◌, IfOk, [], ◌∷◌, option_map};
+ghost use Rattle.std.specs.Prelude.{◌≡◌, IfOk, [], ◌∷◌};
 ghost use Rattle.rng_kept.specs.Merging.{answered};
 ghost use Rattle.deriv_plain.specs.Ways.{way_of, residual_of};
+ghost use Rattle.rng_live.specs.Calls.{Answers};
+ghost use Rattle.deriv_plain.specs.Order.{IsState};
 ghost use Rattle.deriv_plain.specs.Sameness.{same_way, same_residual};
 
 use crate::around::{Around, same_patterns};
@@ -79,8 +81,10 @@ pub(crate) fn copied_ways(alloc: Global, ways: &[OneWay]) -> Result<Vec<OneWay>,
     ensures { IfOk result (λ copied. residual_of copied.items ≡ residual_of ways.now) }
 {
     let mut copied = Vec::with_capacity(alloc, ways.len())?;
-    for way in ways {
+    let mut left = ways;
+    while let Some((way, rest)) = left.split_first() {
         copied.push(way.copy(alloc)?)?;
+        left = rest;
     }
     Ok(copied)
 }
@@ -103,7 +107,8 @@ pub(crate) fn just_one(alloc: Global, way: OneWay) -> Result<Vec<OneWay>, NoMemo
 
 /// The ways as an answer: none where there is no way to go on.
 pub(crate) fn as_answer(ways: Ways) -> Option<Ways>
-    ensures { option_map residual_of result ≡ answered (residual_of ways) }
+    requires { IsState ways }
+    ensures { Answers IsState residual_of (answered (residual_of ways)) result }
 {
     if ways.is_empty() { None } else { Some(ways) }
 }
