@@ -4,10 +4,16 @@ use Rattle.std.proofs.Common.{refl, sym, ap, ◌∙◌, subst}
 use Rattle.std.proofs.lemmas.Bool.{and_parts, and_from, false≢true}
 use Rattle.rng_core.specs.Patterns.{Pattern}
 use Rattle.rng_core.specs.Equality.{same_pattern}
-use Rattle.rng_core.proofs.Same.{patterns_decided, answer}
+use Rattle.rng_core.proofs.Same.{patterns_decided}
 use Rattle.rng_kept.specs.Residuals.{Outer, document, inside, Way, among, in_tag, Residual}
 use Rattle.rng_kept.specs.Merging.{same_flag, same_outer}
 use Rattle.deriv_plain.specs.Sameness.{same_way, same_residual}
+
+-- a call that tells the same is the answer
+answer : (found test : Bool) → (found ≡ true → test ≡ true) → (test ≡ true → found ≡ true) → found ≡ test
+answer true test to from = sym (to refl)
+answer false true to from = from refl
+answer false false to from = refl
 
 pub pattern_answer : (p q : Pattern) (found : Bool) → (IsTrue found ↔ (p ≡ q)) → found ≡ same_pattern p q
 pattern_answer p q found is = answer found (same_pattern p q) (λ t. (patterns_decided p q).1 (is.0 t)) (λ t. is.1 ((patterns_decided p q).0 t))

@@ -1,6 +1,6 @@
 mod Alike
 mod Joined
 mod Steady
-mod Listed
 mod Needed
 mod Props
+mod Knowing

@@ -10,7 +10,13 @@ use Rattle.rng_kept.specs.Residuals.{Outer, Way, in_tag, Residual, is_in_tag}
 use Rattle.rng_kept.specs.Required.{needs, way_needs, is_required}
 use Rattle.rng_live.specs.Order.{name_order, SortsOnce}
 use Rattle.rng_live.specs.Calls.{AreRequired}
+use Rattle.deriv_plain.specs.declared.ways.OneWay.{OneWay}
+use Rattle.deriv_plain.specs.Ways.{way_of, residual_of}
 use Rattle.deriv_plain.specs.Possible.{ArePossible}
+
+-- the first way of what is left
+pub first_way : (left rest : List OneWay) (way : OneWay) (w : Way) → left ≡ way ∷ rest → way_of way ≡ w → residual_of left ≡ w ∷ residual_of rest
+first_way left rest way w split is = ap residual_of split ∙ ap (λ v. v ∷ residual_of rest) is
 
 -- of a first start tag
 pub possible_of : (x : Residual) (p : Pattern) (o : Outer) (rest : Residual) (names : List Name) → is_in_tag (in_tag p o ∷ rest) ≡ is_in_tag x →
@@ -39,7 +45,7 @@ module _ {X : Type 0} (test : X → Bool) where
   filtered : (xs : List X) (n : X) → Contains xs n → test n ≡ true → Contains (filter test xs) n
   filtered [] n h is = h
   filtered (x ∷ xs) n h is = ⊎_elim
-      (λ one. ⊎_elim (λ none. absurd (let inside = none.1.0 in omega arith))
+      (λ one. ⊎_elim (λ none. absurd (let inside = none.1 in omega arith))
         (λ same. first_kept (test x) x n (filter test xs) (subst (λ y. test y ≡ true) (sym same) is) same) (Contains-push_cases [] x n one))
       (λ later. later_kept (test x) x n (filter test xs) (filtered xs n later is))
       (Contains-append_cases (x ∷ []) xs n h)

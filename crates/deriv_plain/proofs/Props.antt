@@ -2,8 +2,9 @@
 use Rattle.std.specs.Prelude.{◌≡◌, ℕ, List, [], ◌∷◌, Bool}
 use Rattle.std.specs.List.{AllByRecursion}
 use Rattle.std.specs.Coded.{×_prop, Unit-prop, le_prop, coded_bool, Coded-set}
-use Rattle.std.proofs.Common.{ap, ◌∙◌, IsProp}
+use Rattle.std.proofs.Common.{ap, ◌∙◌}
 use Rattle.rng_types.specs.declared.datatype.Datatype.{Datatype}
+use Rattle.rng_types.specs.declared.datatype.Except.{Except}
 use Rattle.rng_types.specs.Types.{Accepts}
 use Rattle.rng_core.specs.Patterns.{Pattern, Definition, Language, not_allowed, empty, any_text, typed, literal, listed, attribute, ref, one_or_more, choice, group, interleave}
 use Rattle.deriv_pattern.specs.Leaves.{IsInOrder}
@@ -17,11 +18,17 @@ accepted_alike type text a b =
     ap (λ f. record { form = f; facets = a.facets }) (flags_alike _ _ a.form b.form)
     ∙ ap (λ f. record { form = b.form; facets = f }) (flags_alike _ _ a.facets b.facets)
 
+three_alike : {A B C : Type 0} → IsProp A → IsProp B → IsProp C → IsProp (A × B × C)
+three_alike a b c x y = ap (λ u. (u, x.1, x.2)) (a x.0 y.0) ∙ (ap (λ u. (y.0, u, x.2)) (b x.1 y.1) ∙ ap (λ u. (y.0, y.1, u)) (c x.2 y.2))
+
+typed_alike : (type : Datatype) (excepts : List Except) → IsProp (IsInOrder (typed type excepts))
+typed_alike type excepts = three_alike le_prop (flags_alike _ _) (flags_alike _ _)
+
 pub in_order_alike : (p : Pattern) → IsProp (IsInOrder p)
 in_order_alike not_allowed = Unit-prop
 in_order_alike empty = Unit-prop
 in_order_alike any_text = Unit-prop
-in_order_alike (typed type excepts) = ×_prop le_prop (×_prop (flags_alike _ _) (flags_alike _ _))
+in_order_alike (typed type excepts) = typed_alike type excepts
 in_order_alike (literal type text) = ×_prop (flags_alike _ _) (accepted_alike type text)
 in_order_alike (listed p) = in_order_alike p
 in_order_alike (attribute class p) = in_order_alike p

@@ -46,7 +46,7 @@ module _ (left : LeftInOrder) where
   joined_in_order (document p) (document q) a b = left.choice_of p q a b
   joined_in_order (document p) (inside c k w u) a b = a
   joined_in_order (inside c l v o) (document q) a b = a
-  joined_in_order (inside c l v o) (inside d k w u) a b = (left.choice_of c d a.0 b.0, left.choice_of l k a.1.0 b.1.0, a.1.1)
+  joined_in_order (inside c l v o) (inside d k w u) a b = (left.choice_of c d a.0 b.0, left.choice_of l k a.1 b.1, a.2)
 
   joined_way_in_order : (w v : Way) → WayIsInOrder w → WayIsInOrder v → WayIsInOrder (joined_way w v)
   joined_way_in_order (among o) (among u) a b = joined_in_order o u a b
@@ -80,19 +80,19 @@ module _ (left : LeftInOrder) where
 
   after_in_order : (t : List ℕ) (o : Outer) → OuterIsInOrder o → OuterIsInOrder (outer_after t o)
   after_in_order t (document p) a = left.after t p a
-  after_in_order t (inside b l v o) a = (left.after t b a.0, loose_in_order (is_blank t) l _ a.1.0 (left.after t l a.1.0), a.1.1)
+  after_in_order t (inside b l v o) a = (left.after t b a.0, loose_in_order (is_blank t) l _ a.1 (left.after t l a.1), a.2)
 
   after_any_in_order : (o : Outer) → OuterIsInOrder o → OuterIsInOrder (outer_after_any o)
   after_any_in_order (document p) a = left.after_solid p a
-  after_any_in_order (inside b l v o) a = (left.after_solid b a.0, left.after_solid l a.1.0, a.1.1)
+  after_any_in_order (inside b l v o) a = (left.after_solid b a.0, left.after_solid l a.1, a.2)
 
   outside_in_order : (o : Outer) → OuterIsInOrder o → AreInOrder (leave_outer o)
   outside_in_order (document p) a = tt
-  outside_in_order (inside b l v o) a = either_way (may_leave b l v) (among o ∷ []) [] (a.1.1, tt) tt
+  outside_in_order (inside b l v o) a = either_way (may_leave b l v) (among o ∷ []) [] (a.2, tt) tt
 
   further_in_order : (o : Outer) → OuterIsInOrder o → AreInOrder (leave_skip_outer o)
   further_in_order (document p) a = tt
-  further_in_order (inside b l v o) a = (a.1.1, tt)
+  further_in_order (inside b l v o) a = (a.2, tt)
 
   -- ---- tags
 
@@ -137,12 +137,12 @@ module _ (left : LeftInOrder) where
   entered_in_order : (g : List Definition) (n : Name) (o : Outer) → ContentsAreInOrder g → OuterIsInOrder o → AreInOrder (enter_outer g n o)
   entered_in_order g n (document p) a b = at_top_in_order g (opens g n p) a (left.opens g n p b)
   entered_in_order g n (inside c l v o) a b =
-      inside_in_order g (opens g n c) (opens g n l) o a (left.opens g n c b.0) (left.opens g n l b.1.0) b.1.1
+      inside_in_order g (opens g n c) (opens g n l) o a (left.opens g n c b.0) (left.opens g n l b.1) b.2
 
   skipped_in_order : (g : List Definition) (n : Name) (o : Outer) → ContentsAreInOrder g → OuterIsInOrder o → AreInOrder (skip_outer g n o)
   skipped_in_order g n (document p) a b = at_top_in_order g (skip_opens g n p) a (left.skip_opens g n p b)
   skipped_in_order g n (inside c l v o) a b =
-      inside_in_order g (skip_opens g n c) (skip_opens g n l) o a (left.skip_opens g n c b.0) (left.skip_opens g n l b.1.0) b.1.1
+      inside_in_order g (skip_opens g n c) (skip_opens g n l) o a (left.skip_opens g n c b.0) (left.skip_opens g n l b.1) b.2
 
   -- ---- all steps
 
@@ -156,9 +156,9 @@ module _ (left : LeftInOrder) where
   step_in_order (step.AttributeAny name) g (among o) a = tt
   step_in_order (step.AttributeAny name) g (in_tag p o) a = tag_in_order _ o (left.after_any_attribute name.now p a.0) a.1
   step_in_order step.TagEnd g (among o) a = tt
-  step_in_order step.TagEnd g (in_tag p o) a = among_in_order _ (children_in_order p o a.0 a.1)
+  step_in_order step.TagEnd g (in_tag p o) a = among_in_order (children_of p o) (children_in_order p o a.0 a.1)
   step_in_order step.TagEndMissing g (among o) a = tt
-  step_in_order step.TagEndMissing g (in_tag p o) a = among_in_order _ (children_in_order (drop p) o (left.drop p a.0) a.1)
+  step_in_order step.TagEndMissing g (in_tag p o) a = among_in_order (children_of (drop p) o) (children_in_order (drop p) o (left.drop p a.0) a.1)
   step_in_order (step.Chars text) g (among o) a = among_in_order _ (after_in_order text.now o a)
   step_in_order (step.Chars text) g (in_tag p o) a = tt
   step_in_order step.CharsAny g (among o) a = among_in_order _ (after_any_in_order o a)

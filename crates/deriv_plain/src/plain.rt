@@ -1,6 +1,6 @@
 //! The matcher.
 
-ghost use Rattle.std.specs.Prelude.{◌≡◌, IfOk, IsUtf8, Bool, false, map, [], if◌then◌else◌, None, Some};
+ghost use Rattle.std.specs.Prelude.{◌≡◌, ◌<◌, ◌^◌, IfOk, IsUtf8, Bool, false, map, length, [], if◌then◌else◌, None, Some};
 ghost use Rattle.rng_core.specs.Meaning.{pattern_of, definition_of};
 ghost use Rattle.rng_core.specs.Soundness.{IsSound};
 ghost use Rattle.rng_kept.specs.SmallPatterns as small;
@@ -78,6 +78,7 @@ fn begun_if_allowed(alloc: Global, start: &Pat) -> Result<Option<Ways>, NoMemory
 
 /// The definitions that have a name, as a choice.
 fn known(alloc: Global, defs: &[Def], name: &Name) -> Result<Pat, NoMemory>
+    requires { length defs.now < 2 ^ 32 }
     ensures { IfOk result (λ start. pattern_of start ≡ known_from (map definition_of defs.now) name.now 0) }
 {
     let mut known = Pat::NotAllowed;
@@ -159,6 +160,7 @@ impl Plain {
     fn defs(&self) -> &[Def]
         ensures definitions { map definition_of result.now ≡ (schema_language self.now.schema).definitions }
         ensures order { ContentsAreInOrder (map definition_of result.now) }
+        ensures few { length result.now < 2 ^ 32 }
     {
         sound_are_in_order();
         self.schema.grammar().defs.as_slice()

@@ -22,7 +22,8 @@ fn possible_names(alloc: Global, ways: &[OneWay]) -> Result<Names, NoMemory>
     let mut left = ways;
     while let Some((way, rest)) = left.split_first() {
         if let OneWay::InTag(content, _) = way {
-            return candidates(alloc, content);
+            let names = candidates(alloc, content)?;
+            return Ok(names);
         }
         left = rest;
     }
