@@ -1,5 +1,5 @@
 -- What is left of patterns that are in order is in order.
-use Rattle.std.proofs.Common.{ℕ, Bool, true, List, [], ◌∷◌, map, ◌==◌, Option, None, Some}
+use Rattle.std.proofs.Common.{ℕ, true, List, [], ◌∷◌, map, ◌==◌, Option, None, Some}
 use Rattle.std.specs.Prelude.{slice_get}
 use Rattle.nx_base.specs.declared.name.Name.{Name}
 use Rattle.rng_core.specs.Names.{has_name}
@@ -15,7 +15,7 @@ use Rattle.rng_kept.specs.Skipping.{ending, skip_opens}
 use Rattle.rng_kept.specs.Entering.{rest_at}
 use Rattle.rng_residual.proofs.SmallPatterns.{by_test, and_true}
 use Rattle.rng_residual.proofs.Keeping.{Keeps, if_keeps, choice_keeps, group_keeps, interleave_keeps, star_keeps, after_keeps, attribute_keeps}
-use Rattle.deriv_pattern.specs.Leaves.{IsInOrder, SoundAreInOrder, RestsAreInOrder, LeftInOrder}
+use Rattle.deriv_pattern.specs.Leaves.{IsInOrder, RestsAreInOrder, LeftInOrder}
 
 pub order_keeps : Keeps IsInOrder
 order_keeps = record {
@@ -147,7 +147,7 @@ opens_in_order g n (one_or_more p) c = grouped (star p) (star_in_order p c) _ (o
 opens_in_order g n (choice p q) c = joined_in_order _ _ (opens_in_order g n p c.0) (opens_in_order g n q c.1)
 opens_in_order g n (group p q) c =
     joined_in_order _ _ (grouped q c.1 _ (opens_in_order g n p c.0))
-        (by_test RestsAreInOrder (nullable p) (opens g n q) [] (λ _. opens_in_order g n q c.1) (λ _. tt))
+    (by_test RestsAreInOrder (nullable p) (opens g n q) [] (λ _. opens_in_order g n q c.1) (λ _. tt))
 opens_in_order g n (interleave p q) c =
     joined_in_order _ _ (shuffled q c.1 _ (opens_in_order g n p c.0)) (under p c.0 _ (opens_in_order g n q c.1))
 
@@ -166,7 +166,7 @@ skip_opens_in_order g n (group p q) c =
     joined_in_order _ _ (grouped q c.1 _ (skip_opens_in_order g n p c.0)) (skip_opens_in_order g n q c.1)
 skip_opens_in_order g n (interleave p q) c =
     joined_in_order _ _ (shuffled (ending q) (ending_in_order q c.1) _ (skip_opens_in_order g n p c.0))
-        (under (ending p) (ending_in_order p c.0) _ (skip_opens_in_order g n q c.1))
+    (under (ending p) (ending_in_order p c.0) _ (skip_opens_in_order g n q c.1))
 
 rest_in_order : (i : ℕ) (os : List Opening) → RestsAreInOrder os → IsInOrder (rest_at i os)
 rest_in_order i [] h = tt

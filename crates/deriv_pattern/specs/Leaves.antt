@@ -5,7 +5,8 @@ use Rattle.std.specs.Str.{is_utf8}
 use Rattle.nx_base.specs.declared.name.Name.{Name}
 use Rattle.rng_types.specs.Types.{Accepts}
 use Rattle.rng_types.specs.WellMade.{is_well_made, is_sound_except}
-use Rattle.rng_core.specs.Patterns.{Pattern, Definition, not_allowed, empty, any_text, typed, literal, listed, attribute, ref, one_or_more, choice, group, interleave}
+use Rattle.rng_core.specs.Patterns.{Pattern, Definition, not_allowed, empty, any_text, typed, literal, listed, attribute, ref}
+use Rattle.rng_core.specs.Patterns.{one_or_more, choice, group, interleave}
 use Rattle.rng_core.specs.Soundness.{IsSoundPattern}
 use Rattle.rng_kept.specs.SmallPatterns as small
 use Rattle.rng_kept.specs.Strings as strings

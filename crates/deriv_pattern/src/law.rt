@@ -12,7 +12,6 @@ pub fn sound_are_in_order()
 }
 
 /// What is left of patterns that are in order is in order.
-#[tactic(auto, using(crate::proofs::InOrder::left_in_order))]
 pub fn left_is_in_order()
     ensures { LeftInOrder }
 {}

@@ -4,11 +4,15 @@
 //! rests of kept lists is proved in rng_residual; nothing of matching is proved here. A state of a matcher is put together from
 //! these in deriv_plain.
 //!
+//! What walks over a pattern calls itself as deep as its paths are, which may be thousands of nodes: so it holds boxes alone.
 #![tactic(auto)]
 
 pub mod attributes;
+mod boxes;
 pub mod law;
+pub mod leaves;
 pub mod openings;
+mod parts;
 pub mod required;
 pub mod small;
 pub mod solid;
