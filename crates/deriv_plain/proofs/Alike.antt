@@ -9,15 +9,6 @@ use Rattle.rng_kept.specs.Residuals.{Outer, document, inside, Way, among, in_tag
 use Rattle.rng_kept.specs.Merging.{same_flag, same_outer}
 use Rattle.deriv_plain.specs.Sameness.{same_way, same_residual}
 
--- a call that tells the same is the answer
-answer : (found test : Bool) → (found ≡ true → test ≡ true) → (test ≡ true → found ≡ true) → found ≡ test
-answer true test to from = sym (to refl)
-answer false true to from = from refl
-answer false false to from = refl
-
-pub pattern_answer : (p q : Pattern) (found : Bool) → (IsTrue found ↔ (p ≡ q)) → found ≡ same_pattern p q
-pattern_answer p q found is = answer found (same_pattern p q) (λ t. (patterns_decided p q).1 (is.0 t)) (λ t. is.1 ((patterns_decided p q).0 t))
-
 flags_same : (v w : Bool) → same_flag v w ≡ true → v ≡ w
 flags_same true true same = refl
 flags_same true false same = absurd (false≢true same)

@@ -1,12 +1,12 @@
 //! What is left around an open element.
 
 ghost use Rattle.std.specs.Prelude.{◌≡◌, IfOk};
-ghost use Rattle.rng_core.specs.Equality.{same_pattern};
 ghost use Rattle.rng_core.specs.Meaning.{pattern_of};
 ghost use Rattle.rng_kept.specs.Merging.{same_outer};
 ghost use Rattle.rng_kept.specs.Residuals as residual;
 ghost use Rattle.deriv_plain.specs.Ways.{outer_of};
 
+use deriv_pattern::small::same_pattern;
 use nx_base::memory::NoMemory;
 use rng_core::grammar::Pat;
 use std::alloc::Global;
@@ -44,13 +44,6 @@ impl Drop for Around {
             }
         }
     }
-}
-
-/// Whether two patterns are the same.
-pub(crate) fn same_patterns(a: &Pat, b: &Pat) -> bool
-    ensures { result ≡ same_pattern (pattern_of a.now) (pattern_of b.now) }
-{
-    a.same(b)
 }
 
 impl Around {
@@ -91,7 +84,7 @@ impl Around {
         loop {
             match (left, right) {
                 (Around::Document(rest), Around::Document(other_rest)) => {
-                    return same_patterns(rest, other_rest);
+                    return same_pattern(rest, other_rest);
                 }
                 (Around::Document(_), Around::Inside { .. }) => return false,
                 (Around::Inside { .. }, Around::Document(_)) => return false,
@@ -112,7 +105,7 @@ impl Around {
                     if *void != *other_void {
                         return false;
                     }
-                    if !same_patterns(strict, other_strict) || !same_patterns(loose, other_loose) {
+                    if !same_pattern(strict, other_strict) || !same_pattern(loose, other_loose) {
                         return false;
                     }
                     left = outer;

@@ -1,7 +1,6 @@
 //! Ways to go on behind a string, and behind an element's end.
 
 ghost use Rattle.std.specs.Prelude.{◌≡◌, IfOk};
-ghost use Rattle.nx_base.specs.Characters.{is_blank as is_blank_text};
 ghost use Rattle.rng_core.specs.Meaning.{pattern_of};
 ghost use Rattle.rng_kept.specs.Content as content;
 ghost use Rattle.deriv_plain.specs.Order.{OuterIsInOrder, WayIsInOrder};
@@ -10,10 +9,10 @@ ghost use Rattle.deriv_pattern.specs.Leaves.{IsInOrder};
 
 use crate::around::Around;
 use crate::ways::{OneWay, just_one, no_way};
+use deriv_pattern::leaves::is_blank;
 use deriv_pattern::small::{is_not_allowed, nullable};
 use deriv_pattern::solid::after_solid;
 use deriv_pattern::strings::after;
-use nx_base::character::is_space;
 use nx_base::memory::NoMemory;
 use rng_core::grammar::Pat;
 use std::alloc::Global;
@@ -41,19 +40,12 @@ pub(crate) fn among_of(alloc: Global, around: Rc<Around>) -> Result<Vec<OneWay>,
     if is_dead(&around) { Ok(no_way(alloc)) } else { just_one(alloc, OneWay::Among(around)) }
 }
 
-/// Whether a text is white space, or empty.
-fn is_blank(text: &str) -> bool
-    ensures { result ≡ is_blank_text text.now }
-{
-    text.as_bytes().iter().all(|byte| is_space(char::from(*byte)))
-}
-
 /// What is left of children without blank strings behind a string.
 fn loose_after(alloc: Global, loose: &Pat, text: &str) -> Result<Pat, NoMemory>
     requires { IsInOrder (pattern_of loose.now) }
     ensures { IfOk result (λ left. pattern_of left ≡ content.loose_after text.now (pattern_of loose.now)) }
 {
-    if is_blank(text) { loose.copy(alloc) } else { after(alloc, loose, text) }
+    if is_blank(text.as_bytes()) { loose.copy(alloc) } else { after(alloc, loose, text) }
 }
 
 /// What is left behind a string.

@@ -7,7 +7,8 @@ ghost use Rattle.rng_live.specs.Calls.{Answers};
 ghost use Rattle.deriv_plain.specs.Order.{IsState};
 ghost use Rattle.deriv_plain.specs.Sameness.{same_way, same_residual};
 
-use crate::around::{Around, same_patterns};
+use crate::around::Around;
+use deriv_pattern::small::same_pattern;
 use nx_base::memory::NoMemory;
 use nx_base::sequence::Sequence;
 use rng_core::grammar::Pat;
@@ -36,7 +37,7 @@ impl OneWay {
             (OneWay::Among(_), OneWay::InTag(_, _)) => false,
             (OneWay::InTag(_, _), OneWay::Among(_)) => false,
             (OneWay::InTag(content, outer), OneWay::InTag(other_content, other_outer)) => {
-                same_patterns(content, other_content) && outer.same(other_outer)
+                same_pattern(content, other_content) && outer.same(other_outer)
             }
         }
     }
