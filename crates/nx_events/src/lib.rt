@@ -16,7 +16,7 @@
 // reading one token: characters, strings, references, markup, names, tags, declarations
 mod character_fault;
 mod declaration;
-mod flaw;
+pub mod flaw;
 mod front;
 mod markup;
 mod piece;
