@@ -12,7 +12,11 @@ braced (byte ∷ bytes) = codes "{" ++ ((byte ∷ bytes) ++ codes "}")
 abbrev pub name_text : Name → List ℕ
 name_text name = braced name.ns ++ name.local
 
+-- names, each behind a space
+abbrev pub further_text : List Name → List ℕ
+further_text names = flat_map (λ name. codes " " ++ name_text name) names
+
 -- names, separated by a space
 abbrev pub names_text : List Name → List ℕ
 names_text [] = []
-names_text (name ∷ others) = name_text name ++ flat_map (λ other. codes " " ++ name_text other) others
+names_text (name ∷ others) = name_text name ++ further_text others
