@@ -1,6 +1,5 @@
 -- How far recovery has come along items.
-use Rattle.std.proofs.Common.{◌≡◌, ℕ, zero, suc, ◌+◌, ◌<◌, List, [], ◌∷◌, ◌++◌, length, take, drop, get_or, Option, None, refl, ap, sym, subst, ◌∙◌, arith, append_assoc, add-one}
-use Rattle.std.specs.Prelude.{unwrap_or}
+use Rattle.std.proofs.Common.{◌≡◌, ℕ, zero, suc, ◌+◌, ◌<◌, List, [], ◌∷◌, ◌++◌, length, drop, get_or, refl, ap, sym, subst, ◌∙◌, arith, append_assoc, add-one}
 use Rattle.std.proofs.lemmas.List.{append-nil}
 use Rattle.std.proofs.Math.Seq.{drop-cons}
 use Rattle.std.specs.List.{AllByRecursion}
@@ -10,9 +9,8 @@ use Rattle.nx_base.specs.Rules.{LaterLaws}
 use Rattle.rng_core.specs.Patterns.{Language}
 use Rattle.rng_kept.specs.Residuals.{Residual}
 use Rattle.nx_recover.specs.Table.{Form}
-use Rattle.nx_recover.specs.States.{View, view_of, changed, form, AreStates, IsChange}
+use Rattle.nx_recover.specs.States.{changed, form, IsChange}
 use Rattle.nx_recover.specs.Items.{form_behind, faults_found, form_along, found_along}
-use Rattle.nx_recover.specs.declared.levels.Open.{Open}
 use Rattle.nx_recover.specs.declared.levels.Levels.{Levels}
 use Rattle.nx_recover.specs.declared.levels.Change.{Change}
 

@@ -1,7 +1,7 @@
 -- The names that a residual requires are one list: what a matcher answers is what the rules say.
-use Rattle.std.proofs.Common.{◌≡◌, ℕ, zero, suc, ◌<◌, List, [], ◌∷◌, ◌++◌, length, Bool, true, false, refl, sym, ap, subst, ◌∙◌, arith, ◌⊎◌, inl, inr}
-use Rattle.std.specs.Prelude.{if◌then◌else◌, ◌&&◌, not, ◌||◌, ◌↔◌, Contains}
-use Rattle.std.specs.List.{AllByRecursion, filter, flat_map, list_any, list_all}
+use Rattle.std.proofs.Common.{◌≡◌, zero, suc, List, [], ◌∷◌, ◌++◌, Bool, true, false, refl, sym, ap, subst, ◌∙◌, arith, ◌⊎◌, inl, inr}
+use Rattle.std.specs.Prelude.{if◌then◌else◌, ◌&&◌, not, ◌||◌, Contains}
+use Rattle.std.specs.List.{AllByRecursion, filter, flat_map, list_all}
 use Rattle.std.specs.List.Sorted.{IsStrictlySortedBy}
 use Rattle.std.specs.BTreeSet.{insert_key}
 use Rattle.std.specs.Cmp.{IsTotalOrder, then_total, on_total, tied_itself}
@@ -12,7 +12,7 @@ use Rattle.std.specs.declared.cmp.Ordering.{Ordering}
 use Rattle.std.specs.declared.cmp.Ordering.TheVariants.{Less, Equal, Greater}
 use Rattle.std.proofs.lemmas.Bool.{true≢false, false≢true, cases_Bool, and_parts, and_from, or_left, or_right, or_cases, not-true}
 use Rattle.nx_base.specs.declared.name.Name.{Name}
-use Rattle.nx_base.specs.Names.{is_namespace, is_xml_name, is_attribute_name, same_name}
+use Rattle.nx_base.specs.Names.{is_namespace, is_xml_name, is_attribute_name}
 use Rattle.rng_core.proofs.Overlaps.{same_fields}
 use Rattle.rng_core.specs.Names.{Class, any_name, ns_name, the_name, either, without, covers, has_attribute_name}
 use Rattle.rng_core.specs.Patterns.{Pattern, not_allowed, empty, any_text, typed, literal, listed, attribute, ref, one_or_more, choice, group, interleave}
@@ -20,7 +20,7 @@ use Rattle.rng_core.specs.Unmentioned.{covers_others}
 use Rattle.rng_kept.specs.Events.{IsAmong, first, later}
 use Rattle.rng_kept.specs.Mentioned.{class_mentions, class_mentions_ns}
 use Rattle.rng_kept.specs.Required.{other_at, has_only, needs, way_needs, is_required}
-use Rattle.rng_kept.specs.Residuals.{Way, among, in_tag, Residual, is_tag, is_in_tag}
+use Rattle.rng_kept.specs.Residuals.{among, in_tag, Residual, is_in_tag}
 use Rattle.rng_live.specs.Calls.{AreRequired}
 use Rattle.rng_live.specs.Order.{name_order, text_order}
 use Rattle.rng_residual.proofs.Mentioned.{covers-unmentioned, covers-other_namespace}

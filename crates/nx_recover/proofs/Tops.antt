@@ -9,7 +9,7 @@ use Rattle.nx_base.specs.Rules.{LaterLaws}
 use Rattle.rng_core.specs.Patterns.{Language}
 use Rattle.rng_kept.specs.Residuals.{Residual}
 use Rattle.nx_recover.specs.States.{View, IsOpen, open_form, stack, form, changed, IsChange, TurnIs, BegunIs, EndedIs}
-use Rattle.nx_recover.specs.Table.{Form, goes_on_as, goes_on_by, opens, ended, closes, leaves}
+use Rattle.nx_recover.specs.Table.{goes_on_as, goes_on_by, opens, ended, closes, leaves}
 use Rattle.nx_recover.specs.Aside.{Pushed, PopsNone, PopsOne, Takes}
 use Rattle.nx_recover.specs.declared.levels.Open.{Open}
 use Rattle.nx_recover.specs.declared.levels.Levels.{Levels}

@@ -11,7 +11,8 @@ use Rattle.nx_recover.specs.declared.levels.Open.TheVariants.{In, Begins, Lost}
 use Rattle.nx_recover.specs.declared.levels.Levels.{Levels}
 use Rattle.nx_recover.specs.declared.levels.Change.{Change}
 
-module _ {D S : Type 0} {later : D → D → Type 0} {is_state : D → S → Type 0} {means : D → S → Residual} {language : D → Language} (laws : LaterLaws later is_state means language) {a b : D} (on : later a b) where
+module _ {D S : Type 0} {later : D → D → Type 0} {is_state : D → S → Type 0} {means : D → S → Residual} {language : D → Language}
+    (laws : LaterLaws later is_state means language) {a b : D} (on : later a b) where
   some_later : (o : Option S) → IfSome o (is_state a) → IfSome o (is_state b)
   some_later None h = tt
   some_later (Some s) h = laws.state a b s on h

@@ -1,5 +1,6 @@
 -- Recovery keeps the laws of machines where its matcher keeps its own.
-use Rattle.std.specs.Prelude.{◌≡◌, ℕ, ◌+◌, ◌-◌, ◌≤◌, true, not, is_some, List, [], ◌∷◌, ◌++◌, length, map, Option, Some, None, option_map, refl}
+use Rattle.std.specs.Prelude.{◌≡◌, ℕ, ◌+◌, ◌-◌, ◌≤◌, true, not, is_some, List, [], ◌∷◌, ◌++◌, length, map, refl}
+use Rattle.std.specs.Prelude.{Option, Some, None, option_map}
 use Rattle.std.proofs.Common.{arith, sym, ap, ◌∙◌}
 use Rattle.std.specs.List.{AllByRecursion}
 use Rattle.nx_base.specs.Rules.{lexeme_of, token_at, RulesLaws, LaterLaws, IsWithin}
@@ -47,7 +48,8 @@ form_moves g d l [] = refl
 form_moves g d l (items.Event e s ∷ all) = form_moves g d (done_by g l e).form all
 form_moves g d l (items.Fault f ∷ all) = form_moves g d l all
 
-faults_move : (g : Language) (d : ℕ) (l : Form) (all : List Item) → found_along g l (map (placed_item d) all) ≡ placed d (found_along g l all)
+faults_move : (g : Language) (d : ℕ) (l : Form) (all : List Item) →
+    found_along g l (map (placed_item d) all) ≡ placed d (found_along g l all)
 unfolding found_along
 faults_move g d l [] = refl
 faults_move g d l (items.Event e s ∷ all) =
@@ -61,11 +63,13 @@ bare_move d l [] = refl
 bare_move d l (items.Event e s ∷ all) = bare_move d l all
 bare_move d l (items.Fault f ∷ all) = ap (λ x. placed_fault d f ∷ x) (bare_move d l all)
 
-levels_behind_move : (g : Option Language) (d : ℕ) (l : Form) (all : List Item) → levels_behind g l (map (placed_item d) all) ≡ levels_behind g l all
+levels_behind_move : (g : Option Language) (d : ℕ) (l : Form) (all : List Item) →
+    levels_behind g l (map (placed_item d) all) ≡ levels_behind g l all
 levels_behind_move None d l all = refl
 levels_behind_move (Some g) d l all = form_moves g d l all
 
-faults_behind_move : (g : Option Language) (d : ℕ) (l : Form) (all : List Item) → faults_behind g l (map (placed_item d) all) ≡ placed d (faults_behind g l all)
+faults_behind_move : (g : Option Language) (d : ℕ) (l : Form) (all : List Item) →
+    faults_behind g l (map (placed_item d) all) ≡ placed d (faults_behind g l all)
 faults_behind_move None d l all = bare_move d l all
 faults_behind_move (Some g) d l all = faults_move g d l all
 
@@ -80,11 +84,16 @@ items_placed m token h =
 
 pub levels_placed : (g : Option Language) (m : Recovered) (token : Token) → run_back m.events.run ≤ token.from →
     levels_behind g m.levels (items_of_token m.events token) ≡ ((recover_rules g).after m (lexeme_of token)).levels
-levels_placed g m token h = ap (levels_behind g m.levels) (items_placed m token h) ∙ levels_behind_move g (token.from - run_back m.events.run) m.levels (items_given m (lexeme_of token))
+levels_placed g m token h =
+    ap (levels_behind g m.levels) (items_placed m token h)
+    ∙ levels_behind_move g (token.from - run_back m.events.run) m.levels (items_given m (lexeme_of token))
 
 pub gives_placed : (g : Option Language) (m : Recovered) (token : Token) → run_back m.events.run ≤ token.from →
-    faults_behind g m.levels (items_of_token m.events token) ≡ placed (token.from - run_back m.events.run) ((recover_rules g).gives m (lexeme_of token))
-gives_placed g m token h = ap (faults_behind g m.levels) (items_placed m token h) ∙ faults_behind_move g (token.from - run_back m.events.run) m.levels (items_given m (lexeme_of token))
+    faults_behind g m.levels (items_of_token m.events token)
+    ≡ placed (token.from - run_back m.events.run) ((recover_rules g).gives m (lexeme_of token))
+gives_placed g m token h =
+    ap (faults_behind g m.levels) (items_placed m token h)
+    ∙ faults_behind_move g (token.from - run_back m.events.run) m.levels (items_given m (lexeme_of token))
 
 pub ends_placed : (g : Option Language) (m : Recovered) (len : ℕ) → run_back m.events.run ≤ len →
     faults_behind g m.levels (items_at_end m.events len) ≡ placed (len - run_back m.events.run) ((recover_rules g).ends m)
@@ -97,7 +106,8 @@ ends_placed g m len h =
 
 -- ---- the faults lie in what was read
 
-joined_within : (n : ℕ) (xs ys : List Fault) → AllByRecursion (IsWithin n) xs → AllByRecursion (IsWithin n) ys → AllByRecursion (IsWithin n) (xs ++ ys)
+joined_within : (n : ℕ) (xs ys : List Fault) → AllByRecursion (IsWithin n) xs → AllByRecursion (IsWithin n) ys →
+    AllByRecursion (IsWithin n) (xs ++ ys)
 joined_within n [] ys h k = k
 joined_within n (x ∷ xs) ys h k = (h.0, joined_within n xs ys h.1 k)
 
@@ -105,17 +115,22 @@ flaw_within : (n : ℕ) (s : Span) (f : Option Flaw) → s.from ≤ s.to → s.t
 flaw_within n s None h k = tt
 flaw_within n s (Some f) h k = (record { ordered = h; inside = k }, tt)
 
-along_within : (g : Language) (from n : ℕ) (l : Form) (all : List Item) → AreWithin from n all → AllByRecursion (IsWithin n) (found_along g l all)
+along_within : (g : Language) (from n : ℕ) (l : Form) (all : List Item) → AreWithin from n all →
+    AllByRecursion (IsWithin n) (found_along g l all)
 unfolding found_along
 along_within g from n l [] h = tt
-along_within g from n l (items.Event e s ∷ all) h = joined_within n (flaw_at s (done_by g l e).flaw) (found_along g (done_by g l e).form all) (flaw_within n s (done_by g l e).flaw h.0.ordered h.0.ends) (along_within g from n (done_by g l e).form all h.1)
+along_within g from n l (items.Event e s ∷ all) h =
+    joined_within n (flaw_at s (done_by g l e).flaw) (found_along g (done_by g l e).form all)
+    (flaw_within n s (done_by g l e).flaw h.0.ordered h.0.ends) (along_within g from n (done_by g l e).form all h.1)
 along_within g from n l (items.Fault f ∷ all) h = (record { ordered = h.0.ordered; inside = h.0.ends }, along_within g from n l all h.1)
 
-behind_within : (g : Option Language) (from n : ℕ) (l : Form) (all : List Item) → AreWithin from n all → AllByRecursion (IsWithin n) (faults_behind g l all)
+behind_within : (g : Option Language) (from n : ℕ) (l : Form) (all : List Item) → AreWithin from n all →
+    AllByRecursion (IsWithin n) (faults_behind g l all)
 behind_within (Some g) from n l all h = along_within g from n l all h
 behind_within None from n l [] h = tt
 behind_within None from n l (items.Event e s ∷ all) h = behind_within None from n l all h.1
-behind_within None from n l (items.Fault f ∷ all) h = (record { ordered = h.0.ordered; inside = h.0.ends }, behind_within None from n l all h.1)
+behind_within None from n l (items.Fault f ∷ all) h =
+    (record { ordered = h.0.ordered; inside = h.0.ends }, behind_within None from n l all h.1)
 
 no_run : (run : Option Run) → not (is_some run) ≡ true → run_back run ≡ 0
 no_run None e = refl
@@ -126,8 +141,10 @@ rule_laws_of g = record {
   first_back = refl;
   mark_back = λ m e. no_run m.events.run e;
   after_back = λ m t. back_grows m.events (token_at 0 t);
-  gives_within = λ m t. behind_within g _ (run_back m.events.run + length t.bytes) m.levels (items_given m t) (items_lie_in_tokens m.events (token_at (run_back m.events.run) t) (omega arith));
-  ends_within = λ m. behind_within g _ (run_back m.events.run) m.levels (items_at_end m.events (run_back m.events.run)) (items_lie_in_text m.events (run_back m.events.run) (omega arith));
+  gives_within = λ m t. behind_within g _ (run_back m.events.run + length t.bytes) m.levels (items_given m t)
+      (items_lie_in_tokens m.events (token_at (run_back m.events.run) t) (omega arith));
+  ends_within = λ m. behind_within g _ (run_back m.events.run) m.levels (items_at_end m.events (run_back m.events.run))
+      (items_lie_in_text m.events (run_back m.events.run) (omega arith));
 }
 
 pub rule_laws_by : {D : Type 0} (language : D → Language) (d : Option D) → RulesLaws (rules_by language d)
@@ -138,8 +155,10 @@ rule_laws_by language d = rule_laws_of (option_map language d)
 recovered : EventState → Form → Recovered
 recovered e l = record { events = e; levels = l }
 
-module _ {D S : Type 0} {later : D → D → Type 0} {is_state : D → S → Type 0} {means : D → S → Residual} {language : D → Language} (laws : LaterLaws later is_state means language) where
-  pub over_same : (a b : D) (s : RecoverState S) → later a b → AreStates (is_state a) (view_of s.levels) → over (means b) s ≡ over (means a) s
+module _ {D S : Type 0} {later : D → D → Type 0} {is_state : D → S → Type 0} {means : D → S → Residual} {language : D → Language}
+    (laws : LaterLaws later is_state means language) where
+  pub over_same : (a b : D) (s : RecoverState S) → later a b → AreStates (is_state a) (view_of s.levels) →
+      over (means b) s ≡ over (means a) s
   unfolding recovered
   over_same a b s l h = ap (recovered s.events) (form_same laws l (view_of s.levels) h)
 
@@ -161,7 +180,8 @@ module _ {D S : Type 0} {later : D → D → Type 0} {is_state : D → S → Typ
   state None (Some b) s l h = absurd l
   state (Some a) None s l h = absurd l
 
-  meaning : (a b : Option D) (s : RecoverState S) → later_by later a b → state_by is_state a s → means_by means b s ≡ means_by means a s
+  meaning : (a b : Option D) (s : RecoverState S) → later_by later a b → state_by is_state a s →
+      means_by means b s ≡ means_by means a s
   meaning (Some a) (Some b) s l h = over_same a b s l h.states
   meaning None None s l h = refl
   meaning None (Some b) s l h = absurd l
@@ -173,7 +193,8 @@ module _ {D S : Type 0} {later : D → D → Type 0} {is_state : D → S → Typ
   rule None (Some b) l = absurd l
   rule (Some a) None l = absurd l
 
-  pub laws_by : LaterLaws {S = Recover D S} {T = RecoverState S} (λ a b. later_by later a.matcher b.matcher) (λ a s. state_by is_state a.matcher s) (λ a s. means_by means a.matcher s) (λ a. rules_by language a.matcher)
+  pub laws_by : LaterLaws {S = Recover D S} {T = RecoverState S} (λ a b. later_by later a.matcher b.matcher)
+      (λ a s. state_by is_state a.matcher s) (λ a s. means_by means a.matcher s) (λ a. rules_by language a.matcher)
   laws_by = record {
     same = λ a. same a.matcher;
     chain = λ a b c l k. chain a.matcher b.matcher c.matcher l k;

@@ -1,6 +1,6 @@
 //! The begin and the end of a text over a matcher, equal states and copies.
 
-ghost use Rattle.std.specs.Prelude.{◌≡◌, ◌↔◌, IsTrue, ◌+◌, ◌-◌, ◌<◌, ◌≤◌, ◌^◌, ◌++◌, length, take, map, Some, None, IfOk, IfSome, OnOk, OnErr, option_map};
+ghost use Rattle.std.specs.Prelude.{◌≡◌, ◌↔◌, ◌-◌, ◌≤◌, ◌++◌, IsTrue, take, map, Some, IfOk, IfSome, OnOk, OnErr, option_map};
 ghost use Rattle.std.specs.List.{AllByRecursion};
 ghost use Rattle.nx_base.specs.Shifting.{placed};
 ghost use Rattle.nx_events.specs.Runs.{run_back};
@@ -142,7 +142,8 @@ fn copy_each<M: Matcher>(
 ) -> Result<Vec<Open<M::State>>, NoMemory>
     requires { AllByRecursion (IsOpen (M.is_state matcher.now)) elements.now }
     ensures states { IfOk result (λ v. AllByRecursion (IsOpen (M.is_state matcher.now)) v.items) }
-    ensures meaning { IfOk result (λ v. map (open_form (M.means matcher.now)) v.items ≡ map (open_form (M.means matcher.now)) elements.now) }
+    ensures meaning { IfOk result (λ v. map (open_form (M.means matcher.now)) v.items
+        ≡ map (open_form (M.means matcher.now)) elements.now) }
 {
     let mut copied = Vec::with_capacity(alloc, elements.len())?;
     for element in elements {

@@ -1,6 +1,6 @@
 use Rattle.std.proofs.Common.{◌∙◌, Some, refl}
 use Rattle.nx_recover.specs.Machine.{over}
-use Rattle.nx_recover.proofs.Stepping.{text_given, from_empty, given_at_end}
+use Rattle.nx_recover.proofs.Stepping.{from_empty, given_at_end}
 use Rattle.nx_recover.proofs.whole.end_over.Goals as goal
 
 pub returns-clause-faults : goal.returns-clause-faults
