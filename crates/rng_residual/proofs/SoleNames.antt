@@ -85,7 +85,7 @@ other_of c n o =
 
 -- ---- what is there is told of
 
-found_by_ns : (x c : Class) (n : Name) (ns : List ℕ) → class_mentions_ns x ns ≡ true → (is_namespace ns && covers_others_in c ns) ≡ true → other_at x c n ≡ true
+pub found_by_ns : (x c : Class) (n : Name) (ns : List ℕ) → class_mentions_ns x ns ≡ true → (is_namespace ns && covers_others_in c ns) ≡ true → other_at x c n ≡ true
 found_by_ns any_name c n ns h e = absurd (false≢true h)
 found_by_ns (ns_name of) c n ns h e = subst (λ x. (is_namespace x && covers_others_in c x) ≡ true) (same_bytes ns of h) e
 found_by_ns (the_name m) c n ns h e = or_right (has_attribute_name c m && not (same_name m n)) _ (subst (λ x. (is_namespace x && covers_others_in c x) ≡ true) (same_bytes ns m.ns h) e)

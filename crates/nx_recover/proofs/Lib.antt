@@ -1,0 +1,5 @@
+pub mod Tops
+pub mod Rows
+pub mod Going
+pub mod Stepping
+pub mod RequiredNames

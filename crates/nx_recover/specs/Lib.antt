@@ -1,0 +1,18 @@
+-- ---- what a reader must believe: which faults a text has
+pub mod Details
+pub mod Frames
+pub mod Outcomes
+pub mod Nesting
+pub mod Faults
+-- ---- the same over residuals, which a matcher computes
+pub mod Required
+pub mod Table
+pub mod Items
+pub mod RecoverRules
+-- ---- states of a matcher in the place of residuals, cited by private contracts
+pub mod States
+pub mod Aside
+pub mod Machine
+-- ---- proofs of the laws that the machine hands on, which have to stand here
+pub mod Later
+pub mod MachineLaws

@@ -1,0 +1,171 @@
+//! One event: the levels behind it are kept aside.
+
+ghost use Rattle.std.specs.Prelude.{◌≡◌, IfOk, IfSome, option_map, take, length};
+ghost use Rattle.nx_events.specs.Texts.{EventIsText};
+ghost use Rattle.nx_recover.specs.States.{IsChange, changed, form};
+ghost use Rattle.nx_recover.specs.Aside.{Popped, Pushed, Takes};
+ghost use Rattle.nx_recover.specs.Table as t;
+
+use crate::levels::{Begun, Change, Ended, Levels, Open, Turn};
+use crate::row;
+use nx_base::memory::NoMemory;
+use nx_base::name::Name;
+use nx_events::flaw::Flaw;
+use nx_events::item::Event;
+use rng_live::matcher::Matcher;
+use std::alloc::Global;
+
+// The state here.
+fn here<'a, S: Drop>(levels: &'a Levels<S>, change: &'a Change<S>) -> &'a Option<S>
+    ensures { result.now ≡ (changed levels.now change.now).here }
+{
+    match &change.here {
+        Some(here) => here,
+        None => &levels.here,
+    }
+}
+
+// Puts an element on top.
+fn push<S: Drop>(change: &mut Change<S>, begun: Begun<S>) -> Result<Option<Flaw>, NoMemory>
+    ensures { IfOk result (Pushed begun change.old change.new) }
+{
+    let Begun {
+        here,
+        element,
+        flaw,
+    } = begun;
+    change.above.push(element)?;
+    change.here = Some(here);
+    Ok(flaw)
+}
+
+// Takes the innermost open element off: one that is aside, or a copy of an old one.
+fn pop<M: Matcher>(
+    alloc: Global,
+    matcher: &M,
+    levels: &Levels<M::State>,
+    change: &mut Change<M::State>,
+) -> Result<Option<Open<M::State>>, NoMemory>
+    requires { IsChange (M.is_state matcher.now) levels.now change.old }
+    ensures { IfOk result (Popped (M.is_state matcher.now) (M.means matcher.now) levels.now change.old change.new) }
+{
+    if let Some(element) = change.above.pop() {
+        return Ok(Some(element));
+    }
+    if change.kept == 0 {
+        return Ok(None);
+    }
+    let element = row::copy_open(alloc, matcher, &levels.elements[change.kept - 1])?;
+    change.kept -= 1;
+    Ok(Some(element))
+}
+
+// An element begins.
+fn take_enter<M: Matcher>(
+    alloc: Global,
+    matcher: &mut M,
+    levels: &Levels<M::State>,
+    change: &mut Change<M::State>,
+    name: &Name,
+) -> Result<Option<Flaw>, NoMemory>
+    requires { IsChange (M.is_state matcher.old) levels.now change.old }
+    ensures later { M.later matcher.old matcher.new }
+    ensures gives { IfOk result (Takes (M.is_state matcher.new) (M.means matcher.new) levels.now change.new
+        (t.done_in (M.language matcher.old) (form (M.means matcher.old) (changed levels.now change.old)) (Event.Enter name.now))) }
+{
+    let begun = row::enter(alloc, matcher, here(levels, change), name)?;
+    let flaw = push(change, begun)?;
+    Ok(flaw)
+}
+
+// An element begins that has no name.
+fn take_lost<M: Matcher>(
+    alloc: Global,
+    matcher: &M,
+    levels: &Levels<M::State>,
+    change: &mut Change<M::State>,
+) -> Result<Option<Flaw>, NoMemory>
+    requires { IsChange (M.is_state matcher.now) levels.now change.old }
+    ensures gives { IfOk result (Takes (M.is_state matcher.now) (M.means matcher.now) levels.now change.new
+        (t.done_in (M.language matcher.now) (form (M.means matcher.now) (changed levels.now change.old)) Event.EnterLost)) }
+{
+    let around = row::copy_here(alloc, matcher, here(levels, change))?;
+    let begun = Begun {
+        here: None,
+        element: Open::Lost(around),
+        flaw: None,
+    };
+    let flaw = push(change, begun)?;
+    Ok(flaw)
+}
+
+// The innermost element ends.
+fn take_leave<M: Matcher>(
+    alloc: Global,
+    matcher: &mut M,
+    levels: &Levels<M::State>,
+    change: &mut Change<M::State>,
+) -> Result<Option<Flaw>, NoMemory>
+    requires { IsChange (M.is_state matcher.old) levels.now change.old }
+    ensures later { M.later matcher.old matcher.new }
+    ensures gives { IfOk result (Takes (M.is_state matcher.new) (M.means matcher.new) levels.now change.new
+        (t.done_in (M.language matcher.old) (form (M.means matcher.old) (changed levels.now change.old)) Event.Leave)) }
+{
+    let Some(element) = pop(alloc, matcher, levels, change)? else {
+        return Ok(None);
+    };
+    let ended = row::end_element(alloc, matcher, here(levels, change), element)?;
+    let Ended { here: behind, flaw } = ended;
+    change.here = Some(behind);
+    Ok(flaw)
+}
+
+// Another event: where the frame stays, so does what is aside.
+fn take_other<M: Matcher>(
+    alloc: Global,
+    matcher: &mut M,
+    levels: &Levels<M::State>,
+    change: &mut Change<M::State>,
+    event: &Event,
+) -> Result<Option<Flaw>, NoMemory>
+    requires change { IsChange (M.is_state matcher.old) levels.now change.old }
+    requires text { EventIsText event.now }
+    ensures later { M.later matcher.old matcher.new }
+    ensures gives { IfOk result (Takes (M.is_state matcher.new) (M.means matcher.new) levels.now change.new
+        (t.passed_on (form (M.means matcher.old) (changed levels.now change.old)) event.now)) }
+{
+    let turn = row::pass(alloc, matcher, here(levels, change), event)?;
+    let Turn { next, flaw } = turn;
+    match next {
+        Some(state) => {
+            change.here = Some(Some(state));
+            Ok(flaw)
+        }
+        None => Ok(flaw),
+    }
+}
+
+/// An event: what is wrong with it is the answer.
+#[tactic(auto, unfolding(crate::specs::Table::done_by))]
+pub fn take_event<M: Matcher>(
+    alloc: Global,
+    matcher: &mut M,
+    levels: &Levels<M::State>,
+    change: &mut Change<M::State>,
+    event: &Event,
+) -> Result<Option<Flaw>, NoMemory>
+    requires change { IsChange (M.is_state matcher.old) levels.now change.old }
+    requires text { EventIsText event.now }
+    ensures later { M.later matcher.old matcher.new }
+    ensures gives { IfOk result (Takes (M.is_state matcher.new) (M.means matcher.new) levels.now change.new
+        (t.done_by (M.language matcher.old) (form (M.means matcher.old) (changed levels.now change.old)) event.now)) }
+{
+    match event {
+        Event::Enter(name) => take_enter(alloc, matcher, levels, change, name),
+        Event::EnterLost => take_lost(alloc, matcher, levels, change),
+        Event::Leave => take_leave(alloc, matcher, levels, change),
+        Event::Att(_, _) => take_other(alloc, matcher, levels, change, event),
+        Event::TagEnd => take_other(alloc, matcher, levels, change, event),
+        Event::Chars(_) => take_other(alloc, matcher, levels, change, event),
+    }
+}

@@ -1,0 +1,141 @@
+//! A step over a matcher, all or nothing: the levels behind the token are kept aside, and put in place last.
+
+ghost use Rattle.std.specs.Prelude.{◌≡◌, ◌+◌, ◌-◌, ◌<◌, ◌≤◌, ◌^◌, ◌++◌, length, take, IsUtf8, IfOk, OnOk, OnErr, Some};
+ghost use Rattle.nx_base.specs.Rules.{lexeme_of, IsLexeme};
+ghost use Rattle.nx_base.specs.Shifting.{placed};
+ghost use Rattle.nx_events.specs.Items.{declared_in, state_behind};
+ghost use Rattle.nx_events.specs.Runs.{run_back};
+ghost use Rattle.nx_events.specs.Texts.{StateIsText, TokenIsText};
+ghost use Rattle.nx_recover.specs.RecoverRules.{recover_rules};
+ghost use Rattle.nx_recover.specs.States.{HasRoom, AreStates, changed, view_of};
+ghost use Rattle.nx_recover.specs.Machine.{over};
+
+use crate::along::take_items;
+use crate::levels::{Change, Levels};
+use crate::state::RecoverState;
+use nx_base::fault::Faults;
+use nx_base::memory::NoMemory;
+use nx_base::sequence::Sequence;
+use nx_base::token::Token;
+use nx_events::item::Items;
+use nx_events::reader::{Declared, pass_token, read};
+use nx_events::state::EventState;
+use rng_live::matcher::Matcher;
+use std::alloc::Global;
+
+// Adds faults and passes a token, both or neither.
+fn pass_with(
+    alloc: Global,
+    events: &mut EventState,
+    token: &Token,
+    declared: &Declared,
+    faults: &mut Faults,
+    more: Faults,
+) -> Result<(), NoMemory>
+    requires place { run_back events.old.run ≤ token.now.from }
+    requires room { token.now.from + length token.now.bytes < 2 ^ 64 }
+    requires declared { declared.now.own ≡ declared_in token.now }
+    ensures events { OnOk result (events.new ≡ state_behind events.old token.now) }
+    ensures faults { OnOk result (faults.new ≡ faults.old ++ more) }
+    ensures unchanged { OnErr result (events.new ≡ events.old) }
+    ensures no_faults { OnErr result (faults.new ≡ faults.old) }
+    ensures text { TokenIsText token.now → StateIsText events.old → StateIsText events.new }
+{
+    let len = faults.len();
+    faults.append(more)?;
+    match pass_token(alloc, events, token, declared) {
+        Ok(()) => Ok(()),
+        Err(error) => {
+            let grown = faults.len();
+            faults.cut(len, grown);
+            Err(error)
+        }
+    }
+}
+
+// Room for what is new.
+fn make_room<S: Drop>(levels: &mut Levels<S>, change: &Change<S>) -> Result<(), NoMemory>
+    ensures view { view_of levels.new ≡ view_of levels.old }
+    ensures room { OnOk result (HasRoom levels.new change.now) }
+{
+    levels.elements.reserve(change.above.len())?;
+    Ok(())
+}
+
+// The changed levels, in room that there is.
+fn put<S: Drop>(levels: &mut Levels<S>, change: Change<S>)
+    requires { HasRoom levels.old change }
+    ensures { view_of levels.new ≡ changed levels.old change }
+{
+    let Change {
+        here,
+        kept,
+        mut above,
+    } = change;
+    levels.elements.truncate(kept);
+    // There is room, so this takes no memory.
+    let _ = levels.elements.append(&mut above);
+    if let Some(here) = here {
+        levels.here = here;
+    }
+}
+
+// Puts a change in place with the faults of its token, all or nothing.
+fn install<S: Drop>(
+    alloc: Global,
+    state: &mut RecoverState<S>,
+    token: &Token,
+    declared: &Declared,
+    change: Change<S>,
+    faults: &mut Faults,
+    more: Faults,
+) -> Result<(), NoMemory>
+    requires place { run_back state.old.events.run ≤ token.now.from }
+    requires room { token.now.from + length token.now.bytes < 2 ^ 64 }
+    requires declared { declared.now.own ≡ declared_in token.now }
+    ensures events { OnOk result (state.new.events ≡ state_behind state.old.events token.now) }
+    ensures levels { OnOk result (view_of state.new.levels ≡ changed state.old.levels change) }
+    ensures faults { OnOk result (faults.new ≡ faults.old ++ more) }
+    ensures same_events { OnErr result (state.new.events ≡ state.old.events) }
+    ensures same_levels { OnErr result (view_of state.new.levels ≡ view_of state.old.levels) }
+    ensures no_faults { OnErr result (faults.new ≡ faults.old) }
+    ensures text { TokenIsText token.now → StateIsText state.old.events → StateIsText state.new.events }
+{
+    make_room(&mut state.levels, &change)?;
+    pass_with(alloc, &mut state.events, token, declared, faults, more)?;
+    put(&mut state.levels, change);
+    Ok(())
+}
+
+/// A step over a matcher. For want of memory the state means what it meant, and the faults are as before.
+pub fn step_over<M: Matcher>(
+    alloc: Global,
+    matcher: &mut M,
+    state: &mut RecoverState<M::State>,
+    token: &Token,
+    faults: &mut Faults,
+) -> Result<(), NoMemory>
+    requires states { AreStates (M.is_state matcher.old) (view_of state.old.levels) }
+    requires text { StateIsText state.old.events }
+    requires utf8 { IsUtf8 token.now.bytes }
+    requires kind { IsLexeme (lexeme_of token.now) }
+    requires place { run_back state.old.events.run ≤ token.now.from }
+    requires room { token.now.from + length token.now.bytes < 2 ^ 64 }
+    ensures later { M.later matcher.old matcher.new }
+    ensures states { AreStates (M.is_state matcher.new) (view_of state.new.levels) }
+    ensures text { StateIsText state.new.events }
+    ensures after { OnOk result (over (M.means matcher.new) state.new
+        ≡ (recover_rules (Some (M.language matcher.old))).after (over (M.means matcher.old) state.old) (lexeme_of token.now)) }
+    ensures faults { OnOk result (faults.new ≡ faults.old
+        ++ placed (token.now.from - run_back state.old.events.run)
+        ((recover_rules (Some (M.language matcher.old))).gives (over (M.means matcher.old) state.old) (lexeme_of token.now))) }
+    ensures unchanged { OnErr result (over (M.means matcher.new) state.new ≡ over (M.means matcher.old) state.old) }
+    ensures no_faults { OnErr result (faults.new ≡ faults.old) }
+{
+    let mut items = Items::new(alloc);
+    let declared = read(alloc, &mut items, &state.events, token)?;
+    let mut more = Sequence::new(alloc);
+    let change = take_items(alloc, matcher, &state.levels, items.as_slice(), &mut more)?;
+    install(alloc, state, token, &declared, change, faults, more)?;
+    Ok(())
+}
