@@ -1,0 +1,14 @@
+pub mod Names
+pub mod Uniqueness
+pub mod Required
+pub mod Tags
+pub mod Standing
+pub mod Entered
+pub mod Events
+pub mod Places
+pub mod Folding
+pub mod Along
+pub mod Following
+pub mod Viability
+pub mod Validity
+pub mod Details
