@@ -67,7 +67,7 @@ impl Conditions {
                 Ok(number)
             }
             Pat::Attribute(class, body) => {
-                let named = has_some_name(class, Bearer::Attribute);
+                let named = has_some_name(alloc, class, Bearer::Attribute);
                 let takes = strings(alloc, body)?;
                 let part = self.add_pattern(alloc, body)?;
                 let number = self.add(Condition::If(takes.any_if(named), part))?;
@@ -107,7 +107,7 @@ impl Conditions {
         requires inside { number < length self.old.items.items }
         ensures { OnOk result (IsDefined self.old.items.items self.new.items.items number (definition_of def.now)) }
     {
-        let named = has_some_name(&def.class, Bearer::Element);
+        let named = has_some_name(alloc, &def.class, Bearer::Element);
         let root = self.add_pattern(alloc, &def.content)?;
         self.items[number] = Condition::If(named, root);
         Ok(())
