@@ -1,5 +1,6 @@
 -- Of what the forms of nodes and combined definitions are made: each of the forms of what it leads to.
-use Rattle.std.specs.Prelude.{◌≡◌, ℕ, ◌+◌, ◌<◌, List, [], ◌∷◌, ◌++◌, length, map, slice_get, slice_set, slice_index, Some, Result, Ok, Err, Contains}
+use Rattle.std.specs.Prelude.{◌≡◌, ℕ, ◌+◌, ◌<◌, List, [], ◌∷◌, ◌++◌, length, map, slice_get, slice_set, slice_index}
+use Rattle.std.specs.Prelude.{Some, Result, Ok, Err, Contains}
 use Rattle.rnc_parse.specs.declared.surface.Combine.{Combine}
 use Rattle.rnc_parse.specs.declared.surface.TypeName.{TypeName}
 use Rattle.rnc_parse.specs.declared.surface.Param.{Param}

@@ -1,5 +1,6 @@
 -- What is known of the nodes of a schema once its references are resolved, and an order of them.
-use Rattle.std.specs.Prelude.{◌≡◌, ◌≢◌, ◌↔◌, ℕ, ◌+◌, ◌-◌, ◌<◌, ◌==◌, ◌⊎◌, false, List, [], ◌∷◌, length, map, filter, take, slice_get, slice_index, slice_index_or, Option, Some, None, Contains}
+use Rattle.std.specs.Prelude.{◌≡◌, ◌≢◌, ◌↔◌, ℕ, ◌+◌, ◌-◌, ◌<◌, ◌==◌, ◌⊎◌, false, List, [], ◌∷◌, length, map, filter}
+use Rattle.std.specs.Prelude.{take, slice_get, slice_index, slice_index_or, Option, Some, None, Contains}
 use Rattle.std.specs.List.{IsDistinct}
 use Rattle.rnc_parse.specs.declared.surface.Defined.{Defined}
 use Rattle.rnc_parse.specs.declared.surface.Defined.TheVariants as defined

@@ -1,5 +1,7 @@
 -- What is known while references are resolved: the nodes behind some number are taken, each with what stands around it.
-use Rattle.std.specs.Prelude.{◌≡◌, ◌≢◌, ℕ, ◌<◌, ◌≤◌, Bool, true, false, List, [], ◌∷◌, ◌++◌, length, set, replicate, slice_get, slice_index, slice_index_or, Option, Some, None, Result, Ok, Err, Contains, Vec}
+use Rattle.std.specs.Prelude.{◌≡◌, ◌≢◌, ℕ, ◌<◌, ◌≤◌, Bool, true, false, List, [], ◌∷◌, ◌++◌, length, set, replicate}
+use Rattle.std.specs.Prelude.{slice_get, slice_index, slice_index_or, Option, Some, None, Result, Ok, Err, Contains}
+use Rattle.std.specs.Prelude.{Vec}
 use Rattle.std.specs.List.{list_any}
 use Rattle.std.specs.declared.alloc.Global.{Global}
 use Rattle.rng_core.specs.Names.{Class}
@@ -198,7 +200,8 @@ pub record IsTable (cells : List Cell) (combined : List Combined) (grammar : ℕ
 -- a scope is these grammars
 pub data IsScope (cells : List Cell) (combined : List Combined) (tables : List Table) : Scope → List ℕ → Type 0 where
   outside : IsScope cells combined tables Outside []
-  inside : {k grammar : ℕ} {table : Table} {outers : List ℕ} → slice_get tables k ≡ Some table → IsTable cells combined grammar table.combined →
+  inside : {k grammar : ℕ} {table : Table} {outers : List ℕ} →
+      slice_get tables k ≡ Some table → IsTable cells combined grammar table.combined →
       IsScope cells combined tables table.outer outers → IsScope cells combined tables (In k) (grammar ∷ outers)
 
 -- the node stands in the schema, in the grammars of the scope

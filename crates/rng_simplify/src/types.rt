@@ -11,7 +11,9 @@ ghost use Rattle.rng_simplify.specs.Datatypes.{params_of, MayWrite, builtin_stri
 ghost use Rattle.rng_simplify.specs.Forming.{IsKnown};
 ghost use Rattle.rng_simplify.specs.Shown.{AreOfSchema};
 ghost use Rattle.rng_simplify.specs.Standing.{cell_parts};
-ghost use Rattle.rng_simplify.specs.Typing.{IsRefusalOf, Names, NamesValue, IsValue, AreValues, value_of, Lists, TakesBehind, TakesFrom, Takes, MakesValueType, MakesTypeTaken, MakesType, SetsType, MakesTypes, AreKnown};
+ghost use Rattle.rng_simplify.specs.Typing.{IsRefusalOf, Names, NamesValue, IsValue, AreValues, value_of, Lists};
+ghost use Rattle.rng_simplify.specs.Typing.{TakesBehind, TakesFrom, Takes, MakesValueType, MakesTypeTaken, MakesType};
+ghost use Rattle.rng_simplify.specs.Typing.{SetsType, MakesTypes, AreKnown};
 
 use crate::fault::SchemaFault;
 use crate::form::Forms;
