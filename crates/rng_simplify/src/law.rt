@@ -81,7 +81,7 @@ pub fn simplified_is_not_broken()
     joins_is_decided();
 }
 
-/// Files that have a grammar are refused for want of memory alone, or where they could not be had.
+/// Files that have a grammar are refused by another call for want of memory alone, or where a file could not be had.
 pub fn grammar_is_no_refusal()
     ensures { GrammarIsNoRefusal }
 {
