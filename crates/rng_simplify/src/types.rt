@@ -15,6 +15,7 @@ ghost use Rattle.rng_simplify.specs.Typing.{IsRefusalOf, Names, NamesValue, IsVa
 ghost use Rattle.rng_simplify.specs.Typing.{TakesBehind, TakesFrom, Takes, MakesValueType, MakesTypeTaken, MakesType};
 ghost use Rattle.rng_simplify.specs.Typing.{SetsType, MakesTypes, AreKnown};
 
+use crate::copies::check_excepts;
 use crate::fault::SchemaFault;
 use crate::form::Forms;
 use crate::node::{Node, Sign};
@@ -355,6 +356,7 @@ fn no_types(alloc: Global, count: usize) -> Result<Vec<Option<NodeType>>, NoMemo
 }
 
 /// The types of the nodes of an order that have one, in order, so that what is taken from a type is known before the type.
+/// What they take away is counted before memory is spent on it.
 pub(crate) fn types_of(
     alloc: Global,
     nodes: &[Node],
@@ -366,6 +368,7 @@ pub(crate) fn types_of(
     requires known { AreKnown (map cell_of nodes.now) order.now forms.now }
     ensures { MakesTypes (map cell_of nodes.now) order.now forms.now result }
 {
+    check_excepts(alloc, nodes, forms, order)?;
     let mut types = no_types(alloc, nodes.len())?;
     for i in order {
         set_type(&mut types, alloc, nodes, forms, *i)?;
