@@ -114,7 +114,7 @@ is_new Done = false
 
 -- more than any node or combined definitions lead to
 abbrev pub most : Resolved → ℕ
-most found = 4 + sum_by (λ (join : Combined). length join.bodies.items) found.combined.items
+most found = 4 + sum_by (λ (combination : Combined). length combination.bodies.items) found.combined.items
 
 -- what is left to do at a step
 abbrev pub left_at : List Cell → Resolved → Step → ℕ

@@ -6,7 +6,7 @@ ghost use Rattle.std.specs.Str.{bytes_eq};
 ghost use Rattle.rng_simplify.specs.declared.load.Link.{Link as TheLink};
 ghost use Rattle.rng_simplify.specs.Loading.{Loads, unread_as, SaysBytes, IsAbsence, Fetches, ReadsFile};
 ghost use Rattle.rng_simplify.specs.Mentioning.{IsTextMention};
-ghost use Rattle.rng_simplify.specs.Following.{IsAdded, IsUnderWay, uris_of, JoinsUri, IsBadText, NextUri, OpensFile};
+ghost use Rattle.rng_simplify.specs.Following.{IsAdded, IsUnderWay, uris_of, MakesUri, IsBadText, NextUri, OpensFile};
 ghost use Rattle.rng_simplify.specs.Following.{GoesOn, Follows, IsTextLink, AreTextLinks, AreOpened};
 
 use crate::fault::SchemaFault;
@@ -153,7 +153,7 @@ fn file_at<F: Files>(alloc: Global, uri: &Bytes, files: &mut F) -> Result<Surfac
 fn resolved(alloc: Global, base: &Bytes, text: &Bytes) -> Result<Bytes, SchemaFault>
     requires base_is_text { IsUtf8 base.now }
     requires text_is_text { IsUtf8 text.now }
-    ensures { JoinsUri base.now text.now result }
+    ensures { MakesUri base.now text.now result }
 {
     match uri::join(alloc, text_of(base), text_of(text)) {
         Ok(uri) => Ok(uri),

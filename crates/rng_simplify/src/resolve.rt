@@ -215,7 +215,7 @@ fn two_alone(has_alone: bool, combine: Combine) -> bool
 impl Combined {
     /// One definition alone.
     fn of(alloc: Global, combine: Combine, body: usize) -> Result<Combined, NoMemory>
-        ensures { IfOk result (λ join. (join.bodies.items ≡ body ∷ []) × HasSigns (combine ∷ []) join) }
+        ensures { IfOk result (λ made. (made.bodies.items ≡ body ∷ []) × HasSigns (combine ∷ []) made) }
     {
         let mut bodies = Vec::new(alloc);
         bodies.push(body)?;
