@@ -280,12 +280,12 @@ leads_of_node nodes found i link n within links is linked =
     ∙ ap (λ count. cell_leads count (link_at found i) (cell_of n)) (length-map nodes cell_of)
     ∙ ap (λ k. cell_leads (length nodes) k (cell_of n)) (sym (link_there found i link (omega arith) linked))
 
-pub leads_of_join : (nodes : List Node) (found : Resolved) (i : ℕ) (join : Combined) → length nodes ≤ i → i < length nodes + length found.combined.items → join ≡ get_or found.combined.items (i - length nodes) join → leads (map cell_of nodes) found i ≡ join.bodies.items
-leads_of_join nodes found i join behind within is =
+pub leads_of_combination : (nodes : List Node) (found : Resolved) (i : ℕ) (combination : Combined) → length nodes ≤ i → i < length nodes + length found.combined.items → combination ≡ get_or found.combined.items (i - length nodes) combination → leads (map cell_of nodes) found i ≡ combination.bodies.items
+leads_of_combination nodes found i combination behind within is =
     let all = length-map nodes cell_of in
     ap (leads_if (map cell_of nodes) found i) (slice_get_past (map cell_of nodes) i (omega arith))
     ∙ ap (λ count. combined_leads (slice_get found.combined.items (i - count))) all
-    ∙ ap combined_leads (slice_get-get_or found.combined.items (i - length nodes) join (omega arith) ∙ ap (λ j. Some j) (sym is))
+    ∙ ap combined_leads (slice_get-get_or found.combined.items (i - length nodes) combination (omega arith) ∙ ap (λ j. Some j) (sym is))
 
 -- what holds of all that something leads to
 pub leads_known : (shapes : List Shape) (of some others : List ℕ) → some ≡ others → ((j : ℕ) → Contains some j → IsKnown shapes of j) → (j : ℕ) → Contains others j → IsKnown shapes of j
@@ -307,7 +307,7 @@ module _ (nodes : List Node) (found : Resolved) (i : ℕ) (old new : List Shape)
             let Q : ℕ → Type 0 = λ k. form_at cells taken new number ≡ cell_form (form_in cells taken old of) (length nodes) k (taken i) c in
             let R : Cell → Type 0 = λ d. form_at cells taken new number ≡ cell_form (form_in cells taken old of) (length nodes) link (taken i) d in
             subst P (sym all) (subst Q same (subst R (same_Some _ _ (sym there ∙ at)) (made.shows cells taken there)));
-        join_is = λ k join taken place combined. absurd (omega arith);
+        combination_is = λ k combination taken place combined. absurd (omega arith);
         kept = λ others elements alike below are.
             let P : ℕ → Type 0 = λ k. IsNumberedBelow elements k (cell_of n) in
             made.kept others elements (alike (cell_of n) there) (subst P (sym same) (below (cell_of n) there)) are;
@@ -319,8 +319,8 @@ module _ (nodes : List Node) (found : Resolved) (i : ℕ) (old new : List Shape)
   node_made link n (Err (fault.BadUri a)) within links is linked made = made
   node_made link n (Err (fault.Unreadable why)) within links is linked made = made
 
-  pub join_made : (join : Combined) (result : Result ℕ SchemaFault) → length nodes ≤ i → i < length nodes + length found.combined.items → join ≡ get_or found.combined.items (i - length nodes) join → MakesCombined old new of join.combine join.bodies.items result → Makes (map cell_of nodes) found i old new of result
-  join_made join (Ok number) behind within is made =
+  pub combination_made : (combination : Combined) (result : Result ℕ SchemaFault) → length nodes ≤ i → i < length nodes + length found.combined.items → combination ≡ get_or found.combined.items (i - length nodes) combination → MakesCombined old new of combination.combine combination.bodies.items result → Makes (map cell_of nodes) found i old new of result
+  combination_made combination (Ok number) behind within is made =
       let cells : List Cell = map cell_of nodes in
       let all : length cells ≡ length nodes = length-map nodes cell_of in
       record {
@@ -328,19 +328,19 @@ module _ (nodes : List Node) (found : Resolved) (i : ℕ) (old new : List Shape)
         grows = made.grows;
         within = made.within;
         node_is = λ c taken at. let inside = slice_get_within cells i c at in absurd (omega arith);
-        join_is = λ k other taken place there.
+        combination_is = λ k other taken place there.
             let P : Combined → Type 0 = λ j. form_at cells taken new number ≡ combined_form (form_in cells taken old of) j in
             let number_is : i - length nodes ≡ k = omega arith in
-            let Q : ℕ → Type 0 = λ m. join ≡ get_or found.combined.items m join in
-            subst P (subst Q number_is is ∙ get_or_from_slice_get found.combined.items k other join there) (made.shows cells taken);
+            let Q : ℕ → Type 0 = λ m. combination ≡ get_or found.combined.items m combination in
+            subst P (subst Q number_is is ∙ get_or_from_slice_get found.combined.items k other combination there) (made.shows cells taken);
         kept = λ others elements alike below are. made.kept others elements are;
       }
-  join_made join (Err fault.NoMemory) behind within is made = tt
-  join_made join (Err fault.Failed) behind within is made = made
-  join_made join (Err (fault.Absent a)) behind within is made = made
-  join_made join (Err (fault.NotUtf8 a at)) behind within is made = made
-  join_made join (Err (fault.BadUri a)) behind within is made = made
-  join_made join (Err (fault.Unreadable why)) behind within is made = made
+  combination_made combination (Err fault.NoMemory) behind within is made = tt
+  combination_made combination (Err fault.Failed) behind within is made = made
+  combination_made combination (Err (fault.Absent a)) behind within is made = made
+  combination_made combination (Err (fault.NotUtf8 a at)) behind within is made = made
+  combination_made combination (Err (fault.BadUri a)) behind within is made = made
+  combination_made combination (Err (fault.Unreadable why)) behind within is made = made
 
 -- ---- forms in order
 
@@ -368,8 +368,8 @@ same_map at other (first ∷ more) same =
     ap (λ p. p ∷ map at more) (same first (in_first first more))
     ∙ ap (λ ps. other first ∷ ps) (same_map at other more (λ j within. same j (in_more first more j within)))
 
-pub same_join_form : (at other : ℕ → Form) (join : Combined) → ((j : ℕ) → Contains join.bodies.items j → at j ≡ other j) → combined_form at join ≡ combined_form other join
-same_join_form at other join same = ap (bodies_form join.combine) (same_map at other join.bodies.items same)
+pub same_combination_form : (at other : ℕ → Form) (combination : Combined) → ((j : ℕ) → Contains combination.bodies.items j → at j ≡ other j) → combined_form at combination ≡ combined_form other combination
+same_combination_form at other combination same = ap (bodies_form combination.combine) (same_map at other combination.bodies.items same)
 
 -- nothing stands in front of the first place
 pub none_before : (order : List ℕ) (i : ℕ) → IsBefore order 0 i → ⊥
@@ -394,8 +394,8 @@ before_later order end later i less h = record { place = h.place; before = let b
 pub cell_leads_are : (cells : List Cell) (found : Resolved) (i : ℕ) (c : Cell) → IsCell cells i c → leads cells found i ≡ cell_leads (length cells) (link_at found i) c
 cell_leads_are cells found i c at = ap (leads_if cells found i) at
 
-pub join_leads_are : (cells : List Cell) (found : Resolved) (number : ℕ) (join : Combined) → slice_get found.combined.items number ≡ Some join → leads cells found (length cells + number) ≡ join.bodies.items
-join_leads_are cells found number join there =
+pub combination_leads_are : (cells : List Cell) (found : Resolved) (number : ℕ) (combination : Combined) → slice_get found.combined.items number ≡ Some combination → leads cells found (length cells + number) ≡ combination.bodies.items
+combination_leads_are cells found number combination there =
     let back : (length cells + number) - length cells ≡ number = omega arith in
     ap (leads_if cells found (length cells + number)) (slice_get_past cells (length cells + number) (omega arith))
     ∙ ap (λ k. combined_leads (slice_get found.combined.items k)) back
@@ -414,7 +414,7 @@ module _ (cells : List Cell) (found : Resolved) (order : List ℕ) (ordered : Is
     all = all;
     known = λ i h. absurd (none_before order i h);
     node_is = λ i c taken h at. absurd (none_before order i h);
-    join_is = λ number join taken h there. absurd (none_before order _ h);
+    combination_is = λ number combination taken h there. absurd (none_before order _ h);
     of_schema = λ others alike. record {
       each_is = λ n s h.
           let P : List Shape → Type 0 = λ shapes. slice_get shapes n ≡ Some s in
@@ -491,19 +491,19 @@ module _ (cells : List Cell) (found : Resolved) (order : List ℕ) (ordered : Is
             ∙ same_cell_form (form_of cells taken old) (form_of cells taken new) (length cells) (link_at found here) (taken here) c (λ j within.
             sym (form_before taken j (ordered.behind end here j place (let S : List ℕ → Type 0 = λ all. Contains all j in subst S (sym (cell_leads_are cells found here c also)) within)))))
       ];
-      join_is = λ number join taken h there. elim (before_next order end (length cells + number) here place h) [
+      combination_is = λ number combination taken h there. elim (before_next order end (length cells + number) here place h) [
         | inl before ↦
             form_before taken (length cells + number) before
-            ∙ formed.join_is number join taken before there
-            ∙ same_join_form (form_of cells taken old) (form_of cells taken new) join (λ j within.
-            sym (form_before taken j (leads_before end (length cells + number) join.bodies.items (join_leads_are cells found number join there) before j within)))
+            ∙ formed.combination_is number combination taken before there
+            ∙ same_combination_form (form_of cells taken old) (form_of cells taken new) combination (λ j within.
+            sym (form_before taken j (leads_before end (length cells + number) combination.bodies.items (combination_leads_are cells found number combination there) before j within)))
         | inr is ↦
             let P : ℕ → Type 0 = λ k. slice_get order end ≡ Some k in
             ap (λ k. form_of cells taken new k) is
             ∙ ap (λ n. form_at cells taken new.shapes n) of_here
-            ∙ placed.made.join_is number join taken (sym is) there
-            ∙ same_join_form (form_of cells taken old) (form_of cells taken new) join (λ j within.
-            sym (form_before taken j (ordered.behind end (length cells + number) j (subst P (sym is) place) (let S : List ℕ → Type 0 = λ all. Contains all j in subst S (sym (join_leads_are cells found number join there)) within))))
+            ∙ placed.made.combination_is number combination taken (sym is) there
+            ∙ same_combination_form (form_of cells taken old) (form_of cells taken new) combination (λ j within.
+            sym (form_before taken j (ordered.behind end (length cells + number) j (subst P (sym is) place) (let S : List ℕ → Type 0 = λ all. Contains all j in subst S (sym (combination_leads_are cells found number combination there)) within))))
       ];
       of_schema = λ others alike.
           placed.made.kept others (length found.elements.items)

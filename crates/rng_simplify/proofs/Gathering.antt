@@ -68,8 +68,8 @@ not_nothing [] clause h = absurd cc
 not_nothing (c ∷ before) clause h = absurd cc
 
 -- the combined definitions of a name with one more of them
-join_more : (name : Defined) (before : List Clause) (clause : Clause) (old new : Combined) → same_defined name clause.name ≡ true → IsCombinedOf (clauses_of name before) old → new.bodies.items ≡ old.bodies.items ++ clause.body ∷ [] → HasSigns (combines_of (clauses_of name before) ++ clause.combine ∷ []) new → IsCombinedOf (clauses_of name (before ++ clause ∷ [])) new
-join_more name before clause old new is h bodies signs =
+combination_more : (name : Defined) (before : List Clause) (clause : Clause) (old new : Combined) → same_defined name clause.name ≡ true → IsCombinedOf (clauses_of name before) old → new.bodies.items ≡ old.bodies.items ++ clause.body ∷ [] → HasSigns (combines_of (clauses_of name before) ++ clause.combine ∷ []) new → IsCombinedOf (clauses_of name (before ++ clause ∷ [])) new
+combination_more name before clause old new is h bodies signs =
     subst (λ (cs : List Clause). IsCombinedOf cs new) (sym (clauses_more name before clause is)) (record {
       some = not_nothing (clauses_of name before) clause;
       bodies_are = bodies ∙ ap (λ bs. bs ++ clause.body ∷ []) h.bodies_are ∙ sym (map-append (λ (c : Clause). c.body) (clauses_of name before) (clause ∷ []));
@@ -83,8 +83,8 @@ still : (first : ℕ) (before : List Clause) (combined : List Combined) (other :
 still first before combined other clause new None same none = same ∙ none
 still first before combined other clause new (Some at) same there = (there.0, there.1, stays_behind combined (new ∷ []) at there.0 there.2, subst (λ (cs : List Clause). IsCombinedOf cs there.0) (sym same) there.3)
 
-first_join : (before : List Clause) (name : Defined) (clause : Clause) (new : Combined) → same_defined name clause.name ≡ true → clauses_of name before ≡ [] → new.bodies.items ≡ clause.body ∷ [] → HasSigns (clause.combine ∷ []) new → IsCombinedOf (clauses_of name (before ++ clause ∷ [])) new
-first_join before name clause new is none bodies signs =
+first_combination : (before : List Clause) (name : Defined) (clause : Clause) (new : Combined) → same_defined name clause.name ≡ true → clauses_of name before ≡ [] → new.bodies.items ≡ clause.body ∷ [] → HasSigns (clause.combine ∷ []) new → IsCombinedOf (clauses_of name (before ++ clause ∷ [])) new
+first_combination before name clause new is none bodies signs =
     let one : clause ∷ [] ≡ clauses_of name (before ++ clause ∷ []) = sym (clauses_more name before clause is ∙ ap (λ (cs : List Clause). cs ++ clause ∷ []) none) in
     subst (λ (cs : List Clause). IsCombinedOf cs new) one (record { some = λ h. absurd cc; bodies_are = bodies; signs = signs })
 
@@ -92,12 +92,12 @@ first_join before name clause new is none bodies signs =
 
 module _ {first : ℕ} {before : List Clause} {names : Names ℕ} {combined : List Combined} where
   -- its combined definitions
-  pub join_there : (name : Defined) (number : ℕ) → IsGathered first before names combined → kept_for names name ≡ Some number → IsGatheredAs first before combined name (Some number)
-  join_there name number h kept = subst (λ (k : Option ℕ). IsGatheredAs first before combined name k) kept (h.gathered name)
+  pub combination_there : (name : Defined) (number : ℕ) → IsGathered first before names combined → kept_for names name ≡ Some number → IsGatheredAs first before combined name (Some number)
+  combination_there name number h kept = subst (λ (k : Option ℕ). IsGatheredAs first before combined name k) kept (h.gathered name)
 
   pub number_within : (name : Defined) (number : ℕ) → IsGathered first before names combined → kept_for names name ≡ Some number → number < length combined
   number_within name number h kept =
-      let there = join_there name number h kept in
+      let there = combination_there name number h kept in
       slice_get_within combined number there.0 there.2
 
   -- no other name has it
@@ -109,9 +109,9 @@ module _ {first : ℕ} {before : List Clause} {names : Names ℕ} {combined : Li
 
   pub one_added : (number : ℕ) (clause : Clause) (old new : Combined) → IsGathered first before names combined → kept_for names clause.name ≡ Some number → slice_get combined number ≡ Some old → new.bodies.items ≡ old.bodies.items ++ clause.body ∷ [] → ((combines : List Combine) → HasSigns combines old → HasSigns (combines ++ clause.combine ∷ []) new) → IsGathered first (before ++ clause ∷ []) names (set combined number new)
   one_added number clause old new h kept at bodies signs =
-      let there = join_there clause.name number h kept in
+      let there = combination_there clause.name number h kept in
       let is_old : there.0 ≡ old = same_Some there.0 old (sym there.2 ∙ at) in
-      let is_join : IsCombinedOf (clauses_of clause.name before) old = subst (λ (j : Combined). IsCombinedOf (clauses_of clause.name before) j) is_old there.3 in
+      let is_combination : IsCombinedOf (clauses_of clause.name before) old = subst (λ (j : Combined). IsCombinedOf (clauses_of clause.name before) j) is_old there.3 in
       let same_length : length (set combined number new) ≡ length combined = length-set combined number new in
       record {
         behind = omega (arith, h.behind, same_length);
@@ -120,7 +120,7 @@ module _ {first : ℕ} {before : List Clause} {names : Names ℕ} {combined : Li
             new,
             there.1,
             set_there combined number new (slice_get_within combined number old at),
-            join_more other before clause old new is (subst (λ (n : Defined). IsCombinedOf (clauses_of n before) old) (sym (same_name other clause.name is)) is_join) bodies (signs (combines_of (clauses_of other before)) (subst (λ (n : Defined). HasSigns (combines_of (clauses_of n before)) old) (sym (same_name other clause.name is)) is_join.signs)),
+            combination_more other before clause old new is (subst (λ (n : Defined). IsCombinedOf (clauses_of n before) old) (sym (same_name other clause.name is)) is_combination) bodies (signs (combines_of (clauses_of other before)) (subst (λ (n : Defined). HasSigns (combines_of (clauses_of n before)) old) (sym (same_name other clause.name is)) is_combination.signs)),
           )
           | inr is ↦ elsewhere clause.name other number clause new is h kept (kept_for names other) refl (clauses_same other before clause is) (h.gathered other)
         ];
@@ -152,7 +152,7 @@ module _ {first : ℕ} {before : List Clause} {names : Names ℕ} {combined : Li
             new,
             h.behind,
             last_there combined new,
-            first_join before other clause new is (nothing_yet other h (ap (kept_for names) (same_name other clause.name is) ∙ none)) bodies signs,
+            first_combination before other clause new is (nothing_yet other h (ap (kept_for names) (same_name other clause.name is) ∙ none)) bodies signs,
           )
           | inr is ↦ subst (λ (k : Option ℕ). IsGatheredAs first (before ++ clause ∷ []) (combined ++ new ∷ []) other k) (sym (new_number names after combined clause keeps other false is)) (still first before combined other clause new (kept_for names other) (clauses_same other before clause is) (h.gathered other))
         ];
@@ -183,7 +183,7 @@ module _ {first : ℕ} {before : List Clause} {names : Names ℕ} {combined : Li
 
   pub clashing : (number : ℕ) (clause : Clause) (old : Combined) → IsGathered first before names combined → kept_for names clause.name ≡ Some number → slice_get combined number ≡ Some old → ((combines : List Combine) → HasSigns combines old → clash (combines ++ clause.combine ∷ []) ≡ true) → clash (combines_of (clauses_of clause.name (before ++ clause ∷ []))) ≡ true
   clashing number clause old h kept at clashes =
-      let there = join_there clause.name number h kept in
+      let there = combination_there clause.name number h kept in
       let signs : HasSigns (combines_of (clauses_of clause.name before)) old = subst (λ (j : Combined). HasSigns (combines_of (clauses_of clause.name before)) j) (same_Some there.0 old (sym there.2 ∙ at)) there.3.signs in
       ap (λ (cs : List Clause). clash (combines_of cs)) (clauses_more clause.name before clause (same_self clause.name))
       ∙ ap clash (map-append (λ (c : Clause). c.combine) (clauses_of clause.name before) (clause ∷ []))
@@ -193,7 +193,7 @@ module _ {first : ℕ} {before : List Clause} {names : Names ℕ} {combined : Li
 
 pub gathers_added : {A : Type 0} {first : ℕ} {before : List Clause} {names : Names ℕ} {combined : List Combined} (number : ℕ) (clause : Clause) (old new : Combined) → IsGathered first before names combined → kept_for names clause.name ≡ Some number → slice_get combined number ≡ Some old → (result : Result A SchemaFault) → AddsTo clause.combine clause.body old new result → GathersOne first before clause combined names (set combined number new) result
 gathers_added {combined = combined} number clause old new h kept at (Ok done) added =
-    let behind = (join_there clause.name number h kept).1 in
+    let behind = (combination_there clause.name number h kept).1 in
     (one_added number clause old new h kept at added.0 added.1, λ n lt. set_elsewhere combined number n new (omega (arith, behind, lt)))
 gathers_added number clause old new h kept at (Err NoMemory) added = tt
 gathers_added number clause old new h kept at (Err (Unreadable cause.CombineClash)) added = clashing number clause old h kept at added

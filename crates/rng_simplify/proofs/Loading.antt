@@ -218,8 +218,8 @@ module _ (told : Option FileMap) (uri : List ℕ) where
     text_is : kept.text ≡ (reference_of next.mention).uri
     text_is = ap (λ (k : Kept). k.text) (sym next.kept_is)
 
-    joins_at : (other : List ℕ) → Joins link.uri kept.text other → Joins next.context.uri (reference_of next.mention).uri other
-    joins_at other joins =
+    uri_at : (other : List ℕ) → Joins link.uri kept.text other → Joins next.context.uri (reference_of next.mention).uri other
+    uri_at other joins =
         subst (λ b. Joins b (reference_of next.mention).uri other) next.uri_is (subst (λ t. Joins link.uri t other) text_is joins)
 
     no_loop_at : (other : List ℕ) → (Contains (link.uri ∷ uris_of outer) other → ⊥) → Contains next.context.chain other → ⊥
@@ -245,7 +245,7 @@ module _ (told : Option FileMap) (uri : List ℕ) where
           mention = next.mention;
           mentioned = m;
           other = other;
-          joined = joins_at other joins;
+          joined = uri_at other joins;
           leads_here = subst (λ us. Contains us other) (sym next.chain_is) among;
         }) next.mentioned
 
@@ -262,7 +262,7 @@ module _ (told : Option FileMap) (uri : List ℕ) where
     inner_reached other joins no_loop =
         told_with told (λ files. Mentions files uri next.context next.mention)
         (λ files. Reached files uri (referred next.context (reference_of next.mention) other))
-        (λ files m. a_further m.reached m.says m.mentioned (joins_at other joins) (no_loop_at other no_loop)) next.mentioned
+        (λ files m. a_further m.reached m.says m.mentioned (uri_at other joins) (no_loop_at other no_loop)) next.mentioned
 
     -- it is refused
     pub not_opened : (other : List ℕ) (before after : ℕ) (fault : SchemaFault) → Joins link.uri kept.text other →
@@ -302,7 +302,7 @@ module _ (told : Option FileMap) (uri : List ℕ) where
               told_with told (λ files. Says files other (surface_of surface)) (λ files. Opens files next.context (reference_of next.mention)
               inner (surface_of surface)) (λ files s. record {
                 uri = other;
-                joined = joins_at other joins;
+                joined = uri_at other joins;
                 inner_is = refl;
                 no_loop = no_loop_at other no_loop;
                 says = s;

@@ -56,10 +56,10 @@ named_denoted name j (next_denoted {clause = clause} {more = more} {p = p} {rest
     named_if (same_defined name clause.name) name clause more p rest j body (named_denoted name j others) among
 
 -- what is within a list is there
-slice_get_there : (combined : List Combined) (n : ℕ) → n < length combined → (join : Combined) × (slice_get combined n ≡ Some join)
+slice_get_there : (combined : List Combined) (n : ℕ) → n < length combined → (combination : Combined) × (slice_get combined n ≡ Some combination)
 slice_get_there [] n lt = absurd (omega arith)
-slice_get_there (join ∷ combined) zero lt = (join, refl)
-slice_get_there (join ∷ combined) (suc n) lt = slice_get_there combined n (omega arith)
+slice_get_there (combination ∷ combined) zero lt = (combination, refl)
+slice_get_there (combination ∷ combined) (suc n) lt = slice_get_there combined n (omega arith)
 
 -- what is linked leads to its combined definitions alone, all else to its parts
 pub linked_leads : (count link : ℕ) (c : Cell) → is_linked c ≡ true → cell_leads count link c ≡ (count + link) ∷ []
@@ -90,16 +90,16 @@ module _ (cells : List Cell) (root : ℕ) (found : Resolved) where
   pub data Lead : ℕ → ℕ → Type 0 where
     by_part : {x i : ℕ} {outers : List ℕ} {c : Cell} → Stands cells root outers x → IsCell cells x c → Contains (cell_parts c) i → Lead x i
     by_link : {x : ℕ} {outers : List ℕ} (c : Cell) → Stands cells root outers x → IsCell cells x c → is_linked c ≡ true → Lead x (length cells + link_at found x)
-    by_body : {i : ℕ} (number : ℕ) (join : Combined) → slice_get found.combined.items number ≡ Some join → Contains join.bodies.items i → Lead (length cells + number) i
+    by_body : {i : ℕ} (number : ℕ) (combination : Combined) → slice_get found.combined.items number ≡ Some combination → Contains combination.bodies.items i → Lead (length cells + number) i
 
   cell_lead : {outers : List ℕ} {x : ℕ} (c : Cell) (b : Bool) (i : ℕ) → is_linked c ≡ b → Stands cells root outers x → IsCell cells x c → Contains (cell_leads (length cells) (link_at found x) c) i → Lead x i
   cell_lead {x = x} c true i is stands at among = subst (λ k. Lead x k) (in_one (length cells + link_at found x) i (subst (λ (all : List ℕ). Contains all i) (linked_leads (length cells) (link_at found x) c is) among)) (by_link c stands at is)
   cell_lead {x = x} c false i is stands at among = by_part stands at (subst (λ (all : List ℕ). Contains all i) (unlinked_leads (length cells) (link_at found x) c is) among)
 
   -- what the place of combined definitions leads to
-  join_lead : (number i : ℕ) (join : Option Combined) → slice_get found.combined.items number ≡ join → Contains (combined_leads join) i → Lead (length cells + number) i
-  join_lead number i (Some join) at among = by_body number join at among
-  join_lead number i None at among = absurd (in_none among)
+  combination_lead : (number i : ℕ) (combination : Option Combined) → slice_get found.combined.items number ≡ combination → Contains (combined_leads combination) i → Lead (length cells + number) i
+  combination_lead number i (Some combination) at among = by_body number combination at among
+  combination_lead number i None at among = absurd (in_none among)
 
   pub lead_of : {x i : ℕ} → AreWellFormed cells root → IsMet cells root found x → Contains (leads cells found x) i → Lead x i
   lead_of {x = x} {i = i} formed (inl (outers, stands)) among =
@@ -110,47 +110,47 @@ module _ (cells : List Cell) (root : ℕ) (found : Resolved) where
       let past : slice_get cells x ≡ None = slice_get_past cells x (omega (arith, is)) in
       let there : x - length cells ≡ number = omega (arith, is) in
       let joined : Contains (combined_leads (slice_get found.combined.items (x - length cells))) i = subst (λ (found_cell : Option Cell). Contains (leads_if cells found x found_cell) i) past among in
-      subst (λ k. Lead k i) (sym is) (join_lead number i (slice_get found.combined.items number) refl (subst (λ n. Contains (combined_leads (slice_get found.combined.items n)) i) there joined))
+      subst (λ k. Lead k i) (sym is) (combination_lead number i (slice_get found.combined.items number) refl (subst (λ n. Contains (combined_leads (slice_get found.combined.items n)) i) there joined))
 
   -- ---- the combined definitions of a link are there
 
-  joined_within : (grammar : ℕ) (name : Defined) (number : ℕ) → IsCombined cells found.combined.items grammar name number → number < length found.combined.items
-  joined_within grammar name number h = slice_get_within found.combined.items number h.join h.there
+  combined_within : (grammar : ℕ) (name : Defined) (number : ℕ) → IsCombined cells found.combined.items grammar name number → number < length found.combined.items
+  combined_within grammar name number h = slice_get_within found.combined.items number h.combination h.there
 
-  joined_in_within : (outers : List ℕ) (name : Defined) (number : ℕ) → IsCombinedIn cells found.combined.items outers name number → number < length found.combined.items
-  joined_in_within [] name number h = absurd h
-  joined_in_within (grammar ∷ outers) name number h = joined_within grammar name number h
+  combined_in_within : (outers : List ℕ) (name : Defined) (number : ℕ) → IsCombinedIn cells found.combined.items outers name number → number < length found.combined.items
+  combined_in_within [] name number h = absurd h
+  combined_in_within (grammar ∷ outers) name number h = combined_within grammar name number h
 
-  joined_outside_within : (outers : List ℕ) (name : Defined) (number : ℕ) → IsCombinedOutside cells found.combined.items outers name number → number < length found.combined.items
-  joined_outside_within [] name number h = absurd h
-  joined_outside_within (inner ∷ outers) name number h = joined_in_within outers name number h
+  combined_outside_within : (outers : List ℕ) (name : Defined) (number : ℕ) → IsCombinedOutside cells found.combined.items outers name number → number < length found.combined.items
+  combined_outside_within [] name number h = absurd h
+  combined_outside_within (inner ∷ outers) name number h = combined_in_within outers name number h
 
   pub link_within : (outers : List ℕ) (x : ℕ) (c : Cell) → IsResolved cells root found → Stands cells root outers x → IsCell cells x c → is_linked c ≡ true → link_at found x < length found.combined.items
-  link_within outers x (cell.ref name) resolved stands at linked = joined_in_within outers (defined.Name name) (link_at found x) (resolved.ref_combined outers x name stands at)
-  link_within outers x (cell.parent_ref name) resolved stands at linked = joined_outside_within outers (defined.Name name) (link_at found x) (resolved.parent_ref_combined outers x name stands at)
-  link_within outers x (cell.grammar clauses) resolved stands at linked = joined_within x defined.Start (link_at found x) (resolved.start_combined x clauses (outers, stands) at)
+  link_within outers x (cell.ref name) resolved stands at linked = combined_in_within outers (defined.Name name) (link_at found x) (resolved.ref_combined outers x name stands at)
+  link_within outers x (cell.parent_ref name) resolved stands at linked = combined_outside_within outers (defined.Name name) (link_at found x) (resolved.parent_ref_combined outers x name stands at)
+  link_within outers x (cell.grammar clauses) resolved stands at linked = combined_within x defined.Start (link_at found x) (resolved.start_combined x clauses (outers, stands) at)
   link_within outers x c resolved stands at linked = absurd (false≢true linked)
 
   -- the bodies of combined definitions stand in their grammar
-  pub body_stands : (number i : ℕ) (join : Combined) → IsResolved cells root found → slice_get found.combined.items number ≡ Some join → Contains join.bodies.items i → IsStanding cells root i
-  body_stands number i join resolved at among =
-      let h = resolved.each_combined number (slice_get_within found.combined.items number join at) in
-      let same : join ≡ h.joined.join = same_Some join h.joined.join (sym at ∙ h.joined.there) in
-      let named : Contains (bodies_of (clauses_of h.name h.joined.clauses)) i = subst (λ (bs : List ℕ). Contains bs i) (ap (λ (j : Combined). j.bodies.items) same ∙ h.joined.bodies_are) among in
-      (h.grammar ∷ h.stands.0, a_definition h.stands.1 h.joined.is_grammar (named_among h.name h.joined.clauses i named))
+  pub body_stands : (number i : ℕ) (combination : Combined) → IsResolved cells root found → slice_get found.combined.items number ≡ Some combination → Contains combination.bodies.items i → IsStanding cells root i
+  body_stands number i combination resolved at among =
+      let h = resolved.each_combined number (slice_get_within found.combined.items number combination at) in
+      let same : combination ≡ h.is_combined.combination = same_Some combination h.is_combined.combination (sym at ∙ h.is_combined.there) in
+      let named : Contains (bodies_of (clauses_of h.name h.is_combined.clauses)) i = subst (λ (bs : List ℕ). Contains bs i) (ap (λ (j : Combined). j.bodies.items) same ∙ h.is_combined.bodies_are) among in
+      (h.grammar ∷ h.stands.0, a_definition h.stands.1 h.is_combined.is_grammar (named_among h.name h.is_combined.clauses i named))
 
   -- what is led to stands in the schema, or is the place of combined definitions
   pub lead_met : {x i : ℕ} → IsResolved cells root found → Lead x i → IsMet cells root found i
   lead_met resolved (by_part {outers = outers} stands at among) = inl (outers, a_part stands at among)
   lead_met resolved (by_link {x = x} {outers = outers} c stands at linked) = inr (link_at found x, link_within outers x c resolved stands at linked, refl)
-  lead_met resolved (by_body {i = i} number join at among) = inl (body_stands number i join resolved at among)
+  lead_met resolved (by_body {i = i} number combination at among) = inl (body_stands number i combination resolved at among)
 
   -- ---- by places
 
   module _ (formed : AreWellFormed cells root) (resolved : IsResolved cells root found) (number : ℕ → ℕ) where
     -- a place leads to all bodies of combined definitions
-    pub record LeadsToAll (here : Place) (join : Combined) : Type 0 where
-      pub each : (i : ℕ) (there : Place) → Contains join.bodies.items i → IsAt cells root number i there → LeadsTo here there
+    pub record LeadsToAll (here : Place) (combination : Combined) : Type 0 where
+      pub each : (i : ℕ) (there : Place) → Contains combination.bodies.items i → IsAt cells root number i there → LeadsTo here there
 
     -- the places of the bodies of combined definitions
     pub record IsDefinitionAt (all : Clauses) (rest : List Clauses) (name : Defined) (there : Place) : Type 0 where
@@ -158,7 +158,7 @@ module _ (cells : List Cell) (root : ℕ) (found : Resolved) where
       pub within : Contains (bodies (defining name all)) pattern
       pub place_is : there ≡ place (all ∷ rest) pattern
 
-    body_at : (grammar : ℕ) (outers : List ℕ) (clauses : List Clause) (all : Clauses) (rest : List Clauses) (name : Defined) (n : ℕ) → Stands cells root outers grammar → IsCell cells grammar (cell.grammar clauses) → DenoteAll cells number clauses all → AreScopes cells number outers rest → (h : IsCombined cells found.combined.items grammar name n) → (i : ℕ) (there : Place) → Contains h.join.bodies.items i → IsAt cells root number i there → IsDefinitionAt all rest name there
+    body_at : (grammar : ℕ) (outers : List ℕ) (clauses : List Clause) (all : Clauses) (rest : List Clauses) (name : Defined) (n : ℕ) → Stands cells root outers grammar → IsCell cells grammar (cell.grammar clauses) → DenoteAll cells number clauses all → AreScopes cells number outers rest → (h : IsCombined cells found.combined.items grammar name n) → (i : ℕ) (there : Place) → Contains h.combination.bodies.items i → IsAt cells root number i there → IsDefinitionAt all rest name there
     body_at grammar outers clauses all rest name n stands at denoted scopes h i there among is_at =
         let same : h.clauses ≡ clauses = one_grammar cells grammar h.clauses clauses h.is_grammar at in
         let named : Contains (bodies_of (clauses_of name clauses)) i = subst (λ (bs : List ℕ). Contains bs i) (h.bodies_are ∙ ap (λ (cs : List Clause). bodies_of (clauses_of name cs)) same) among in
@@ -167,12 +167,12 @@ module _ (cells : List Cell) (root : ℕ) (found : Resolved) where
         record { pattern = part.pattern; within = part.within; place_is = at_once formed is_at here }
 
     -- what a reference leads to
-    ref_leads : (x : ℕ) (name : List ℕ) (outers : List ℕ) (scopes : List Clauses) → Stands cells root outers x → AreScopes cells number outers scopes → IsCombinedIn cells found.combined.items outers (defined.Name name) (link_at found x) → (join : Combined) → slice_get found.combined.items (link_at found x) ≡ Some join → LeadsToAll (place scopes (composed.ref name)) join
-    ref_leads x name [] scopes stands are h join at = absurd h
-    ref_leads x name (grammar ∷ outers) scopes stands are h join at =
+    ref_leads : (x : ℕ) (name : List ℕ) (outers : List ℕ) (scopes : List Clauses) → Stands cells root outers x → AreScopes cells number outers scopes → IsCombinedIn cells found.combined.items outers (defined.Name name) (link_at found x) → (combination : Combined) → slice_get found.combined.items (link_at found x) ≡ Some combination → LeadsToAll (place scopes (composed.ref name)) combination
+    ref_leads x name [] scopes stands are h combination at = absurd h
+    ref_leads x name (grammar ∷ outers) scopes stands are h combination at =
         let by = scopes_by are in
         let around = innermost_stands stands in
-        let same : h.join ≡ join = same_Some h.join join (sym h.there ∙ at) in
+        let same : h.combination ≡ combination = same_Some h.combination combination (sym h.there ∙ at) in
         record {
           each = λ i there among is_at.
               let body = body_at grammar outers by.0 by.1 by.2 (defined.Name name) (link_at found x) around.stands by.3 by.4 by.5 h i there (subst (λ (j : Combined). Contains j.bodies.items i) (sym same) among) is_at in
@@ -180,14 +180,14 @@ module _ (cells : List Cell) (root : ℕ) (found : Resolved) where
               (subst (λ (to : Place). LeadsTo (place (by.1 ∷ by.2) (composed.ref name)) to) (sym body.place_is) (to_definition body.within));
         }
 
-    parent_ref_leads : (x : ℕ) (name : List ℕ) (outers : List ℕ) (scopes : List Clauses) → Stands cells root outers x → AreScopes cells number outers scopes → IsCombinedOutside cells found.combined.items outers (defined.Name name) (link_at found x) → (join : Combined) → slice_get found.combined.items (link_at found x) ≡ Some join → LeadsToAll (place scopes (composed.parent_ref name)) join
-    parent_ref_leads x name [] scopes stands are h join at = absurd h
-    parent_ref_leads x name (inner ∷ []) scopes stands are h join at = absurd h
-    parent_ref_leads x name (inner ∷ grammar ∷ outers) scopes stands are h join at =
+    parent_ref_leads : (x : ℕ) (name : List ℕ) (outers : List ℕ) (scopes : List Clauses) → Stands cells root outers x → AreScopes cells number outers scopes → IsCombinedOutside cells found.combined.items outers (defined.Name name) (link_at found x) → (combination : Combined) → slice_get found.combined.items (link_at found x) ≡ Some combination → LeadsToAll (place scopes (composed.parent_ref name)) combination
+    parent_ref_leads x name [] scopes stands are h combination at = absurd h
+    parent_ref_leads x name (inner ∷ []) scopes stands are h combination at = absurd h
+    parent_ref_leads x name (inner ∷ grammar ∷ outers) scopes stands are h combination at =
         let by = scopes_by are in
         let further = scopes_by by.5 in
         let around = innermost_stands (innermost_stands stands).stands in
-        let same : h.join ≡ join = same_Some h.join join (sym h.there ∙ at) in
+        let same : h.combination ≡ combination = same_Some h.combination combination (sym h.there ∙ at) in
         let scopes_are : scopes ≡ by.1 ∷ further.1 ∷ further.2 = by.6 ∙ ap (λ ss. by.1 ∷ ss) further.6 in
         record {
           each = λ i there among is_at.
@@ -196,27 +196,27 @@ module _ (cells : List Cell) (root : ℕ) (found : Resolved) where
               (subst (λ (to : Place). LeadsTo (place (by.1 ∷ further.1 ∷ further.2) (composed.parent_ref name)) to) (sym body.place_is) (to_outer_definition body.within));
         }
 
-    grammar_leads : (x : ℕ) (clauses : List Clause) (all : Clauses) (outers : List ℕ) (scopes : List Clauses) → Stands cells root outers x → IsCell cells x (cell.grammar clauses) → DenoteAll cells number clauses all → AreScopes cells number outers scopes → IsCombined cells found.combined.items x defined.Start (link_at found x) → (join : Combined) → slice_get found.combined.items (link_at found x) ≡ Some join → LeadsToAll (place scopes (composed.grammar all)) join
-    grammar_leads x clauses all outers scopes stands at_x denoted are h join at =
-        let same : h.join ≡ join = same_Some h.join join (sym h.there ∙ at) in
+    grammar_leads : (x : ℕ) (clauses : List Clause) (all : Clauses) (outers : List ℕ) (scopes : List Clauses) → Stands cells root outers x → IsCell cells x (cell.grammar clauses) → DenoteAll cells number clauses all → AreScopes cells number outers scopes → IsCombined cells found.combined.items x defined.Start (link_at found x) → (combination : Combined) → slice_get found.combined.items (link_at found x) ≡ Some combination → LeadsToAll (place scopes (composed.grammar all)) combination
+    grammar_leads x clauses all outers scopes stands at_x denoted are h combination at =
+        let same : h.combination ≡ combination = same_Some h.combination combination (sym h.there ∙ at) in
         record {
           each = λ i there among is_at.
               let body = body_at x outers clauses all scopes defined.Start (link_at found x) stands at_x denoted are h i there (subst (λ (j : Combined). Contains j.bodies.items i) (sym same) among) is_at in
               subst (λ (to : Place). LeadsTo (place scopes (composed.grammar all)) to) (sym body.place_is) (to_start body.within);
         }
 
-    link_leads : (x : ℕ) (here : Place) (c : Cell) → IsAt cells root number x here → IsCell cells x c → is_linked c ≡ true → (join : Combined) → slice_get found.combined.items (link_at found x) ≡ Some join → LeadsToAll here join
-    link_leads x here (cell.ref name) is_at at linked join there =
-        subst (λ (p : Composed). LeadsToAll (place here.scopes p) join) (sym (denoted_by (cell.ref name) at is_at.denotes))
-        (ref_leads x name is_at.outers here.scopes is_at.stands is_at.are_scopes (resolved.ref_combined is_at.outers x name is_at.stands at) join there)
-    link_leads x here (cell.parent_ref name) is_at at linked join there =
-        subst (λ (p : Composed). LeadsToAll (place here.scopes p) join) (sym (denoted_by (cell.parent_ref name) at is_at.denotes))
-        (parent_ref_leads x name is_at.outers here.scopes is_at.stands is_at.are_scopes (resolved.parent_ref_combined is_at.outers x name is_at.stands at) join there)
-    link_leads x here (cell.grammar clauses) is_at at linked join there =
+    link_leads : (x : ℕ) (here : Place) (c : Cell) → IsAt cells root number x here → IsCell cells x c → is_linked c ≡ true → (combination : Combined) → slice_get found.combined.items (link_at found x) ≡ Some combination → LeadsToAll here combination
+    link_leads x here (cell.ref name) is_at at linked combination there =
+        subst (λ (p : Composed). LeadsToAll (place here.scopes p) combination) (sym (denoted_by (cell.ref name) at is_at.denotes))
+        (ref_leads x name is_at.outers here.scopes is_at.stands is_at.are_scopes (resolved.ref_combined is_at.outers x name is_at.stands at) combination there)
+    link_leads x here (cell.parent_ref name) is_at at linked combination there =
+        subst (λ (p : Composed). LeadsToAll (place here.scopes p) combination) (sym (denoted_by (cell.parent_ref name) at is_at.denotes))
+        (parent_ref_leads x name is_at.outers here.scopes is_at.stands is_at.are_scopes (resolved.parent_ref_combined is_at.outers x name is_at.stands at) combination there)
+    link_leads x here (cell.grammar clauses) is_at at linked combination there =
         let grammar = denoted_by (cell.grammar clauses) at is_at.denotes in
-        subst (λ (p : Composed). LeadsToAll (place here.scopes p) join) (sym grammar.2)
-        (grammar_leads x clauses grammar.0 is_at.outers here.scopes is_at.stands at grammar.1 is_at.are_scopes (resolved.start_combined x clauses (is_at.outers, is_at.stands) at) join there)
-    link_leads x here c is_at at linked join there = absurd (false≢true linked)
+        subst (λ (p : Composed). LeadsToAll (place here.scopes p) combination) (sym grammar.2)
+        (grammar_leads x clauses grammar.0 is_at.outers here.scopes is_at.stands at grammar.1 is_at.are_scopes (resolved.start_combined x clauses (is_at.outers, is_at.stands) at) combination there)
+    link_leads x here c is_at at linked combination there = absurd (false≢true linked)
 
     -- ---- from place to place
 
@@ -226,17 +226,17 @@ module _ (cells : List Cell) (root : ℕ) (found : Resolved) where
       pub is_at : IsAt cells root number k there
       pub led : LeadsTo here there
 
-    pub record LeadsToJoin (here : Place) (k : ℕ) : Type 0 where
-      pub number_of_join : ℕ
-      pub join : Combined
-      pub is : k ≡ length cells + number_of_join
-      pub at : slice_get found.combined.items number_of_join ≡ Some join
-      pub led : LeadsToAll here join
+    pub record LeadsToCombination (here : Place) (k : ℕ) : Type 0 where
+      pub number_of_combination : ℕ
+      pub combination : Combined
+      pub is : k ≡ length cells + number_of_combination
+      pub at : slice_get found.combined.items number_of_combination ≡ Some combination
+      pub led : LeadsToAll here combination
 
     node_below : {x : ℕ} {here : Place} → IsAt cells root number x here → x < length cells
     node_below is_at = stands_within formed is_at.stands
 
-    lead_from : {x k : ℕ} (here : Place) → IsAt cells root number x here → Lead x k → LeadsHere here k ⊎ LeadsToJoin here k
+    lead_from : {x k : ℕ} (here : Place) → IsAt cells root number x here → Lead x k → LeadsHere here k ⊎ LeadsToCombination here k
     lead_from here is_at (by_part stands at among) =
         let part = part_denoted at among is_at.denotes in
         inl (record {
@@ -247,15 +247,15 @@ module _ (cells : List Cell) (root : ℕ) (found : Resolved) where
     lead_from here is_at (by_link {x = x} {outers = outers} c stands at linked) =
         let within = link_within outers x c resolved stands at linked in
         let there = slice_get_there found.combined.items (link_at found x) within in
-        inr (record { number_of_join = link_at found x; join = there.0; is = refl; at = there.1; led = link_leads x here c is_at at linked there.0 there.1 })
-    lead_from here is_at (by_body n join at among) = absurd (omega (arith, node_below is_at))
+        inr (record { number_of_combination = link_at found x; combination = there.0; is = refl; at = there.1; led = link_leads x here c is_at at linked there.0 there.1 })
+    lead_from here is_at (by_body n combination at among) = absurd (omega (arith, node_below is_at))
 
-    lead_from_join : {x k : ℕ} (here : Place) (n : ℕ) (join : Combined) → x ≡ length cells + n → slice_get found.combined.items n ≡ Some join → LeadsToAll here join → (whole : Composed) → Denotes cells number root whole → Lead x k → LeadsHere here k
-    lead_from_join here n join is at led whole denotes (by_part stands at_x among) = absurd (omega (arith, is, stands_within formed stands))
-    lead_from_join here n join is at led whole denotes (by_link c stands at_x linked) = absurd (omega (arith, is, stands_within formed stands))
-    lead_from_join here n join is at led whole denotes (by_body {i = i} m other there among) =
+    lead_from_combination : {x k : ℕ} (here : Place) (n : ℕ) (combination : Combined) → x ≡ length cells + n → slice_get found.combined.items n ≡ Some combination → LeadsToAll here combination → (whole : Composed) → Denotes cells number root whole → Lead x k → LeadsHere here k
+    lead_from_combination here n combination is at led whole denotes (by_part stands at_x among) = absurd (omega (arith, is, stands_within formed stands))
+    lead_from_combination here n combination is at led whole denotes (by_link c stands at_x linked) = absurd (omega (arith, is, stands_within formed stands))
+    lead_from_combination here n combination is at led whole denotes (by_body {i = i} m other there among) =
         let same_number : n ≡ m = omega (arith, is) in
-        let same : other ≡ join = same_Some other join (sym there ∙ ap (slice_get found.combined.items) (sym same_number) ∙ at) in
+        let same : other ≡ combination = same_Some other combination (sym there ∙ ap (slice_get found.combined.items) (sym same_number) ∙ at) in
         let stands = body_stands m i other resolved there among in
         let h = place_of denotes stands.1 in
         let is_at : IsAt cells root number i (place h.scopes h.pattern) = record { outers = stands.0; stands = stands.1; are_scopes = h.are_scopes; denotes = h.denotes } in
@@ -289,13 +289,13 @@ module _ (cells : List Cell) (root : ℕ) (found : Resolved) (formed : AreWellFo
     from_place here is_at (further_lead lead more) =
         elim (lead_from cells root found formed resolved number here is_at lead) [
           | inl h ↦ λ there at_there. in_more_steps h.led (from_place h.there h.is_at more there at_there)
-          | inr h ↦ from_join here h.number_of_join h.join h.is h.at h.led more
+          | inr h ↦ from_combination here h.number_of_combination h.combination h.is h.at h.led more
         ]
 
-    from_join : {x y : ℕ} (here : Place) (n : ℕ) (join : Combined) → x ≡ length cells + n → slice_get found.combined.items n ≡ Some join → LeadsToAll cells root found formed resolved number here join → Chain cells root found x y → ReachesAll here y
-    from_join here n join is at led (last_lead lead) = arrives (lead_from_join cells root found formed resolved number here n join is at led whole denotes lead)
-    from_join here n join is at led (further_lead lead more) =
-        let h = lead_from_join cells root found formed resolved number here n join is at led whole denotes lead in
+    from_combination : {x y : ℕ} (here : Place) (n : ℕ) (combination : Combined) → x ≡ length cells + n → slice_get found.combined.items n ≡ Some combination → LeadsToAll cells root found formed resolved number here combination → Chain cells root found x y → ReachesAll here y
+    from_combination here n combination is at led (last_lead lead) = arrives (lead_from_combination cells root found formed resolved number here n combination is at led whole denotes lead)
+    from_combination here n combination is at led (further_lead lead more) =
+        let h = lead_from_combination cells root found formed resolved number here n combination is at led whole denotes lead in
         λ there at_there. in_more_steps h.led (from_place h.there h.is_at more there at_there)
 
   -- a node that leads back to itself
@@ -306,21 +306,21 @@ module _ (cells : List Cell) (root : ℕ) (found : Resolved) (formed : AreWellFo
       record { scopes = h.scopes; pattern = h.pattern; occurs = h.occurs; is = from_place (place h.scopes h.pattern) is_at chain (place h.scopes h.pattern) is_at }
 
   -- what combined definitions lead to stands in the schema
-  join_lead_stands : {x k : ℕ} (n : ℕ) → x ≡ length cells + n → Lead cells root found x k → IsStanding cells root k
-  join_lead_stands n is (by_part stands at_x among) = absurd (omega (arith, is, stands_within formed stands))
-  join_lead_stands n is (by_link c stands at_x linked) = absurd (omega (arith, is, stands_within formed stands))
-  join_lead_stands n is (by_body {i = i} m join there among) = body_stands cells root found m i join resolved there among
+  combination_lead_stands : {x k : ℕ} (n : ℕ) → x ≡ length cells + n → Lead cells root found x k → IsStanding cells root k
+  combination_lead_stands n is (by_part stands at_x among) = absurd (omega (arith, is, stands_within formed stands))
+  combination_lead_stands n is (by_link c stands at_x linked) = absurd (omega (arith, is, stands_within formed stands))
+  combination_lead_stands n is (by_body {i = i} m combination there among) = body_stands cells root found m i combination resolved there among
 
   -- from combined definitions by way of the first node back to that node
-  join_leads_back : {x y : ℕ} (n : ℕ) → x ≡ length cells + n → x ≡ y → Chain cells root found x y → Has whole LeadsBack
-  join_leads_back n is back (last_lead lead) =
-      let stands = join_lead_stands n is lead in
+  combination_leads_back : {x y : ℕ} (n : ℕ) → x ≡ length cells + n → x ≡ y → Chain cells root found x y → Has whole LeadsBack
+  combination_leads_back n is back (last_lead lead) =
+      let stands = combination_lead_stands n is lead in
       absurd (omega (arith, is, back, stands_within formed stands.1))
-  join_leads_back n is back (further_lead {x = x} {k = k} {y = y} lead more) =
-      let stands = join_lead_stands n is lead in
+  combination_leads_back n is back (further_lead {x = x} {k = k} {y = y} lead more) =
+      let stands = combination_lead_stands n is lead in
       node_leads_back stands.1 (chain_on more (subst (λ z. Lead cells root found z k) back lead))
 
 -- what leads back to itself is refused
 pub loop_refused : {cells : List Cell} {root : ℕ} {found : Resolved} {x : ℕ} → AreWellFormed cells root → IsResolved cells root found → IsMet cells root found x → Chain cells root found x x → IsRefusal cells root (Unreadable cause.RefLoop)
 loop_refused {cells = cells} {root = root} {found = found} formed resolved (inl (outers, stands)) chain number whole denotes = node_leads_back cells root found formed resolved number whole denotes stands chain
-loop_refused {cells = cells} {root = root} {found = found} formed resolved (inr (n, lt, is)) chain number whole denotes = join_leads_back cells root found formed resolved number whole denotes n is refl chain
+loop_refused {cells = cells} {root = root} {found = found} formed resolved (inr (n, lt, is)) chain number whole denotes = combination_leads_back cells root found formed resolved number whole denotes n is refl chain

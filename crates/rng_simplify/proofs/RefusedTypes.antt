@@ -35,7 +35,7 @@ module _ (cells : List Cell) (root : ℕ) (found : Resolved) (resolved : IsResol
   pub stands_there : (end i : ℕ) (c : Cell) → slice_get order end ≡ Some i → IsCell cells i c → IsStanding cells root i
   stands_there end i c there at = elim (ordered.nothing_else i (in_place order end i there)) [
     | inl stands ↦ stands
-    | inr join ↦ let inside = slice_get_within cells i c at in let is = join.2 in absurd (omega arith)
+    | inr combination ↦ let inside = slice_get_within cells i c at in let is = combination.2 in absurd (omega arith)
   ]
 
   so_occurs : (scopes : List Clauses) (p q : Composed) → p ≡ q → Occurs whole (place scopes p) → Occurs whole (place scopes q)

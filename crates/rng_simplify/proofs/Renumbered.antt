@@ -354,16 +354,16 @@ module _ (decided : JoinsIsDecided) (files : FileMap) (uri : List ℕ) (start : 
   never_broken why h = piece_never why h
 
 -- nor are they refused for another cause than want of memory or of the files
-pub no_refusal : JoinsIsDecided → (files : FileMap) (uri : List ℕ) (before after : ℕ) (grammar : Grammar) (refusal : SchemaFault) →
-    Answers (Some files) uri before after (Ok grammar) → Answers (Some files) uri before after (Err refusal) →
+pub no_refusal : JoinsIsDecided → (files : FileMap) (uri : List ℕ) (before after before_again after_again : ℕ) (grammar : Grammar) (refusal : SchemaFault) →
+    Answers (Some files) uri before after (Ok grammar) → Answers (Some files) uri before_again after_again (Err refusal) →
     (refusal ≡ fault.NoMemory) ⊎ (refusal ≡ fault.Failed)
-no_refusal decided files uri before after grammar fault.NoMemory h r = inl refl
-no_refusal decided files uri before after grammar fault.Failed h r = inr refl
-no_refusal decided files uri before after grammar (fault.Absent absent) h r =
+no_refusal decided files uri before after before_again after_again grammar fault.NoMemory h r = inl refl
+no_refusal decided files uri before after before_again after_again grammar fault.Failed h r = inr refl
+no_refusal decided files uri before after before_again after_again grammar (fault.Absent absent) h r =
     absurd ((are_passed decided files uri h.0.whole h.0.composed).none_absent absent r.1)
-no_refusal decided files uri before after grammar (fault.NotUtf8 wrong at) h r =
+no_refusal decided files uri before after before_again after_again grammar (fault.NotUtf8 wrong at) h r =
     absurd ((are_passed decided files uri h.0.whole h.0.composed).all_texts wrong at r.1)
-no_refusal decided files uri before after grammar (fault.BadUri text) h r =
+no_refusal decided files uri before after before_again after_again grammar (fault.BadUri text) h r =
     absurd ((are_passed decided files uri h.0.whole h.0.composed).no_bad_uri text r.1)
-no_refusal decided files uri before after grammar (fault.Unreadable why) h r =
+no_refusal decided files uri before after before_again after_again grammar (fault.Unreadable why) h r =
     absurd (never_broken decided files uri (pattern_of grammar.start) (definitions_of grammar) h.0 why r.1)

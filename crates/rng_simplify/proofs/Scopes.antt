@@ -77,46 +77,46 @@ given_some (i ∷ more) scope scopes j some among lt =
 
 -- ---- what stays known
 
-pub record KeepsJoins (old new : List Combined) : Type 0 where
-  pub stays : (number : ℕ) (join : Combined) → slice_get old number ≡ Some join → slice_get new number ≡ Some join
+pub record KeepsCombinations (old new : List Combined) : Type 0 where
+  pub stays : (number : ℕ) (combination : Combined) → slice_get old number ≡ Some combination → slice_get new number ≡ Some combination
 
 pub record KeepsTables (old new : List Table) : Type 0 where
   pub stays : (k : ℕ) (table : Table) → slice_get old k ≡ Some table → slice_get new k ≡ Some table
 
-pub joined_on : {cells : List Cell} {old new : List Combined} {grammar : ℕ} {name : Defined} {number : ℕ} → KeepsJoins old new → IsCombined cells old grammar name number → IsCombined cells new grammar name number
-joined_on keeps h = record { clauses = h.clauses; is_grammar = h.is_grammar; is_defined = h.is_defined; join = h.join; there = keeps.stays _ _ h.there; bodies_are = h.bodies_are; combine_is = h.combine_is }
+pub combined_on : {cells : List Cell} {old new : List Combined} {grammar : ℕ} {name : Defined} {number : ℕ} → KeepsCombinations old new → IsCombined cells old grammar name number → IsCombined cells new grammar name number
+combined_on keeps h = record { clauses = h.clauses; is_grammar = h.is_grammar; is_defined = h.is_defined; combination = h.combination; there = keeps.stays _ _ h.there; bodies_are = h.bodies_are; combine_is = h.combine_is }
 
-joined_in_on : {old new : List Combined} (cells : List Cell) (name : Defined) (number : ℕ) (outers : List ℕ) → KeepsJoins old new → IsCombinedIn cells old outers name number → IsCombinedIn cells new outers name number
-joined_in_on cells name number [] keeps h = h
-joined_in_on cells name number (grammar ∷ outers) keeps h = joined_on keeps h
+combined_in_on : {old new : List Combined} (cells : List Cell) (name : Defined) (number : ℕ) (outers : List ℕ) → KeepsCombinations old new → IsCombinedIn cells old outers name number → IsCombinedIn cells new outers name number
+combined_in_on cells name number [] keeps h = h
+combined_in_on cells name number (grammar ∷ outers) keeps h = combined_on keeps h
 
-joined_outside_on : {old new : List Combined} (cells : List Cell) (name : Defined) (number : ℕ) (outers : List ℕ) → KeepsJoins old new → IsCombinedOutside cells old outers name number → IsCombinedOutside cells new outers name number
-joined_outside_on cells name number [] keeps h = h
-joined_outside_on cells name number (inner ∷ outers) keeps h = joined_in_on cells name number outers keeps h
+combined_outside_on : {old new : List Combined} (cells : List Cell) (name : Defined) (number : ℕ) (outers : List ℕ) → KeepsCombinations old new → IsCombinedOutside cells old outers name number → IsCombinedOutside cells new outers name number
+combined_outside_on cells name number [] keeps h = h
+combined_outside_on cells name number (inner ∷ outers) keeps h = combined_in_on cells name number outers keeps h
 
-kept_on : {old new : List Combined} (cells : List Cell) (grammar : ℕ) (clauses : List Clause) (name : Defined) (kept : Option ℕ) → KeepsJoins old new → IsKept cells old grammar clauses name kept → IsKept cells new grammar clauses name kept
+kept_on : {old new : List Combined} (cells : List Cell) (grammar : ℕ) (clauses : List Clause) (name : Defined) (kept : Option ℕ) → KeepsCombinations old new → IsKept cells old grammar clauses name kept → IsKept cells new grammar clauses name kept
 kept_on cells grammar clauses name None keeps h = h
-kept_on cells grammar clauses name (Some number) keeps h = joined_on keeps h
+kept_on cells grammar clauses name (Some number) keeps h = combined_on keeps h
 
-table_on : {cells : List Cell} {old new : List Combined} {grammar : ℕ} {names : Names ℕ} → KeepsJoins old new → IsTable cells old grammar names → IsTable cells new grammar names
+table_on : {cells : List Cell} {old new : List Combined} {grammar : ℕ} {names : Names ℕ} → KeepsCombinations old new → IsTable cells old grammar names → IsTable cells new grammar names
 table_on {cells = cells} {grammar = grammar} {names = names} keeps h = record { clauses = h.clauses; is_grammar = h.is_grammar; kept = λ name. kept_on cells grammar h.clauses name (kept_for names name) keeps (h.kept name) }
 
-pub scope_on : {cells : List Cell} {old new : List Combined} {before after : List Table} {scope : Scope} {outers : List ℕ} → KeepsJoins old new → KeepsTables before after → IsScope cells old before scope outers → IsScope cells new after scope outers
+pub scope_on : {cells : List Cell} {old new : List Combined} {before after : List Table} {scope : Scope} {outers : List ℕ} → KeepsCombinations old new → KeepsTables before after → IsScope cells old before scope outers → IsScope cells new after scope outers
 scope_on combined tables outside = outside
 scope_on combined tables (inside at table more) = inside (tables.stays _ _ at) (table_on combined table) (scope_on combined tables more)
 
-taken_on : {old new : List Combined} (cells : List Cell) (outers : List ℕ) (i link : ℕ) (c : Cell) → KeepsJoins old new → IsTaken cells old outers i link c → IsTaken cells new outers i link c
+taken_on : {old new : List Combined} (cells : List Cell) (outers : List ℕ) (i link : ℕ) (c : Cell) → KeepsCombinations old new → IsTaken cells old outers i link c → IsTaken cells new outers i link c
 taken_on cells outers i link (cell.element class part) keeps h = tt
 taken_on cells outers i link (cell.attribute class part) keeps h = tt
 taken_on cells outers i link (cell.listed part) keeps h = tt
-taken_on cells outers i link (cell.ref name) keeps h = joined_in_on cells (defined.Name name) link outers keeps h
-taken_on cells outers i link (cell.parent_ref name) keeps h = joined_outside_on cells (defined.Name name) link outers keeps h
+taken_on cells outers i link (cell.ref name) keeps h = combined_in_on cells (defined.Name name) link outers keeps h
+taken_on cells outers i link (cell.parent_ref name) keeps h = combined_outside_on cells (defined.Name name) link outers keeps h
 taken_on cells outers i link cell.empty keeps h = tt
 taken_on cells outers i link cell.any_text keeps h = tt
 taken_on cells outers i link cell.not_allowed keeps h = tt
 taken_on cells outers i link (cell.value type text) keeps h = tt
 taken_on cells outers i link (cell.typed type params part) keeps h = tt
-taken_on cells outers i link (cell.grammar clauses) keeps h = (joined_on keeps h.0, h.1)
+taken_on cells outers i link (cell.grammar clauses) keeps h = (combined_on keeps h.0, h.1)
 taken_on cells outers i link (cell.one_or_more part) keeps h = tt
 taken_on cells outers i link (cell.joined sign first second) keeps h = tt
 
@@ -159,7 +159,7 @@ pub record IsNext (cells : List Cell) (root i : ℕ) (c : Cell) (outers : List �
   pub is_scope : IsScope cells new.combined new.tables scope (within c i outers)
   pub all_links : length new.links ≡ length old.links
   pub other_links : (k : ℕ) → k ≢ i → get_or new.links k 0 ≡ get_or old.links k 0
-  pub combined : KeepsJoins old.combined new.combined
+  pub combined : KeepsCombinations old.combined new.combined
   pub tables : KeepsTables old.tables new.tables
   pub taken : IsTaken cells new.combined outers i (get_or new.links i 0) c
   pub each_combined : (number : ℕ) → number < length new.combined → IsOfGrammar cells root new.combined number
@@ -323,26 +323,26 @@ finds_outside {cells = cells} {combined = combined} {tables = tables} name (insi
 
 -- ---- one more node, by its cell
 
-keeps_all_joins : (combined : List Combined) → KeepsJoins combined combined
-keeps_all_joins combined = record { stays = λ number join h. h }
+keeps_all_combinations : (combined : List Combined) → KeepsCombinations combined combined
+keeps_all_combinations combined = record { stays = λ number combination h. h }
 
 keeps_all_tables : (tables : List Table) → KeepsTables tables tables
 keeps_all_tables tables = record { stays = λ k table h. h }
 
-keeps_first : (old new : List Combined) → KeepsFirst (length old) old new → KeepsJoins old new
-keeps_first old new kept = record { stays = λ number join h. kept number (slice_get_within old number join h) ∙ h }
+keeps_first : (old new : List Combined) → KeepsFirst (length old) old new → KeepsCombinations old new
+keeps_first old new kept = record { stays = λ number combination h. kept number (slice_get_within old number combination h) ∙ h }
 
 gathered_kept : (cells : List Cell) (i : ℕ) (combined : List Combined) (clauses : List Clause) (first : ℕ) (name : Defined) (kept : Option ℕ) → IsCell cells i (cell.grammar clauses) → IsGatheredAs first clauses combined name kept → IsKept cells combined i clauses name kept
 gathered_kept cells i combined clauses first name None at h = h
 gathered_kept cells i combined clauses first name (Some number) at h =
-    record { clauses = clauses; is_grammar = at; is_defined = h.3.some; join = h.0; there = h.2; bodies_are = h.3.bodies_are; combine_is = h.3.signs.combine_is }
+    record { clauses = clauses; is_grammar = at; is_defined = h.3.some; combination = h.0; there = h.2; bodies_are = h.3.bodies_are; combine_is = h.3.signs.combine_is }
 
 no_clash_as : (combined : List Combined) (clauses : List Clause) (first : ℕ) (name : Defined) (kept : Option ℕ) → IsGatheredAs first clauses combined name kept → clash (combines_of (clauses_of name clauses)) ≡ false
 no_clash_as combined clauses first name None h = ap (λ (cs : List Clause). clash (combines_of cs)) h
 no_clash_as combined clauses first name (Some number) h = h.3.signs.no_clash
 
-old_join : {cells : List Cell} {root : ℕ} {old new : List Combined} {number : ℕ} → KeepsJoins old new → IsOfGrammar cells root old number → IsOfGrammar cells root new number
-old_join keeps h = record { grammar = h.grammar; name = h.name; stands = h.stands; joined = joined_on keeps h.joined }
+old_combination : {cells : List Cell} {root : ℕ} {old new : List Combined} {number : ℕ} → KeepsCombinations old new → IsOfGrammar cells root old number → IsOfGrammar cells root new number
+old_combination keeps h = record { grammar = h.grammar; name = h.name; stands = h.stands; is_combined = combined_on keeps h.is_combined }
 
 module _ {cells : List Cell} {root i : ℕ} where
   -- a node that is neither a reference nor a grammar
@@ -354,7 +354,7 @@ module _ {cells : List Cell} {root i : ℕ} where
         is_scope = subst (λ outers. IsScope cells old.combined old.tables scope outers) (sym (same posted.outers)) posted.is_scope;
         all_links = refl;
         other_links = λ k other. refl;
-        combined = keeps_all_joins old.combined;
+        combined = keeps_all_combinations old.combined;
         tables = keeps_all_tables old.tables;
         taken = nothing old.combined posted.outers (get_or old.links i 0);
         each_combined = midway.each_combined;
@@ -370,7 +370,7 @@ module _ {cells : List Cell} {root i : ℕ} where
         is_scope = subst (λ outers. IsScope cells old.combined old.tables scope outers) (sym (same posted.outers)) posted.is_scope;
         all_links = length-set old.links i link;
         other_links = λ k other. get_or-set_other old.links i k link 0 other;
-        combined = keeps_all_joins old.combined;
+        combined = keeps_all_combinations old.combined;
         tables = keeps_all_tables old.tables;
         taken = subst (λ l. IsTaken cells old.combined posted.outers i l c) (sym (get_or-set_same old.links i link 0 lt)) taken;
         each_combined = midway.each_combined;
@@ -414,10 +414,10 @@ module _ {cells : List Cell} {root i : ℕ} where
           λ name. no_clash_as new.combined clauses (length old.combined) name (kept_for h.names name) (h.gathered.gathered name),
         );
         each_combined = λ number within. elim (cases_lt number (length old.combined)) [
-          | inl before ↦ old_join combined (midway.each_combined number before)
+          | inl before ↦ old_combination combined (midway.each_combined number before)
           | inr behind ↦
               let name = h.gathered.each number behind within in
-              record { grammar = i; name = name.0; stands = (posted.outers, posted.stands); joined = subst (λ (k : Option ℕ). IsKept cells new.combined i clauses name.0 k) name.1 (kept name.0) }
+              record { grammar = i; name = name.0; stands = (posted.outers, posted.stands); is_combined = subst (λ (k : Option ℕ). IsKept cells new.combined i clauses name.0 k) name.1 (kept name.0) }
         ];
       }
 

@@ -197,8 +197,8 @@ pub both_ways_clash : (all : List Combine) (c : Combine) (old : Combined) → Ha
 both_ways_clash all c old signs is = two_ways_clash all (combine_of all) c (told all) (ap (λ b. both_say b c) (sym signs.combine_is) ∙ is)
 
 -- a definition alone
-pub signs_of_one : (c : Combine) (join : Combined) → join.combine ≡ c → join.has_alone ≡ is_alone c → HasSigns (c ∷ []) join
-signs_of_one c join said alone = record { combine_is = said ∙ sym (one_says c); alone_is = alone ∙ sym (or_nothing (is_alone c)); no_clash = alone_clashes_not c }
+pub signs_of_one : (c : Combine) (combination : Combined) → combination.combine ≡ c → combination.has_alone ≡ is_alone c → HasSigns (c ∷ []) combination
+signs_of_one c combination said alone = record { combine_is = said ∙ sym (one_says c); alone_is = alone ∙ sym (or_nothing (is_alone c)); no_clash = alone_clashes_not c }
   where
     alone_clashes_not : (c : Combine) → clash (c ∷ []) ≡ false
     alone_clashes_not combine.Alone = refl

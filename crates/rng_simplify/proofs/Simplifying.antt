@@ -30,7 +30,7 @@ use Rattle.rng_simplify.specs.Resolving.{link_at, cell_leads, clauses_of, combin
 use Rattle.rng_simplify.specs.Shown.{joined_form, joined_of, form_by, among, shown, form_at}
 use Rattle.rng_simplify.specs.Simple.{Simple, Defines, AreSimple, simple_element, simple_attribute, simple_list, simple_empty, simple_text, simple_not_allowed, simple_value, simple_type, simple_one_or_more, simple_choice, simple_group, simple_interleave, simple_grammar, simple_ref, simple_parent_ref, joined_in_order, none_simple, next_simple}
 use Rattle.rng_simplify.specs.Standing.{cell_parts, bodies_of, Stands, the_root, a_part, a_content, a_definition, IsStanding, AreScopes, further_scope}
-use Rattle.rng_simplify.proofs.Forming.{none_before, before_next, before_later, cell_leads_are, join_leads_are}
+use Rattle.rng_simplify.proofs.Forming.{none_before, before_next, before_later, cell_leads_are, combination_leads_are}
 use Rattle.rng_simplify.proofs.Showing.{at_seam}
 use Rattle.rng_simplify.proofs.Nodes.{in_cases, in_first, in_more, one_cell, DenotesBy, cell_denoted}
 
@@ -90,12 +90,12 @@ module _ (cells : List Cell) (root : ℕ) (found : Resolved) (resolved : IsResol
   in_order order ordered = record {
     within = λ place i there. elim (ordered.nothing_else i (in_place order place i there)) [
       | inl stands ↦ let inside = standing_within i stands in omega arith
-      | inr join ↦ let inside = join.1 in let is = join.2 in omega arith
+      | inr combination ↦ let inside = combination.1 in let is = combination.2 in omega arith
     ];
     all_links = resolved.all_links;
     numbered = λ place i class part there at. elim (ordered.nothing_else i (in_place order place i there)) [
       | inl stands ↦ slice_get_within found.elements.items (link_at found i) i (resolved.numbered i class part stands at)
-      | inr join ↦ let inside = slice_get_within cells i _ at in let is = join.2 in absurd (omega arith)
+      | inr combination ↦ let inside = slice_get_within cells i _ at in let is = combination.2 in absurd (omega arith)
     ];
     once = λ place other i there again. distinct_places order place other i ordered.distinct there again;
     behind = λ place i j there within. taken_before order place j (ordered.behind place i j there within);
@@ -201,12 +201,12 @@ module _ (cells : List Cell) (root : ℕ) (found : Resolved) (resolved : IsResol
   IsSimpleNode i = (outers : List ℕ) (scopes : List Clauses) (p : Composed) → Stands cells root outers i → AreScopes cells number outers scopes → Denotes cells number i p → Simple scopes p (at i)
 
   -- the form of combined definitions is that of what the grammar defines under the name
-  abbrev IsSimpleJoin : ℕ → Type 0
-  IsSimpleJoin n = (grammar : ℕ) (name : Defined) (outers : List ℕ) (clauses : List Clause) (scope : Clauses) (scopes : List Clauses) → Stands cells root outers grammar → IsCombined cells found.combined.items grammar name n → IsCell cells grammar (cell.grammar clauses) → DenoteAll cells number clauses scope → AreScopes cells number outers scopes → Defines scope scopes name (at (length cells + n))
+  abbrev IsSimpleCombination : ℕ → Type 0
+  IsSimpleCombination n = (grammar : ℕ) (name : Defined) (outers : List ℕ) (clauses : List Clause) (scope : Clauses) (scopes : List Clauses) → Stands cells root outers grammar → IsCombined cells found.combined.items grammar name n → IsCell cells grammar (cell.grammar clauses) → DenoteAll cells number clauses scope → AreScopes cells number outers scopes → Defines scope scopes name (at (length cells + n))
 
   pub record AreSimpleBefore (end : ℕ) : Type 0 where
     pub node : (i : ℕ) → IsBefore order end i → IsSimpleNode i
-    pub join : (n : ℕ) → IsBefore order end (length cells + n) → IsSimpleJoin n
+    pub combination : (n : ℕ) → IsBefore order end (length cells + n) → IsSimpleCombination n
 
   module _ (end : ℕ) (known : AreSimpleBefore end) (takes : AreTaken cells order (end + 1) taken forms) (inside : end < length order) where
     module _ (i : ℕ) (place : slice_get order end ≡ Some i) where
@@ -230,15 +230,15 @@ module _ (cells : List Cell) (root : ℕ) (found : Resolved) (resolved : IsResol
       part_simple c j there part leads outers scopes p stands scoped denotes = known.node j (lead c there j leads) outers scopes p (a_part stands there part) scoped denotes
 
       -- combined definitions of the innermost of grammars
-      inner_join : (name : Defined) (outers : List ℕ) (scopes : List Clauses) → OuterStands cells root outers → AreScopes cells number outers scopes → IsCombinedIn cells found.combined.items outers name (link_at found i) → IsBefore order end (length cells + link_at found i) → DefinesIn name scopes (at (length cells + link_at found i))
-      inner_join name [] scopes stands scoped combined before = absurd combined
-      inner_join name (grammar ∷ outers) _ stands (further_scope {clauses = clauses} {all = scope} {scopes = scopes} there denotes more) combined before =
-          known.join (link_at found i) before grammar name outers clauses scope scopes stands combined there denotes more
+      inner_combination : (name : Defined) (outers : List ℕ) (scopes : List Clauses) → OuterStands cells root outers → AreScopes cells number outers scopes → IsCombinedIn cells found.combined.items outers name (link_at found i) → IsBefore order end (length cells + link_at found i) → DefinesIn name scopes (at (length cells + link_at found i))
+      inner_combination name [] scopes stands scoped combined before = absurd combined
+      inner_combination name (grammar ∷ outers) _ stands (further_scope {clauses = clauses} {all = scope} {scopes = scopes} there denotes more) combined before =
+          known.combination (link_at found i) before grammar name outers clauses scope scopes stands combined there denotes more
 
       -- those of the one around it
-      outer_join : (name : Defined) (outers : List ℕ) (scopes : List Clauses) → OuterStands cells root outers → AreScopes cells number outers scopes → IsCombinedOutside cells found.combined.items outers name (link_at found i) → IsBefore order end (length cells + link_at found i) → DefinesOutside name scopes (at (length cells + link_at found i))
-      outer_join name [] scopes stands scoped combined before = absurd combined
-      outer_join name (grammar ∷ outers) _ stands (further_scope there denotes more) combined before = inner_join name outers _ (outer_stands stands) more combined before
+      outer_combination : (name : Defined) (outers : List ℕ) (scopes : List Clauses) → OuterStands cells root outers → AreScopes cells number outers scopes → IsCombinedOutside cells found.combined.items outers name (link_at found i) → IsBefore order end (length cells + link_at found i) → DefinesOutside name scopes (at (length cells + link_at found i))
+      outer_combination name [] scopes stands scoped combined before = absurd combined
+      outer_combination name (grammar ∷ outers) _ stands (further_scope there denotes more) combined before = inner_combination name outers _ (outer_stands stands) more combined before
 
       -- the node's form
       simple_by : (c : Cell) (outers : List ℕ) (scopes : List Clauses) (p : Composed) → Stands cells root outers i → AreScopes cells number outers scopes → IsCell cells i c → DenotesBy cells number i c p → Simple scopes p (at i)
@@ -252,10 +252,10 @@ module _ (cells : List Cell) (root : ℕ) (found : Resolved) (resolved : IsResol
           (simple_list (part_simple (cell.listed part) part there (in_first part []) (in_first part []) outers scopes q stands scoped denotes))
       simple_by (cell.ref name) outers scopes p stands scoped there is =
           so_simple scopes p _ (at i) _ is (made (cell.ref name) there)
-          (ref_simple scopes name _ (inner_join (defined.Name name) outers scopes (outer_stands stands) scoped (resolved.ref_combined outers i name stands there) (lead (cell.ref name) there _ (in_first _ []))))
+          (ref_simple scopes name _ (inner_combination (defined.Name name) outers scopes (outer_stands stands) scoped (resolved.ref_combined outers i name stands there) (lead (cell.ref name) there _ (in_first _ []))))
       simple_by (cell.parent_ref name) outers scopes p stands scoped there is =
           so_simple scopes p _ (at i) _ is (made (cell.parent_ref name) there)
-          (parent_ref_simple scopes name _ (outer_join (defined.Name name) outers scopes (outer_stands stands) scoped (resolved.parent_ref_combined outers i name stands there) (lead (cell.parent_ref name) there _ (in_first _ []))))
+          (parent_ref_simple scopes name _ (outer_combination (defined.Name name) outers scopes (outer_stands stands) scoped (resolved.parent_ref_combined outers i name stands there) (lead (cell.parent_ref name) there _ (in_first _ []))))
       simple_by cell.empty outers scopes p stands scoped there is = so_simple scopes p _ (at i) _ is (made cell.empty there) simple_empty
       simple_by cell.any_text outers scopes p stands scoped there is = so_simple scopes p _ (at i) _ is (made cell.any_text there) simple_text
       simple_by cell.not_allowed outers scopes p stands scoped there is = so_simple scopes p _ (at i) _ is (made cell.not_allowed there) simple_not_allowed
@@ -265,7 +265,7 @@ module _ (cells : List Cell) (root : ℕ) (found : Resolved) (resolved : IsResol
           (simple_type (part_simple (cell.typed type params part) part there (in_first part []) (in_first part []) outers scopes q stands scoped denotes) (takes.each_is i type params part is_next there))
       simple_by (cell.grammar clauses) outers scopes p stands scoped there (scope, denotes, is) =
           so_simple scopes p _ (at i) _ is (made (cell.grammar clauses) there)
-          (simple_grammar (known.join (link_at found i) (lead (cell.grammar clauses) there _ (in_first _ [])) i defined.Start outers clauses scope scopes stands (resolved.start_combined i clauses (outers, stands) there) there denotes scoped))
+          (simple_grammar (known.combination (link_at found i) (lead (cell.grammar clauses) there _ (in_first _ [])) i defined.Start outers clauses scope scopes stands (resolved.start_combined i clauses (outers, stands) there) there denotes scoped))
       simple_by (cell.one_or_more part) outers scopes p stands scoped there (q, denotes, is) =
           so_simple scopes p _ (at i) _ is (made (cell.one_or_more part) there)
           (simple_one_or_more (part_simple (cell.one_or_more part) part there (in_first part []) (in_first part []) outers scopes q stands scoped denotes))
@@ -291,21 +291,21 @@ module _ (cells : List Cell) (root : ℕ) (found : Resolved) (resolved : IsResol
           (known.node clause.body here.0 (grammar ∷ outers) (scope ∷ scopes) _ (a_definition stands there here.1) scoped body)
           (bodies_simple grammar outers all scope scopes stands there scoped others (λ j within. each j (in_more clause.body (bodies_of more) j within)))
 
-      join_simple : IsSimpleJoin n
-      join_simple grammar name outers clauses scope scopes stands combined there denotes scoped =
+      combination_simple : IsSimpleCombination n
+      combination_simple grammar name outers clauses scope scopes stands combined there denotes scoped =
           let named : List Clause = clauses_of name combined.clauses in
           let same : clauses ≡ combined.clauses = same_clauses cells grammar clauses combined.clauses there combined.is_grammar in
           let P : List Clause → Type 0 = λ some. DenoteAll cells number some scope in
           let all : DenoteAll cells number combined.clauses scope = subst P same denotes in
           let them : DenoteAll cells number named (defining name scope) = defining_all cells number name all in
-          let leads : leads cells found (length cells + n) ≡ bodies_of named = join_leads_are cells found n combined.join combined.there ∙ combined.bodies_are in
+          let leads : leads cells found (length cells + n) ≡ bodies_of named = combination_leads_are cells found n combined.combination combined.there ∙ combined.bodies_are in
           let each : (j : ℕ) → Contains (bodies_of named) j → IsBefore order end j × Contains (bodies_of combined.clauses) j = λ j within.
           (let Q : List ℕ → Type 0 = λ some. Contains some j in ordered.behind end (length cells + n) j place (subst Q (sym leads) within), in_filter name combined.clauses j within) in
           defines_by scope scopes name (map at (bodies_of named)) (at (length cells + n))
           (bodies_simple grammar outers combined.clauses scope scopes stands combined.is_grammar (further_scope combined.is_grammar all scoped) them each)
           (some_forms at named combined.is_defined)
-          (all_formed.formed.join_is n combined.join taken (record { place = end; before = inside; there = place }) combined.there
-          ∙ ap (λ combine. bodies_form combine (map at combined.join.bodies.items)) combined.combine_is
+          (all_formed.formed.combination_is n combined.combination taken (record { place = end; before = inside; there = place }) combined.there
+          ∙ ap (λ combine. bodies_form combine (map at combined.combination.bodies.items)) combined.combine_is
           ∙ ap (λ numbers. bodies_form (combine_of (combines_of named)) (map at numbers)) combined.bodies_are
           ∙ ap (λ all. bodies_form (combine_of all) (map at (bodies_of named))) (sym (combines_all cells number them)))
 
@@ -316,9 +316,9 @@ module _ (cells : List Cell) (root : ℕ) (found : Resolved) (resolved : IsResol
         | inl before ↦ known.node i before
         | inr is ↦ let P : ℕ → Type 0 = λ k. slice_get order end ≡ Some k in node_simple i (subst P (sym is) place)
       ];
-      join = λ n h. elim (before_next order end (length cells + n) here place h) [
-        | inl before ↦ known.join n before
-        | inr is ↦ let P : ℕ → Type 0 = λ k. slice_get order end ≡ Some k in join_simple n (subst P (sym is) place)
+      combination = λ n h. elim (before_next order end (length cells + n) here place h) [
+        | inl before ↦ known.combination n before
+        | inr is ↦ let P : ℕ → Type 0 = λ k. slice_get order end ≡ Some k in combination_simple n (subst P (sym is) place)
       ];
     }
 
@@ -329,7 +329,7 @@ module _ (cells : List Cell) (root : ℕ) (found : Resolved) (resolved : IsResol
   simple_before : (end : ℕ) → end ≤ length order → AreTaken cells order end taken forms → AreSimpleBefore end
   simple_before zero within takes = record {
     node = λ i h. absurd (none_before order i h);
-    join = λ n h. absurd (none_before order (length cells + n) h);
+    combination = λ n h. absurd (none_before order (length cells + n) h);
   }
   simple_before (suc end) within takes =
       let less : end < length order = omega arith in

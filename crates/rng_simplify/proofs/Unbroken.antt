@@ -72,17 +72,17 @@ undefined_none name (next_denoted {clause = clause} {more = more} {rest = rest} 
 
 module _ (cells : List Cell) (root : ℕ) (found : Resolved) (formed : AreWellFormed cells root) (resolved : IsResolved cells root found) (number : ℕ → ℕ) (whole : Composed) (denotes : Denotes cells number root whole) where
   -- a joined name is defined
-  joined_defined : (grammar : ℕ) (clauses : List Clause) (all : Clauses) (name : Defined) (n : ℕ) → IsCell cells grammar (cell.grammar clauses) → DenoteAll cells number clauses all → IsCombined cells found.combined.items grammar name n → defines name all ≡ false → ⊥
-  joined_defined grammar clauses all name n at denoted h none =
+  combined_defined : (grammar : ℕ) (clauses : List Clause) (all : Clauses) (name : Defined) (n : ℕ) → IsCell cells grammar (cell.grammar clauses) → DenoteAll cells number clauses all → IsCombined cells found.combined.items grammar name n → defines name all ≡ false → ⊥
+  combined_defined grammar clauses all name n at denoted h none =
       h.is_defined (ap (clauses_of name) (one_grammar cells grammar h.clauses clauses h.is_grammar at) ∙ undefined_none name denoted none)
 
   ref_defined : (outers : List ℕ) (scopes : List Clauses) (name : List ℕ) (n : ℕ) → AreScopes cells number outers scopes → IsCombinedIn cells found.combined.items outers (defined.Name name) n → IsUndefined scopes (composed.ref name) → ⊥
   ref_defined outers scopes name n standing.no_scopes h none = h
-  ref_defined outers scopes name n (standing.further_scope {i = grammar} {clauses = clauses} {all = all} at denoted more) h none = joined_defined grammar clauses all (defined.Name name) n at denoted h none
+  ref_defined outers scopes name n (standing.further_scope {i = grammar} {clauses = clauses} {all = all} at denoted more) h none = combined_defined grammar clauses all (defined.Name name) n at denoted h none
 
   around_defined : (outers : List ℕ) (scopes : List Clauses) (inner : Clauses) (name : List ℕ) (n : ℕ) → AreScopes cells number outers scopes → IsCombinedIn cells found.combined.items outers (defined.Name name) n → IsUndefined (inner ∷ scopes) (composed.parent_ref name) → ⊥
   around_defined outers scopes inner name n standing.no_scopes h none = h
-  around_defined outers scopes inner name n (standing.further_scope {i = grammar} {clauses = clauses} {all = all} at denoted more) h none = joined_defined grammar clauses all (defined.Name name) n at denoted h none
+  around_defined outers scopes inner name n (standing.further_scope {i = grammar} {clauses = clauses} {all = all} at denoted more) h none = combined_defined grammar clauses all (defined.Name name) n at denoted h none
 
   parent_ref_defined : (outers : List ℕ) (scopes : List Clauses) (name : List ℕ) (n : ℕ) → AreScopes cells number outers scopes → IsCombinedOutside cells found.combined.items outers (defined.Name name) n → IsUndefined scopes (composed.parent_ref name) → ⊥
   parent_ref_defined outers scopes name n standing.no_scopes h none = h
@@ -101,7 +101,7 @@ module _ (cells : List Cell) (root : ℕ) (found : Resolved) (formed : AreWellFo
   start_at : (scopes : List Clauses) (p : Composed) → HasNode cells number root (place scopes p) → HasNoStart scopes p → ⊥
   start_at scopes (composed.grammar all) h none =
       let grammar = cell_of_pattern h.denotes in
-      joined_defined h.node grammar.0 all defined.Start (link_at found h.node) grammar.1 grammar.2 (resolved.start_combined h.node grammar.0 (h.outers, h.stands) grammar.1) none
+      combined_defined h.node grammar.0 all defined.Start (link_at found h.node) grammar.1 grammar.2 (resolved.start_combined h.node grammar.0 (h.outers, h.stands) grammar.1) none
   start_at scopes p h none = absurd none
 
   pub none_without_start : Has whole HasNoStart → ⊥
@@ -219,8 +219,8 @@ module _ (cells : List Cell) (root : ℕ) (found : Resolved) (formed : AreWellFo
       record { earlier = place.0; before = taken.0; there = taken.1 }
 
   -- the bodies of combined definitions
-  body_lead : (n : ℕ) (join : Combined) (j : ℕ) → slice_get found.combined.items n ≡ Some join → Contains join.bodies.items j → Contains (leads cells found (length cells + n)) j
-  body_lead n join j at among =
+  body_lead : (n : ℕ) (combination : Combined) (j : ℕ) → slice_get found.combined.items n ≡ Some combination → Contains combination.bodies.items j → Contains (leads cells found (length cells + n)) j
+  body_lead n combination j at among =
       let past : slice_get cells (length cells + n) ≡ None = slice_get_past cells (length cells + n) (omega arith) in
       let same : length cells + n - length cells ≡ n = omega arith in
       subst (λ (all : List ℕ). Contains all j) (sym (ap (leads_if cells found (length cells + n)) past ∙ ap (λ m. combined_leads (slice_get found.combined.items m)) same ∙ ap combined_leads at)) among
@@ -228,13 +228,13 @@ module _ (cells : List Cell) (root : ℕ) (found : Resolved) (formed : AreWellFo
   -- what is defined under a name, by way of its combined definitions
   defined_before : (n x : ℕ) (c : Cell) (grammar : ℕ) (rest : List ℕ) (clauses : List Clause) (all : Clauses) (scopes : List Clauses) (name : Defined) (q : Composed) → slice_get order n ≡ Some x → IsCell cells x c → is_linked c ≡ true → Stands cells root rest grammar → IsCell cells grammar (cell.grammar clauses) → DenoteAll cells number clauses all → AreScopes cells number rest scopes → IsCombined cells found.combined.items grammar name (link_at found x) → Contains (bodies (defining name all)) q → IsPlacedBefore (place (all ∷ scopes) q) n
   defined_before n x c grammar rest clauses all scopes name q at at_x linked stands at_grammar denoted are h among =
-      let join_led : Contains (leads cells found x) (length cells + link_at found x) = subst (λ (js : List ℕ). Contains js (length cells + link_at found x)) (sym (ap (leads_if cells found x) at_x ∙ linked_leads (length cells) (link_at found x) c linked)) (in_first (length cells + link_at found x) []) in
-      let join_there = comes_earlier n x (length cells + link_at found x) at join_led in
+      let combination_led : Contains (leads cells found x) (length cells + link_at found x) = subst (λ (js : List ℕ). Contains js (length cells + link_at found x)) (sym (ap (leads_if cells found x) at_x ∙ linked_leads (length cells) (link_at found x) c linked)) (in_first (length cells + link_at found x) []) in
+      let combination_there = comes_earlier n x (length cells + link_at found x) at combination_led in
       let body = named_node name q denoted among in
       let same : h.clauses ≡ clauses = one_grammar cells grammar h.clauses clauses h.is_grammar at_grammar in
-      let within : Contains h.join.bodies.items body.node = subst (λ (bs : List ℕ). Contains bs body.node) (sym (h.bodies_are ∙ ap (λ (cs : List Clause). bodies_of (clauses_of name cs)) same)) body.within in
-      let body_there = comes_earlier join_there.earlier (length cells + link_at found x) body.node join_there.there (body_lead (link_at found x) h.join body.node h.there within) in
-      let first = join_there.before in
+      let within : Contains h.combination.bodies.items body.node = subst (λ (bs : List ℕ). Contains bs body.node) (sym (h.bodies_are ∙ ap (λ (cs : List Clause). bodies_of (clauses_of name cs)) same)) body.within in
+      let body_there = comes_earlier combination_there.earlier (length cells + link_at found x) body.node combination_there.there (body_lead (link_at found x) h.combination body.node h.there within) in
+      let first = combination_there.before in
       let second = body_there.before in
       record {
         earlier = body_there.earlier;

@@ -48,13 +48,13 @@ distinct_by_place (x ∷ xs) once = (
 
 -- ---- few are led to
 
-each_in_sum : (combined : List Combined) (n : ℕ) (join : Combined) → slice_get combined n ≡ Some join → length join.bodies.items ≤ sum_by (λ (j : Combined). length j.bodies.items) combined
-each_in_sum [] n join at = absurd (none-some join at)
-each_in_sum (first ∷ combined) zero join at =
-    let same : length first.bodies.items ≡ length join.bodies.items = ap (λ (j : Combined). length j.bodies.items) (same_Some first join at) in
+each_in_sum : (combined : List Combined) (n : ℕ) (combination : Combined) → slice_get combined n ≡ Some combination → length combination.bodies.items ≤ sum_by (λ (j : Combined). length j.bodies.items) combined
+each_in_sum [] n combination at = absurd (none-some combination at)
+each_in_sum (first ∷ combined) zero combination at =
+    let same : length first.bodies.items ≡ length combination.bodies.items = ap (λ (j : Combined). length j.bodies.items) (same_Some first combination at) in
     omega (arith, same, sum_by-cons (λ (j : Combined). length j.bodies.items) first combined)
-each_in_sum (first ∷ combined) (suc n) join at =
-    let rest = each_in_sum combined n join at in
+each_in_sum (first ∷ combined) (suc n) combination at =
+    let rest = each_in_sum combined n combination at in
     omega (arith, rest, sum_by-cons (λ (j : Combined). length j.bodies.items) first combined)
 
 few_parts : (c : Cell) → length (cell_parts c) ≤ 2
@@ -81,17 +81,17 @@ few_leads count link c false is =
     let less = few_parts c in
     omega (arith, same, less)
 
-few_of_join : (found : Resolved) (n : ℕ) (join : Option Combined) → slice_get found.combined.items n ≡ join → length (combined_leads join) + 1 < most found
-few_of_join found n (Some join) at =
-    let less = each_in_sum found.combined.items n join at in
+few_of_combination : (found : Resolved) (n : ℕ) (combination : Option Combined) → slice_get found.combined.items n ≡ combination → length (combined_leads combination) + 1 < most found
+few_of_combination found n (Some combination) at =
+    let less = each_in_sum found.combined.items n combination at in
     omega (arith, less)
-few_of_join found n None at = omega arith
+few_of_combination found n None at = omega arith
 
 few_if : (cells : List Cell) (found : Resolved) (x : ℕ) (c : Option Cell) → length (leads_if cells found x c) + 1 < most found
 few_if cells found x (Some c) =
     let less = few_leads (length cells) (link_at found x) c (is_linked c) refl in
     omega (arith, less)
-few_if cells found x None = few_of_join found (x - length cells) (slice_get found.combined.items (x - length cells)) refl
+few_if cells found x None = few_of_combination found (x - length cells) (slice_get found.combined.items (x - length cells)) refl
 
 module _ (cells : List Cell) (root : ℕ) (found : Resolved) where
   few : (x : ℕ) → length (leads cells found x) + 1 < most found
@@ -280,14 +280,14 @@ leads_parts nodes found x k node lt is linked =
     sym (ap (λ (all : List ℕ). slice_get all k) (unlinked_leads (length (map cell_of nodes)) (link_at found x) (cell_of node) linked))
     ∙ sym (ap (λ (c : Option Cell). slice_get (leads_if (map cell_of nodes) found x c) k) (cell_there nodes x node lt is))
 
-pub leads_bodies : (nodes : List Node) (found : Resolved) (x n k : ℕ) (join : Combined) → length nodes ≤ x → n ≡ x - length nodes → n < length found.combined.items → join ≡ get_or found.combined.items n join → slice_get join.bodies.items k ≡ slice_get (leads (map cell_of nodes) found x) k
-leads_bodies nodes found x n k join past n_is lt is =
+pub leads_bodies : (nodes : List Node) (found : Resolved) (x n k : ℕ) (combination : Combined) → length nodes ≤ x → n ≡ x - length nodes → n < length found.combined.items → combination ≡ get_or found.combined.items n combination → slice_get combination.bodies.items k ≡ slice_get (leads (map cell_of nodes) found x) k
+leads_bodies nodes found x n k combination past n_is lt is =
     let none : slice_get (map cell_of nodes) x ≡ None = slice_get_past (map cell_of nodes) x (omega (arith, past, length-map nodes cell_of)) in
     let number : n ≡ x - length (map cell_of nodes) = omega (arith, n_is, length-map nodes cell_of) in
     sym (
     ap (λ (c : Option Cell). slice_get (leads_if (map cell_of nodes) found x c) k) none
     ∙ ap (λ m. slice_get (combined_leads (slice_get found.combined.items m)) k) (sym number)
-    ∙ ap (λ (j : Option Combined). slice_get (combined_leads j) k) (slice_get_read found.combined.items (length found.combined.items) n join refl lt is)
+    ∙ ap (λ (j : Option Combined). slice_get (combined_leads j) k) (slice_get_read found.combined.items (length found.combined.items) n combination refl lt is)
     )
 
 -- a link of a node that stands in the schema is the number of combined definitions
@@ -296,11 +296,11 @@ link_fits nodes root found x node formed resolved (inl (outers, stands)) lt is l
 link_fits nodes root found x node formed resolved (inr (n, within, at)) lt is linked = absurd (omega (arith, at, lt, length-map nodes cell_of))
 
 -- what is met behind the nodes are combined definitions
-pub join_there : (nodes : List Node) (root : ℕ) (found : Resolved) (x : ℕ) → AreWellFormed (map cell_of nodes) root → IsMet (map cell_of nodes) root found x → length nodes ≤ x → x - length nodes < length found.combined.items
-join_there nodes root found x formed (inl (outers, stands)) past =
+pub combination_there : (nodes : List Node) (root : ℕ) (found : Resolved) (x : ℕ) → AreWellFormed (map cell_of nodes) root → IsMet (map cell_of nodes) root found x → length nodes ≤ x → x - length nodes < length found.combined.items
+combination_there nodes root found x formed (inl (outers, stands)) past =
     let lt = stands_within formed stands in
     absurd (omega (arith, lt, past, length-map nodes cell_of))
-join_there nodes root found x formed (inr (n, within, at)) past = omega (arith, at, within, past, length-map nodes cell_of)
+combination_there nodes root found x formed (inr (n, within, at)) past = omega (arith, at, within, past, length-map nodes cell_of)
 
 -- ---- a node that may stand nowhere
 
@@ -325,6 +325,6 @@ gone_passed cells root found i old new (Err fault) h = h
 -- ---- all nodes and combined definitions
 
 pub nodes_ordered : (nodes : List Node) (root : ℕ) (found : Resolved) (mid now : Walking) → ((i : ℕ) → IsStanding (map cell_of nodes) root i → mark_at mid i ≢ New) → IsWalk (map cell_of nodes) root found None now → now.path ≡ [] → KeepsMarks mid now → ((number : ℕ) → number < length found.combined.items → mark_at now (length nodes + number) ≢ New) → IsOrdered (map cell_of nodes) root found now.order
-nodes_ordered nodes root found mid now nodes_met h rest keeps joins_met =
+nodes_ordered nodes root found mid now nodes_met h rest keeps combinations_met =
     all_ordered (map cell_of nodes) root found now h rest (λ i standing. keeps i (nodes_met i standing))
-    (λ number lt. subst (λ n. mark_at now (n + number) ≢ New) (sym (length-map nodes cell_of)) (joins_met number lt))
+    (λ number lt. subst (λ n. mark_at now (n + number) ≢ New) (sym (length-map nodes cell_of)) (combinations_met number lt))

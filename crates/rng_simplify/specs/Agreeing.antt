@@ -58,9 +58,9 @@ SimplifiedIsNotBroken =
     (files : FileMap) (uri : List ℕ) (start : Pattern) (definitions : List Definition) → Simplifies files uri start definitions →
     (why : Cause) → IsBroken files uri why → ⊥
 
--- and they are refused for want of memory alone, or where the files could not be had
+-- and another call refuses them for want of memory alone, or where a file could not be had
 abbrev pub GrammarIsNoRefusal : Type 0
 GrammarIsNoRefusal =
-    (files : FileMap) (uri : List ℕ) (before after : ℕ) (grammar : Grammar) (refusal : SchemaFault) →
-    Answers (Some files) uri before after (Ok grammar) → Answers (Some files) uri before after (Err refusal) →
+    (files : FileMap) (uri : List ℕ) (before after before_again after_again : ℕ) (grammar : Grammar) (refusal : SchemaFault) →
+    Answers (Some files) uri before after (Ok grammar) → Answers (Some files) uri before_again after_again (Err refusal) →
     (refusal ≡ NoMemory) ⊎ (refusal ≡ Failed)

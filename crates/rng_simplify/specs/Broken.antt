@@ -1,5 +1,6 @@
 -- Why the files of a schema make no grammar, by one definition for each cause.
-use Rattle.std.specs.Prelude.{◌≡◌, ◌≢◌, ℕ, ◌+◌, ◌<◌, ◌⊎◌, nat_lt, Bool, true, false, ◌&&◌, ◌||◌, List, [], ◌∷◌, length, filter, sum_by, slice_get, Some, None, Ok, Err, Contains, IsUtf8}
+use Rattle.std.specs.Prelude.{◌≡◌, ◌≢◌, ℕ, ◌+◌, ◌<◌, ◌⊎◌, nat_lt, Bool, true, false, ◌&&◌, ◌||◌, List, [], ◌∷◌, length}
+use Rattle.std.specs.Prelude.{filter, sum_by, slice_get, Some, None, Ok, Err, Contains, IsUtf8}
 use Rattle.std.specs.List.{list_any}
 use Rattle.nx_base.specs.declared.cause.Cause.{Cause}
 use Rattle.nx_base.specs.declared.cause.Cause.TheVariants as cause

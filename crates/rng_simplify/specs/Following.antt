@@ -83,11 +83,11 @@ IsBadText text NoMemory = Unit {0}
 IsBadText text other = ⊥
 
 -- what the text denotes in the file of that URI
-abbrev pub JoinsUri : List ℕ → List ℕ → Result (List ℕ) SchemaFault → Type 0
-JoinsUri base text (Ok uri) = Joins base text uri × IsUtf8 uri
-JoinsUri base text (Err (BadUri bad)) = (bad ≡ text) × IsBadUri base text
-JoinsUri base text (Err NoMemory) = Unit {0}
-JoinsUri base text (Err other) = ⊥
+abbrev pub MakesUri : List ℕ → List ℕ → Result (List ℕ) SchemaFault → Type 0
+MakesUri base text (Ok uri) = Joins base text uri × IsUtf8 uri
+MakesUri base text (Err (BadUri bad)) = (bad ≡ text) × IsBadUri base text
+MakesUri base text (Err NoMemory) = Unit {0}
+MakesUri base text (Err other) = ⊥
 
 -- the same where it is no file of the chain
 abbrev pub NextUri : List (List ℕ) → List ℕ → List ℕ → Result (List ℕ) SchemaFault → Type 0

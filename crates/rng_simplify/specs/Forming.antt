@@ -1,5 +1,6 @@
 -- Of what the forms of nodes and combined definitions are made: each of the forms of what it leads to.
-use Rattle.std.specs.Prelude.{◌≡◌, ℕ, ◌+◌, ◌<◌, List, [], ◌∷◌, ◌++◌, length, map, slice_get, slice_set, slice_index, Some, Result, Ok, Err, Contains}
+use Rattle.std.specs.Prelude.{◌≡◌, ℕ, ◌+◌, ◌<◌, List, [], ◌∷◌, ◌++◌, length, map, slice_get, slice_set, slice_index}
+use Rattle.std.specs.Prelude.{Some, Result, Ok, Err, Contains}
 use Rattle.rnc_parse.specs.declared.surface.Combine.{Combine}
 use Rattle.rnc_parse.specs.declared.surface.TypeName.{TypeName}
 use Rattle.rnc_parse.specs.declared.surface.Param.{Param}
@@ -45,7 +46,7 @@ bodies_form combine (first ∷ more) = joined (join_of combine) first more
 
 -- that of combined definitions by those of their bodies
 abbrev pub combined_form : (ℕ → Form) → Combined → Form
-combined_form at join = bodies_form join.combine (map at join.bodies.items)
+combined_form at combination = bodies_form combination.combine (map at combination.bodies.items)
 
 -- ---- forms by numbers
 
@@ -86,9 +87,9 @@ pub record AreFormed (cells : List Cell) (found : Resolved) (order : List ℕ) (
   pub known : (i : ℕ) → IsBefore order end i → IsKnown forms.shapes forms.of.items i
   pub node_is : (i : ℕ) (c : Cell) (taken : ℕ → List Value) → IsBefore order end i → IsCell cells i c →
       form_of cells taken forms i ≡ cell_form (form_of cells taken forms) (length cells) (link_at found i) (taken i) c
-  pub join_is : (number : ℕ) (join : Combined) (taken : ℕ → List Value) → IsBefore order end (length cells + number) →
-      slice_get found.combined.items number ≡ Some join →
-      form_of cells taken forms (length cells + number) ≡ combined_form (form_of cells taken forms) join
+  pub combination_is : (number : ℕ) (combination : Combined) (taken : ℕ → List Value) → IsBefore order end (length cells + number) →
+      slice_get found.combined.items number ≡ Some combination →
+      form_of cells taken forms (length cells + number) ≡ combined_form (form_of cells taken forms) combination
   -- their shapes are of nodes in front of the place alone
   pub of_schema : (others : List Cell) → AreAlike cells others order end → AreOfSchema others (length found.elements.items) forms.shapes
 
@@ -164,8 +165,9 @@ pub record IsMade (cells : List Cell) (found : Resolved) (i : ℕ) (old new : Li
   pub within : number < length new
   pub node_is : (c : Cell) (taken : ℕ → List Value) → IsCell cells i c →
       form_at cells taken new number ≡ cell_form (form_in cells taken old of) (length cells) (link_at found i) (taken i) c
-  pub join_is : (n : ℕ) (join : Combined) (taken : ℕ → List Value) → i ≡ length cells + n → slice_get found.combined.items n ≡ Some join →
-      form_at cells taken new number ≡ combined_form (form_in cells taken old of) join
+  pub combination_is : (n : ℕ) (combination : Combined) (taken : ℕ → List Value) → i ≡ length cells + n →
+      slice_get found.combined.items n ≡ Some combination →
+      form_at cells taken new number ≡ combined_form (form_in cells taken old of) combination
   pub kept : (others : List Cell) (elements : ℕ) → ((c : Cell) → IsCell cells i c → IsCell others i c) → ((c : Cell) → IsCell cells i c →
       IsNumberedBelow elements (link_at found i) c) → AreOfSchema others elements old → AreOfSchema others elements new
 

@@ -1,6 +1,7 @@
 -- What composing makes of a file's patterns: cells, one behind another, and pieces of files taken from a stack. That this is
 -- the schema in one piece, a law says.
-use Rattle.std.specs.Prelude.{◌≡◌, ℕ, Bool, true, false, not, List, [], ◌∷◌, ◌++◌, length, map, reverse, filter, Option, Some, None, Result, Ok, Err, Vec}
+use Rattle.std.specs.Prelude.{◌≡◌, ℕ, Bool, true, false, not, List, [], ◌∷◌, ◌++◌, length, map, reverse, filter, Option}
+use Rattle.std.specs.Prelude.{Some, None, Result, Ok, Err, Vec}
 use Rattle.std.specs.declared.alloc.Global.{Global}
 use Rattle.std.specs.List.{list_any, list_all}
 use Rattle.nx_base.specs.declared.cause.Cause.{Cause}

@@ -4,7 +4,8 @@ use Rattle.nx_host.specs.Files.{FileMap}
 use Rattle.nx_host.specs.Uri.{Joins}
 use Rattle.rnc_parse.specs.declared.surface.FileReference.{FileReference}
 use Rattle.rnc_parse.specs.declared.surface.Defined.{Defined}
-use Rattle.rnc_parse.specs.Written.{WrittenPattern, WrittenItem, WrittenItems, WrittenReplacement, WrittenReplacements, WrittenSurface, a_pattern, a_grammar}
+use Rattle.rnc_parse.specs.Written.{WrittenPattern, WrittenItem, WrittenItems, WrittenReplacement, WrittenReplacements}
+use Rattle.rnc_parse.specs.Written.{WrittenSurface, a_pattern, a_grammar}
 use Rattle.rnc_parse.specs.Written as written
 use Rattle.rng_simplify.specs.Composing.{Context, top, referred, Says}
 

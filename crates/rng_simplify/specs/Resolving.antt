@@ -1,5 +1,6 @@
 -- What is known of the nodes of a schema once its references are resolved, and an order of them.
-use Rattle.std.specs.Prelude.{◌≡◌, ◌≢◌, ◌↔◌, ℕ, ◌+◌, ◌-◌, ◌<◌, ◌==◌, ◌⊎◌, false, List, [], ◌∷◌, length, map, filter, take, slice_get, slice_index, slice_index_or, Option, Some, None, Contains}
+use Rattle.std.specs.Prelude.{◌≡◌, ◌≢◌, ◌↔◌, ℕ, ◌+◌, ◌-◌, ◌<◌, ◌==◌, ◌⊎◌, false, List, [], ◌∷◌, length, map, filter}
+use Rattle.std.specs.Prelude.{take, slice_get, slice_index, slice_index_or, Option, Some, None, Contains}
 use Rattle.std.specs.List.{IsDistinct}
 use Rattle.rnc_parse.specs.declared.surface.Defined.{Defined}
 use Rattle.rnc_parse.specs.declared.surface.Defined.TheVariants as defined
@@ -31,7 +32,7 @@ link_at found i = slice_index found.links.items i
 abbrev pub clauses_of : Defined → List Clause → List Clause
 clauses_of name clauses = filter (λ (clause : Clause). same_defined name clause.name) clauses
 
--- how they are joined
+-- how they are combined
 abbrev pub combines_of : List Clause → List Combine
 combines_of clauses = map (λ (clause : Clause). clause.combine) clauses
 
@@ -40,10 +41,10 @@ pub record IsCombined (cells : List Cell) (combined : List Combined) (grammar : 
   pub clauses : List Clause
   pub is_grammar : IsCell cells grammar (cell.grammar clauses)
   pub is_defined : clauses_of name clauses ≢ []
-  pub join : Combined
-  pub there : slice_get combined number ≡ Some join
-  pub bodies_are : join.bodies.items ≡ bodies_of (clauses_of name clauses)
-  pub combine_is : join.combine ≡ combine_of (combines_of (clauses_of name clauses))
+  pub combination : Combined
+  pub there : slice_get combined number ≡ Some combination
+  pub bodies_are : combination.bodies.items ≡ bodies_of (clauses_of name clauses)
+  pub combine_is : combination.combine ≡ combine_of (combines_of (clauses_of name clauses))
 
 -- it is that of the innermost of these grammars, or of the one around that
 abbrev pub IsCombinedIn : List Cell → List Combined → List ℕ → Defined → ℕ → Type 0
@@ -59,7 +60,7 @@ pub record IsOfGrammar (cells : List Cell) (root : ℕ) (combined : List Combine
   pub grammar : ℕ
   pub name : Defined
   pub stands : IsStanding cells root grammar
-  pub joined : IsCombined cells combined grammar name number
+  pub is_combined : IsCombined cells combined grammar name number
 
 -- this node is an element that stands in the schema, and is linked to the number
 pub record IsNumbered (cells : List Cell) (root : ℕ) (found : Resolved) (number i : ℕ) : Type 0 where
@@ -109,7 +110,7 @@ cell_leads count link (cell.one_or_more part) = part ∷ []
 cell_leads count link (cell.joined sign first second) = first ∷ second ∷ []
 
 abbrev pub combined_leads : Option Combined → List ℕ
-combined_leads (Some join) = join.bodies.items
+combined_leads (Some combination) = combination.bodies.items
 combined_leads None = []
 
 abbrev pub leads_if : List Cell → Resolved → ℕ → Option Cell → List ℕ

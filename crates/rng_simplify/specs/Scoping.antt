@@ -1,5 +1,7 @@
 -- What is known while references are resolved: the nodes behind some number are taken, each with what stands around it.
-use Rattle.std.specs.Prelude.{◌≡◌, ◌≢◌, ℕ, ◌<◌, ◌≤◌, Bool, true, false, List, [], ◌∷◌, ◌++◌, length, set, replicate, slice_get, slice_index, slice_index_or, Option, Some, None, Result, Ok, Err, Contains, Vec}
+use Rattle.std.specs.Prelude.{◌≡◌, ◌≢◌, ℕ, ◌<◌, ◌≤◌, Bool, true, false, List, [], ◌∷◌, ◌++◌, length, set, replicate}
+use Rattle.std.specs.Prelude.{slice_get, slice_index, slice_index_or, Option, Some, None, Result, Ok, Err, Contains}
+use Rattle.std.specs.Prelude.{Vec}
 use Rattle.std.specs.List.{list_any}
 use Rattle.std.specs.declared.alloc.Global.{Global}
 use Rattle.rng_core.specs.Names.{Class}
@@ -29,9 +31,9 @@ use Rattle.rng_simplify.specs.Resolving.{clauses_of, combines_of, IsCombined, Is
 -- ---- combined definitions
 
 -- how definitions are combined is what these say
-pub record HasSigns (combines : List Combine) (join : Combined) : Type 0 where
-  pub combine_is : join.combine ≡ combine_of combines
-  pub alone_is : join.has_alone ≡ list_any is_alone combines
+pub record HasSigns (combines : List Combine) (combination : Combined) : Type 0 where
+  pub combine_is : combination.combine ≡ combine_of combines
+  pub alone_is : combination.has_alone ≡ list_any is_alone combines
   pub no_clash : clash combines ≡ false
 
 -- what two say together, if they don't say it in two ways
@@ -55,16 +57,17 @@ AddsTo combine body old new (Err (Unreadable cause.CombineClash)) = (combines : 
 AddsTo combine body old new (Err other) = ⊥
 
 -- these definitions of a name, combined
-pub record IsCombinedOf (clauses : List Clause) (join : Combined) : Type 0 where
+pub record IsCombinedOf (clauses : List Clause) (combination : Combined) : Type 0 where
   pub some : clauses ≢ []
-  pub bodies_are : join.bodies.items ≡ bodies_of clauses
-  pub signs : HasSigns (combines_of clauses) join
+  pub bodies_are : combination.bodies.items ≡ bodies_of clauses
+  pub signs : HasSigns (combines_of clauses) combination
 
 -- the combined definitions of a name are behind others
 abbrev pub IsGatheredAs : ℕ → List Clause → List Combined → Defined → Option ℕ → Type 0
 IsGatheredAs first clauses combined name None = clauses_of name clauses ≡ []
 IsGatheredAs first clauses combined name (Some number) =
-    (join : Combined) × (first ≤ number) × (slice_get combined number ≡ Some join) × IsCombinedOf (clauses_of name clauses) join
+    (combination : Combined) × (first ≤ number) × (slice_get combined number ≡ Some combination)
+    × IsCombinedOf (clauses_of name clauses) combination
 
 -- the names that are defined have their combined definitions, which are those from a number on
 pub record IsGathered (first : ℕ) (clauses : List Clause) (names : Names ℕ) (combined : List Combined) : Type 0 where
@@ -152,9 +155,9 @@ combined_in tables (In k) name = combined_of_table name (slice_get tables k)
 
 -- a reference is linked to these combined definitions
 abbrev pub Links : {A : Type 0} → ℕ → Option ℕ → Findings → Findings → Result A SchemaFault → Type 0
-Links i (Some join) old new (Ok done) = new ≡ with_link i join old
+Links i (Some number) old new (Ok done) = new ≡ with_link i number old
 Links i None old new (Err (Unreadable cause.NoDefinition)) = Unit {0}
-Links i join old new result = ⊥
+Links i number old new result = ⊥
 
 -- a grammar is taken, of which these are the names
 pub record HasTable (i : ℕ) (outer : Scope) (clauses : List Clause) (old new : Findings) : Type 0 where
@@ -198,7 +201,8 @@ pub record IsTable (cells : List Cell) (combined : List Combined) (grammar : ℕ
 -- a scope is these grammars
 pub data IsScope (cells : List Cell) (combined : List Combined) (tables : List Table) : Scope → List ℕ → Type 0 where
   outside : IsScope cells combined tables Outside []
-  inside : {k grammar : ℕ} {table : Table} {outers : List ℕ} → slice_get tables k ≡ Some table → IsTable cells combined grammar table.combined →
+  inside : {k grammar : ℕ} {table : Table} {outers : List ℕ} →
+      slice_get tables k ≡ Some table → IsTable cells combined grammar table.combined →
       IsScope cells combined tables table.outer outers → IsScope cells combined tables (In k) (grammar ∷ outers)
 
 -- the node stands in the schema, in the grammars of the scope

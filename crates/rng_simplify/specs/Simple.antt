@@ -8,7 +8,8 @@ use Rattle.rnc_parse.specs.Written.{joined}
 use Rattle.rng_core.specs.Names.{Class}
 use Rattle.rng_simplify.specs.Composed.{Composed, Clauses, defining, combines, bodies}
 use Rattle.rng_simplify.specs.Composed as composed
-use Rattle.rng_simplify.specs.Forms.{Form, Value, list_of, attribute_of, one_or_more_of, choice_of, group_of, interleave_of, combine_of, join_of, values_of}
+use Rattle.rng_simplify.specs.Forms.{Form, Value, list_of, attribute_of, one_or_more_of, choice_of, group_of}
+use Rattle.rng_simplify.specs.Forms.{interleave_of, combine_of, join_of, values_of}
 use Rattle.rng_simplify.specs.Forms as form
 
 mutual

@@ -1,5 +1,6 @@
 -- Patterns that spell out shapes, and the work that is left of one.
-use Rattle.std.specs.Prelude.{◌≡◌, ℕ, ◌*◌, ◌<◌, ◌^◌, sum_by, List, [], ◌∷◌, ◌++◌, length, map, reverse, slice_get, slice_index, Option, Some, Result, Ok, Err}
+use Rattle.std.specs.Prelude.{◌≡◌, ℕ, ◌*◌, ◌<◌, ◌^◌, sum_by, List, [], ◌∷◌, ◌++◌, length, map, reverse, slice_get}
+use Rattle.std.specs.Prelude.{slice_index, Option, Some, Result, Ok, Err}
 use Rattle.rnc_parse.specs.declared.surface.TypeName.{TypeName}
 use Rattle.rng_core.specs.declared.grammar.Pat.{Pat}
 use Rattle.rng_core.specs.declared.grammar.Def.{Def}

@@ -1,5 +1,6 @@
 -- Types of nodes: what their names stand for, and what is taken from them.
-use Rattle.std.specs.Prelude.{◌≡◌, ◌≢◌, ℕ, ◌<◌, ◌≤◌, ◌⊎◌, List, [], ◌∷◌, ◌++◌, length, map, slice_get, slice_index, slice_index_or, Option, Some, None, Result, Ok, Err, Vec, Contains}
+use Rattle.std.specs.Prelude.{◌≡◌, ◌≢◌, ℕ, ◌<◌, ◌≤◌, ◌⊎◌, List, [], ◌∷◌, ◌++◌, length, map, slice_get, slice_index}
+use Rattle.std.specs.Prelude.{slice_index_or, Option, Some, None, Result, Ok, Err, Vec, Contains}
 use Rattle.std.specs.declared.alloc.Global.{Global}
 use Rattle.std.specs.List.{AllByRecursion}
 use Rattle.nx_base.specs.declared.cause.Cause.{Cause}

@@ -1,5 +1,7 @@
 -- A walk over the nodes and combined definitions of a schema, depth first, each of them behind all that it leads to.
-use Rattle.std.specs.Prelude.{◌≡◌, ◌≢◌, ℕ, ◌+◌, ◌-◌, ◌*◌, ◌<◌, ◌≤◌, ◌⊎◌, Bool, true, false, List, [], ◌∷◌, ◌++◌, length, set, take, sum_by, count_by, slice_get, slice_index_or, Option, Some, None, Result, Ok, Err, Contains}
+use Rattle.std.specs.Prelude.{◌≡◌, ◌≢◌, ℕ, ◌+◌, ◌-◌, ◌*◌, ◌<◌, ◌≤◌, ◌⊎◌, Bool, true, false, List, [], ◌∷◌, ◌++◌, length}
+use Rattle.std.specs.Prelude.{set, take, sum_by, count_by, slice_get, slice_index_or, Option, Some, None, Result, Ok}
+use Rattle.std.specs.Prelude.{Err, Contains}
 use Rattle.nx_base.specs.declared.cause.Cause.TheVariants as cause
 use Rattle.rng_simplify.specs.declared.fault.SchemaFault.{SchemaFault}
 use Rattle.rng_simplify.specs.declared.fault.SchemaFault.TheVariants.{NoMemory, Unreadable}
@@ -112,7 +114,7 @@ is_new Done = false
 
 -- more than any node or combined definitions lead to
 abbrev pub most : Resolved → ℕ
-most found = 4 + sum_by (λ (join : Combined). length join.bodies.items) found.combined.items
+most found = 4 + sum_by (λ (combination : Combined). length combination.bodies.items) found.combined.items
 
 -- what is left to do at a step
 abbrev pub left_at : List Cell → Resolved → Step → ℕ

@@ -8,7 +8,9 @@ ghost use Rattle.rng_simplify.specs.Cells.{cell_of};
 ghost use Rattle.rng_simplify.specs.Forming.{IsKnown};
 ghost use Rattle.rng_simplify.specs.Limiting.{AreElements, IsElement, content_of};
 ghost use Rattle.rng_simplify.specs.Typing.{IsValue};
-ghost use Rattle.rng_simplify.specs.Spelling.{IsReady, HasAttribute, HasType, Leaves, IsAttribute, IsLiteral, IsTyped, BuildsPattern, IsUnderWay, Does, BuildsDefinition, Builds, joined_pattern};
+ghost use Rattle.rng_simplify.specs.Spelling.{IsReady, HasAttribute, HasType, Leaves, IsAttribute, IsLiteral, IsTyped};
+ghost use Rattle.rng_simplify.specs.Spelling.{BuildsPattern, IsUnderWay, Does, BuildsDefinition, Builds};
+ghost use Rattle.rng_simplify.specs.Spelling.{joined_pattern};
 
 use crate::fault::SchemaFault;
 use crate::form::Forms;
@@ -118,7 +120,8 @@ impl Builder<'_> {
         requires under_way { (root : ℕ) × IsUnderWay
             (map cell_of self.now.nodes.now) self.now.types.now self.now.forms.now.shapes root
             (tasks.old.items ++ task ∷ []) built.old.items }
-        ensures { Does (map cell_of self.now.nodes.now) self.now.types.now self.now.forms.now.shapes task tasks.old.items tasks.new.items built.old.items built.new.items result }
+        ensures { Does (map cell_of self.now.nodes.now) self.now.types.now self.now.forms.now.shapes task
+            tasks.old.items tasks.new.items built.old.items built.new.items result }
     {
         match task {
             Task::Spell(shape) => self.spell(shape, tasks, built),

@@ -8,7 +8,10 @@ ghost use Rattle.rng_simplify.specs.Breaking.{cells_of, OkOrRefused};
 ghost use Rattle.rng_simplify.specs.Cells.{cell_of};
 ghost use Rattle.rng_simplify.specs.Judging.{JudgesCell, IsGoodAt, AreGood};
 ghost use Rattle.rng_simplify.specs.Resolving.{IsResolved};
-ghost use Rattle.rng_simplify.specs.Classes.{namespace_in as namespace_in_file, class_in as class_in_file, has_any_name as has_any_name_in, has_ns_name as has_ns_name_in, may_not_lose as may_not_lose_from, has_bad_except as has_bad_except_in, names_namespace as names_namespace_in, names_xmlns as names_xmlns_in};
+ghost use Rattle.rng_simplify.specs.Classes.{namespace_in as namespace_in_file, class_in as class_in_file};
+ghost use Rattle.rng_simplify.specs.Classes.{has_any_name as has_any_name_in, has_ns_name as has_ns_name_in};
+ghost use Rattle.rng_simplify.specs.Classes.{may_not_lose as may_not_lose_from, has_bad_except as has_bad_except_in};
+ghost use Rattle.rng_simplify.specs.Classes.{names_namespace as names_namespace_in, names_xmlns as names_xmlns_in};
 ghost use Rattle.rng_simplify.specs.Seeing.{written_classes, choice_and, JudgesElementClass, JudgesAttributeClass};
 
 use crate::compose::Whole;

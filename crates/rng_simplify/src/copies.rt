@@ -4,24 +4,29 @@
 //! What is copied is counted before memory is spent on it. A name, a wildcard, a param, an except and a value are a part each,
 //! and one more for each 64 bytes of their texts.
 
-ghost use Rattle.std.specs.Prelude.{ℕ, ◌<◌, ◌≡◌, length, map, IfOk};
-ghost use Rattle.rng_simplify.specs.Cells.{cell_of};
+ghost use Rattle.std.specs.Prelude.{ℕ, ◌<◌, ◌≡◌, length, map, IfOk, Contains};
+ghost use Rattle.rng_simplify.specs.Cells.{cell_of, Cell};
+ghost use Rattle.rng_simplify.specs.Denoting.{IsCell};
 ghost use Rattle.rng_simplify.specs.Forming.{IsKnown};
 ghost use Rattle.rng_simplify.specs.Limiting.{AreElements};
 ghost use Rattle.rng_simplify.specs.Shown.{IsBehindParts};
+ghost use Rattle.rng_simplify.specs.Standing.{cell_parts};
+ghost use Rattle.rng_simplify.specs.Typing.{AreKnown};
 
 use crate::form::Forms;
 use crate::limit::content;
 use crate::node::Node;
+use crate::order::Place;
 use crate::shape::{Shape, ShapeNumber, Shapes};
-use crate::types::NodeType;
+use crate::types::{MOST_EXCEPTS, NodeType};
 use nx_base::memory::NoMemory;
 use rnc_parse::surface::Param;
 use rng_core::name_class::NameClass;
 use rng_types::datatype::Except;
 use std::alloc::Global;
 
-/// The most parts that are copied into a grammar. Where there are more, simplifying answers want of memory.
+/// The most parts that are copied into a grammar, and into its types before that. Where there are more, simplifying answers
+/// want of memory.
 pub const MOST_PARTS: u64 = 8_000_000;
 
 /// For how many bytes of a text one part more is counted.
@@ -48,6 +53,68 @@ pub(crate) fn check_copies(
         Err(NoMemory)
     } else {
         Ok(())
+    }
+}
+
+/// Refuses to copy what the types of an order take away, each of them once, where that is too much.
+pub(crate) fn check_excepts(
+    alloc: Global,
+    nodes: &[Node],
+    forms: &Forms,
+    order: &[Place],
+) -> Result<(), NoMemory>
+    requires { AreKnown (map cell_of nodes.now) order.now forms.now }
+{
+    let no_types: &[Option<NodeType>] = &[];
+    let parts = parts_of_shapes(alloc, nodes, no_types, &forms.shapes)?;
+    let mut count: u64 = 0;
+    for i in order {
+        count = count.saturating_add(parts_taken_at(nodes, forms, parts.as_slice(), *i));
+    }
+    if count > MOST_PARTS {
+        Err(NoMemory)
+    } else {
+        Ok(())
+    }
+}
+
+/// The parts of what is taken from the type of a node at this place, if it is one of a type.
+fn parts_taken_at(nodes: &[Node], forms: &Forms, parts: &[u64], i: Place) -> u64
+    requires known { (c : Cell) → IsCell (map cell_of nodes.now) i c → (j : ℕ) → Contains (cell_parts c) j
+        → IsKnown forms.now.shapes forms.now.of.items j }
+    requires all { length parts.now ≡ length forms.now.shapes }
+{
+    if i < nodes.len() {
+        parts_taken(&nodes[i], forms, parts)
+    } else {
+        0
+    }
+}
+
+/// The parts of what is taken from the type of a node, if it is one of a type. Where too many values are taken, that is
+/// refused, and nothing is copied.
+fn parts_taken(node: &Node, forms: &Forms, parts: &[u64]) -> u64
+    requires known { (j : ℕ) → Contains (cell_parts (cell_of node.now)) j → IsKnown forms.now.shapes forms.now.of.items j }
+    requires all { length parts.now ≡ length forms.now.shapes }
+{
+    match node {
+        Node::Typed(_, _, except) => {
+            let number = forms.of(*except);
+            if are_few(forms.shapes.size(number).values) {
+                parts_at(parts, number)
+            } else {
+                0
+            }
+        }
+        _ => 0,
+    }
+}
+
+/// Whether a choice of values is one of no more than may be taken from a type.
+fn are_few(values: Option<u64>) -> bool {
+    match values {
+        Some(count) => count <= MOST_EXCEPTS,
+        None => false,
     }
 }
 

@@ -1,8 +1,10 @@
 //! Laws of composing and of simple forms. Nothing here runs.
 
-ghost use Rattle.rng_simplify.specs.Agreeing.{SimpleFormIsOne, SchemaFormIsOne, GrammarIsOne, PieceIsOne, ComposedArePassed, SimplifiedIsNotBroken, GrammarIsNoRefusal};
+ghost use Rattle.rng_simplify.specs.Agreeing.{SimpleFormIsOne, SchemaFormIsOne, GrammarIsOne, PieceIsOne};
+ghost use Rattle.rng_simplify.specs.Agreeing.{ComposedArePassed, SimplifiedIsNotBroken, GrammarIsNoRefusal};
 ghost use Rattle.rng_simplify.specs.Exact.{PieceIsSimplifiedOrBroken, NumbersAreFree, SimplifiedOrBroken};
-ghost use Rattle.rng_simplify.specs.Composition.{NoPieceIsMissing, MadeIsWellFormed, MadeIsText, WellFormedDenotes, MadeIsComposed, RefusedIsBroken};
+ghost use Rattle.rng_simplify.specs.Composition.{NoPieceIsMissing, MadeIsWellFormed, MadeIsText, WellFormedDenotes};
+ghost use Rattle.rng_simplify.specs.Composition.{MadeIsComposed, RefusedIsBroken};
 ghost use Rattle.rng_simplify.specs.Supplying.{PatternsAreComposed};
 
 use nx_host::uri::{joins_is_decided, texts_join_or_are_bad};
@@ -79,7 +81,7 @@ pub fn simplified_is_not_broken()
     joins_is_decided();
 }
 
-/// Files that have a grammar are refused for want of memory alone, or where they could not be had.
+/// Files that have a grammar are refused by another call for want of memory alone, or where a file could not be had.
 pub fn grammar_is_no_refusal()
     ensures { GrammarIsNoRefusal }
 {

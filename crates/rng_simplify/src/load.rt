@@ -6,7 +6,8 @@ ghost use Rattle.std.specs.Str.{bytes_eq};
 ghost use Rattle.rng_simplify.specs.declared.load.Link.{Link as TheLink};
 ghost use Rattle.rng_simplify.specs.Loading.{Loads, unread_as, SaysBytes, IsAbsence, Fetches, ReadsFile};
 ghost use Rattle.rng_simplify.specs.Mentioning.{IsTextMention};
-ghost use Rattle.rng_simplify.specs.Following.{IsAdded, IsUnderWay, uris_of, JoinsUri, IsBadText, NextUri, OpensFile, GoesOn, Follows, IsTextLink, AreTextLinks, AreOpened};
+ghost use Rattle.rng_simplify.specs.Following.{IsAdded, IsUnderWay, uris_of, MakesUri, IsBadText, NextUri, OpensFile};
+ghost use Rattle.rng_simplify.specs.Following.{GoesOn, Follows, IsTextLink, AreTextLinks, AreOpened};
 
 use crate::fault::SchemaFault;
 use crate::mention::{Mention, mentions_of};
@@ -152,7 +153,7 @@ fn file_at<F: Files>(alloc: Global, uri: &Bytes, files: &mut F) -> Result<Surfac
 fn resolved(alloc: Global, base: &Bytes, text: &Bytes) -> Result<Bytes, SchemaFault>
     requires base_is_text { IsUtf8 base.now }
     requires text_is_text { IsUtf8 text.now }
-    ensures { JoinsUri base.now text.now result }
+    ensures { MakesUri base.now text.now result }
 {
     match uri::join(alloc, text_of(base), text_of(text)) {
         Ok(uri) => Ok(uri),
@@ -195,7 +196,8 @@ impl Loader {
     fn add(&mut self, uri: Bytes, inherited: Bytes, surface: Surface) -> Result<(), NoMemory>
         requires { AreOpened self.old.opened (reverse self.old.chain.items) }
         ensures known { IfOk result (λ _. AreOpened self.new.opened (reverse self.new.chain.items)) }
-        ensures added { IfOk result (λ _. IsAdded uri inherited surface self.old.chain.items self.new.chain.items self.old.loaded.items self.new.loaded.items) }
+        ensures added { IfOk result (λ _. IsAdded uri inherited surface
+            self.old.chain.items self.new.chain.items self.old.loaded.items self.new.loaded.items) }
     {
         let waiting = mentions_of(self.alloc, &inherited, &surface)?;
         self.opened.add_named(&uri, ())?;
@@ -230,7 +232,8 @@ impl Loader {
         ensures known { IfOk result (λ _. AreOpened self.new.opened (reverse self.new.chain.items)) }
         ensures texts { IfOk result (λ _. AreTextLinks (reverse self.new.chain.items)) }
         ensures goes_on { (uri : List ℕ) → IsUnderWay (F.told files.old) uri (link ∷ reverse self.old.chain.items) self.old.loaded.items
-            → GoesOn (F.told files.old) uri (F.faults files.old) (F.faults files.new) (reverse self.new.chain.items) self.new.loaded.items result }
+            → GoesOn (F.told files.old) uri (F.faults files.old) (F.faults files.new)
+            (reverse self.new.chain.items) self.new.loaded.items result }
         ensures faults { IfOk result (λ _. F.faults files.new ≡ F.faults files.old) }
         ensures map { F.told files.new ≡ F.told files.old }
     {
@@ -257,7 +260,8 @@ impl Loader {
         ensures goes_on { (uri : List ℕ) (before : TheLink) → before.uri ≡ link.uri
             → reverse before.waiting.items ≡ mention ∷ reverse link.waiting.items
             → IsUnderWay (F.told files.old) uri (before ∷ reverse self.old.chain.items) self.old.loaded.items
-            → GoesOn (F.told files.old) uri (F.faults files.old) (F.faults files.new) (reverse self.new.chain.items) self.new.loaded.items result }
+            → GoesOn (F.told files.old) uri (F.faults files.old) (F.faults files.new)
+            (reverse self.new.chain.items) self.new.loaded.items result }
         ensures faults { IfOk result (λ _. F.faults files.new ≡ F.faults files.old) }
         ensures map { F.told files.new ≡ F.told files.old }
     {

@@ -4,7 +4,8 @@ ghost use Rattle.std.specs.Prelude.{◌≡◌, ◌++◌, ◌∷◌, [], reverse,
 ghost use Rattle.rnc_parse.specs.Views.{pattern_of, item_of, items_in, replacement_of, replacements_in, surface_of};
 ghost use Rattle.rng_simplify.specs.Classes.{namespace_in as namespace_in_file};
 ghost use Rattle.rng_simplify.specs.Mentioning.{kept_of_all, mentions_of_each};
-ghost use Rattle.rng_simplify.specs.References.{mentions, mentions_of as mentions_of_file, mentions_of_item, mentions_of_items, mentions_of_replacement, mentions_anew};
+ghost use Rattle.rng_simplify.specs.References.{mentions, mentions_of as mentions_of_file, mentions_of_item};
+ghost use Rattle.rng_simplify.specs.References.{mentions_of_items, mentions_of_replacement, mentions_anew};
 
 use nx_base::memory::NoMemory;
 use nx_base::sequence::{Bytes, TryCopy};
@@ -65,7 +66,9 @@ fn add_reference(
     reference: &FileReference,
     found: &mut Vec<Mention>,
 ) -> Result<(), NoMemory>
-    ensures { IfOk result (λ _. found.new.items ≡ found.old.items ++ record { text = reference.now.uri; inherited = namespace_in_file inherited.now reference.now.namespace } ∷ []) }
+    ensures { IfOk result (λ _. found.new.items
+        ≡ found.old.items
+        ++ record { text = reference.now.uri; inherited = namespace_in_file inherited.now reference.now.namespace } ∷ []) }
 {
     let text = reference.uri.copy()?;
     let inherited = namespace_in(inherited, &reference.namespace)?;

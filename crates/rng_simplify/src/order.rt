@@ -9,7 +9,8 @@ ghost use Rattle.rng_simplify.specs.Breaking.{cells_of, OkOrRefused};
 ghost use Rattle.rng_simplify.specs.Cells.{cell_of};
 ghost use Rattle.rng_simplify.specs.Resolving.{IsResolved, IsOrdered, leads};
 ghost use Rattle.rng_simplify.specs.Standing.{AreWellFormed, cell_parts, IsStanding};
-ghost use Rattle.rng_simplify.specs.Walking.{IsMet, is_linked as is_linked_cell, walking_of, mark_at, with_step, left, Meets, IsWalk, KeepsMarks, IsTurned, IsGone, IsPassed};
+ghost use Rattle.rng_simplify.specs.Walking.{IsMet, is_linked as is_linked_cell, walking_of, mark_at, with_step, left};
+ghost use Rattle.rng_simplify.specs.Walking.{Meets, IsWalk, KeepsMarks, IsTurned, IsGone, IsPassed};
 
 use crate::compose::Whole;
 use crate::fault::SchemaFault;

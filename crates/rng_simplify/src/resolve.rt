@@ -10,7 +10,10 @@ ghost use Rattle.rng_simplify.specs.Breaking.{cells_of, OkOrRefused};
 ghost use Rattle.rng_simplify.specs.Cells.{cell_of};
 ghost use Rattle.rng_simplify.specs.Keeping.{kept_for};
 ghost use Rattle.rng_simplify.specs.Resolving.{IsResolved};
-ghost use Rattle.rng_simplify.specs.Scoping.{AddsTo, both_say, HasSigns, IsGathered, GathersOne, Gathers, given, with_given, findings_of, findings_at_first, outer_in, combined_in, Links, TakesGrammar, TakesCell, IsMidway, numbering_of, with_number, with_numbered, AreNumbered};
+ghost use Rattle.rng_simplify.specs.Scoping.{AddsTo, both_say, HasSigns, IsGathered, GathersOne, Gathers, given};
+ghost use Rattle.rng_simplify.specs.Scoping.{with_given, findings_of, findings_at_first, outer_in, combined_in, Links};
+ghost use Rattle.rng_simplify.specs.Scoping.{TakesGrammar, TakesCell, IsMidway, numbering_of, with_number};
+ghost use Rattle.rng_simplify.specs.Scoping.{with_numbered, AreNumbered};
 ghost use Rattle.rng_simplify.specs.Standing.{AreWellFormed, bodies_of, inner_nodes};
 
 use crate::compose::Whole;
@@ -212,7 +215,7 @@ fn two_alone(has_alone: bool, combine: Combine) -> bool
 impl Combined {
     /// One definition alone.
     fn of(alloc: Global, combine: Combine, body: usize) -> Result<Combined, NoMemory>
-        ensures { IfOk result (λ join. (join.bodies.items ≡ body ∷ []) × HasSigns (combine ∷ []) join) }
+        ensures { IfOk result (λ made. (made.bodies.items ≡ body ∷ []) × HasSigns (combine ∷ []) made) }
     {
         let mut bodies = Vec::new(alloc);
         bodies.push(body)?;

@@ -6,7 +6,8 @@
 
 ghost use Rattle.std.specs.Prelude.{◌≡◌, ◌≢◌, ◌<◌, ℕ, [], Some, length, slice_get};
 ghost use Rattle.rng_simplify.specs.Forms.{list_of, attribute_of, one_or_more_of};
-ghost use Rattle.rng_simplify.specs.Shown.{size_alone, size_around, size_beside, values_beside, class_in, joined_of, IsBehindParts, IsSizeAt, IsSizeOf, head_by, IsHeadAt, Shows, Adds};
+ghost use Rattle.rng_simplify.specs.Shown.{size_alone, size_around, size_beside, values_beside, class_in, joined_of};
+ghost use Rattle.rng_simplify.specs.Shown.{IsBehindParts, IsSizeAt, IsSizeOf, head_by, IsHeadAt, Shows, Adds};
 ghost use Rattle.rng_simplify.specs.declared.shape.Shape.TheVariants as variant;
 ghost use Rattle.rng_simplify.specs.declared.node.Sign.TheVariants as signs;
 

@@ -963,6 +963,24 @@ fn copies_have_a_limit(rt: HostRuntime) -> Result<(), Fail> {
     compare_doubled(&rt, rt.alloc(), COPIES, first.as_str(), "|")
 }
 
+/// How a schema ends with so many types that nothing refers to, each of which takes 128 values of 64,000 bytes away.
+fn ending_of_long_excepts(alloc: Global, count: usize) -> Result<String, Fail> {
+    let value = "v".repeat(alloc, 64_000)?;
+    let first = format!(in alloc; "\"{value}\"")?;
+    let types = ", string - x7".repeat(alloc, count)?;
+    let start = format!(in alloc; "empty y = list {{ empty{types} }}")?;
+    ending_of_doubled(alloc, start.as_str(), first.as_str(), "|")
+}
+
+#[test]
+fn long_excepts_have_a_limit(rt: HostRuntime) -> Result<(), Fail> {
+    for (count, want) in &[(2, "a grammar"), (63, "NoMemory")] {
+        let found = ending_of_long_excepts(rt.alloc(), *count)?;
+        assert_eq!(rt; found.as_str(), *want, "at {count}");
+    }
+    Ok(())
+}
+
 /// Adds a file that includes the next one.
 fn add_link(alloc: Global, files: &mut SureFiles, i: usize) -> Result<(), Fail> {
     let next = i.saturating_add(1);

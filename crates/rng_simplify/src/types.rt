@@ -11,8 +11,11 @@ ghost use Rattle.rng_simplify.specs.Datatypes.{params_of, MayWrite, builtin_stri
 ghost use Rattle.rng_simplify.specs.Forming.{IsKnown};
 ghost use Rattle.rng_simplify.specs.Shown.{AreOfSchema};
 ghost use Rattle.rng_simplify.specs.Standing.{cell_parts};
-ghost use Rattle.rng_simplify.specs.Typing.{IsRefusalOf, Names, NamesValue, IsValue, AreValues, value_of, Lists, TakesBehind, TakesFrom, Takes, MakesValueType, MakesTypeTaken, MakesType, SetsType, MakesTypes, AreKnown};
+ghost use Rattle.rng_simplify.specs.Typing.{IsRefusalOf, Names, NamesValue, IsValue, AreValues, value_of, Lists};
+ghost use Rattle.rng_simplify.specs.Typing.{TakesBehind, TakesFrom, Takes, MakesValueType, MakesTypeTaken, MakesType};
+ghost use Rattle.rng_simplify.specs.Typing.{SetsType, MakesTypes, AreKnown};
 
+use crate::copies::check_excepts;
 use crate::fault::SchemaFault;
 use crate::form::Forms;
 use crate::node::{Node, Sign};
@@ -353,6 +356,7 @@ fn no_types(alloc: Global, count: usize) -> Result<Vec<Option<NodeType>>, NoMemo
 }
 
 /// The types of the nodes of an order that have one, in order, so that what is taken from a type is known before the type.
+/// What they take away is counted before memory is spent on it.
 pub(crate) fn types_of(
     alloc: Global,
     nodes: &[Node],
@@ -364,6 +368,7 @@ pub(crate) fn types_of(
     requires known { AreKnown (map cell_of nodes.now) order.now forms.now }
     ensures { MakesTypes (map cell_of nodes.now) order.now forms.now result }
 {
+    check_excepts(alloc, nodes, forms, order)?;
     let mut types = no_types(alloc, nodes.len())?;
     for i in order {
         set_type(&mut types, alloc, nodes, forms, *i)?;

@@ -1,7 +1,7 @@
 use Rattle.std.proofs.Common.{◌≡◌, ◌-◌, ◌<◌, ◌≤◌, sym, ◌∙◌, length, arith}
 use Rattle.std.proofs.lemmas.List.{get_or_read, length-map}
 use Rattle.rng_simplify.specs.Cells.{cell_of}
-use Rattle.rng_simplify.proofs.WalkTurns.{leads_linked, leads_parts, leads_bodies, link_fits, join_there}
+use Rattle.rng_simplify.proofs.WalkTurns.{leads_linked, leads_parts, leads_bodies, link_fits, combination_there}
 use Rattle.rng_simplify.proofs.order.next.Goals as goal
 
 pub overflow_add-len : goal.overflow_add-len
@@ -18,7 +18,7 @@ pub index-requires-else-node-len : goal.index-requires-else-node-len
 index-requires-else-node-len c =
     let nodes = c.args.whole.now.nodes.items in
     let past : length nodes ≤ c.args.node = omega (arith, c.if-node-len.false, c.len.ensures, c.args.whole.now.nodes.ok.0) in
-    let there = join_there nodes c.args.whole.now.root c.args.found.now c.args.node c.requires.formed c.requires.met past in
+    let there = combination_there nodes c.args.whole.now.root c.args.found.now c.args.node c.requires.formed c.requires.met past in
     omega (arith, there, c.len-else-node-len.ensures, c.args.whole.now.nodes.ok.0, c.args.found.now.combined.ok.0)
 
 pub returns-then-is_linked-clause-next_is : goal.returns-then-is_linked-clause-next_is
@@ -39,6 +39,6 @@ pub returns-else-node-len-clause-next_is : goal.returns-else-node-len-clause-nex
 returns-else-node-len-clause-next_is c =
     let nodes = c.args.whole.now.nodes.items in
     let past : length nodes ≤ c.args.node = omega (arith, c.if-node-len.false, c.len.ensures, c.args.whole.now.nodes.ok.0) in
-    let there = join_there nodes c.args.whole.now.root c.args.found.now c.args.node c.requires.formed c.requires.met past in
+    let there = combination_there nodes c.args.whole.now.root c.args.found.now c.args.node c.requires.formed c.requires.met past in
     let number : c.args.node - c.len-else-node-len.result ≡ c.args.node - length nodes = omega (arith, c.len-else-node-len.ensures, c.args.whole.now.nodes.ok.0) in
     c.body.ensures.body_is ∙ leads_bodies nodes c.args.found.now c.args.node (c.args.node - c.len-else-node-len.result) c.args.k c.index-else-node-len.result.now past number (omega (arith, number, there)) c.index-else-node-len.ensures
