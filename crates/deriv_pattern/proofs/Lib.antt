@@ -1,0 +1,4 @@
+pub mod InOrder
+pub mod Opened
+pub mod Needed
+pub mod Same

@@ -1,0 +1,4 @@
+pub mod Leaves
+pub mod Opened
+pub mod Choosing
+pub mod Mentions

@@ -1,0 +1,178 @@
+//! What is left of a pattern behind a string: a given one, or some one that isn't blank.
+
+ghost use Rattle.std.specs.Prelude.{◌≡◌, ◌≤◌, length, IfOk, IsTrue};
+ghost use Rattle.std.specs.List.{list_all};
+ghost use Rattle.std.specs.Str.{is_utf8};
+ghost use Rattle.rng_types.specs.Spaces.{words};
+ghost use Rattle.rng_types.specs.Types.{Accepts};
+ghost use Rattle.rng_types.specs.WellMade.{is_well_made, is_sound_except};
+ghost use Rattle.rng_core.specs.Meaning.{pattern_of};
+ghost use Rattle.rng_kept.specs.Nullable.{nullable as is_nullable};
+ghost use Rattle.rng_kept.specs.Strings as s;
+ghost use Rattle.deriv_pattern.specs.Leaves.{IsInOrder};
+ghost use Rattle.deriv_pattern.specs.Choosing.{tests_of};
+
+use crate::boxes::{boxed_copy, boxed_end, boxed_not_allowed};
+use crate::leaves::{has_solid, has_words, is_data, is_solid, is_value};
+use crate::parts::{either_side, first_of_many, first_side, one_of_interleave};
+use crate::small::{either, nullable};
+use nx_base::memory::NoMemory;
+use nx_base::sequence::Bytes;
+use rng_core::grammar::Pat;
+use rng_types::datatype::{Datatype, Excepts};
+use rng_types::spaces::first_word;
+use std::alloc::Global;
+
+/// Behind a word of a list, in which no list stands.
+fn after_word(alloc: Global, word: &str, p: &Pat) -> Result<Box<Pat>, NoMemory>
+    requires { IsInOrder (pattern_of p.now) }
+    ensures { IfOk result (λ left. pattern_of left.value ≡ s.after_word word.now (pattern_of p.now)) }
+{
+    match p {
+        Pat::NotAllowed => boxed_not_allowed(alloc),
+        Pat::Empty => boxed_not_allowed(alloc),
+        Pat::Text => boxed_copy(alloc, p),
+        Pat::Typed(datatype, excepts) => boxed_end(alloc, is_data(datatype, excepts, word)),
+        Pat::Value(datatype, wanted) => boxed_end(alloc, is_value(datatype, wanted, word)),
+        Pat::List(_) => boxed_not_allowed(alloc),
+        Pat::Attribute(_, _) => boxed_not_allowed(alloc),
+        Pat::Ref(_) => boxed_not_allowed(alloc),
+        Pat::OneOrMore(body) => {
+            let left = after_word(alloc, word, body)?;
+            first_of_many(alloc, left, body)
+        }
+        Pat::Choice(a, b) => {
+            let left = after_word(alloc, word, a)?;
+            either(alloc, left, after_word(alloc, word, b)?)
+        }
+        Pat::Group(a, b) => {
+            let left = after_word(alloc, word, a)?;
+            if !nullable(a) {
+                return first_side(alloc, left, b);
+            }
+            let second = after_word(alloc, word, b)?;
+            either_side(alloc, left, b, second)
+        }
+        Pat::Interleave(a, b) => {
+            let left = after_word(alloc, word, a)?;
+            let second = after_word(alloc, word, b)?;
+            one_of_interleave(alloc, left, a, b, second)
+        }
+    }
+}
+
+/// Whether the words of a text match the body of a list.
+#[tactic(auto, using(crate::proofs::InOrder::word_in_order))]
+fn words_match(alloc: Global, text: &str, body: &Pat) -> Result<bool, NoMemory>
+    requires { IsInOrder (pattern_of body.now) }
+    ensures { IfOk result (λ found. found ≡ is_nullable (s.after_words (words text.now) (pattern_of body.now))) }
+{
+    let mut left = boxed_copy(alloc, body)?;
+    let mut rest = text;
+    while let Some((word, more)) = first_word(rest) {
+        left = after_word(alloc, word, &left)?;
+        rest = more;
+    }
+    Ok(nullable(&left))
+}
+
+/// Whether a type and its excepts take the text, or some text that isn't blank.
+fn takes_data(
+    alloc: Global,
+    solid: bool,
+    text: &str,
+    datatype: &Datatype,
+    excepts: &Excepts,
+) -> Result<bool, NoMemory>
+    requires few { length excepts.now ≤ 128 }
+    requires made { IsTrue (is_well_made datatype.now) }
+    requires sound { IsTrue (list_all (is_sound_except datatype.now) excepts.now) }
+    ensures { IfOk result (λ found. found ≡ (tests_of solid text.now).of_data datatype.now excepts.now) }
+{
+    if solid {
+        has_solid(alloc, datatype, excepts)
+    } else {
+        Ok(is_data(datatype, excepts, text))
+    }
+}
+
+/// Whether the text has a literal's value, or some text that isn't blank has it.
+fn takes_value(solid: bool, text: &str, datatype: &Datatype, wanted: &Bytes) -> bool
+    requires text { IsTrue (is_utf8 wanted.now) }
+    requires accepted { Accepts datatype.now wanted.now }
+    ensures { result ≡ (tests_of solid text.now).of_value datatype.now wanted.now }
+{
+    if solid {
+        is_solid(datatype, wanted)
+    } else {
+        is_value(datatype, wanted, text)
+    }
+}
+
+/// Whether the words of the text match the body of a list, or those of some text that isn't blank do.
+fn takes_list(alloc: Global, solid: bool, text: &str, body: &Pat) -> Result<bool, NoMemory>
+    requires { IsInOrder (pattern_of body.now) }
+    ensures { IfOk result (λ found. found ≡ (tests_of solid text.now).of_list (pattern_of body.now)) }
+{
+    if solid {
+        has_words(alloc, body)
+    } else {
+        words_match(alloc, text, body)
+    }
+}
+
+/// Behind the text, or behind some text that isn't blank.
+pub(crate) fn behind_string(
+    alloc: Global,
+    solid: bool,
+    text: &str,
+    p: &Pat,
+) -> Result<Box<Pat>, NoMemory>
+    requires { IsInOrder (pattern_of p.now) }
+    ensures { IfOk result (λ left. pattern_of left.value ≡ s.after_by (tests_of solid text.now) (pattern_of p.now)) }
+{
+    match p {
+        Pat::NotAllowed => boxed_not_allowed(alloc),
+        Pat::Empty => boxed_not_allowed(alloc),
+        Pat::Text => boxed_copy(alloc, p),
+        Pat::Typed(datatype, excepts) => {
+            let taken = takes_data(alloc, solid, text, datatype, excepts)?;
+            boxed_end(alloc, taken)
+        }
+        Pat::Value(datatype, wanted) => {
+            boxed_end(alloc, takes_value(solid, text, datatype, wanted))
+        }
+        Pat::List(body) => boxed_end(alloc, takes_list(alloc, solid, text, body)?),
+        Pat::Attribute(_, _) => boxed_not_allowed(alloc),
+        Pat::Ref(_) => boxed_not_allowed(alloc),
+        Pat::OneOrMore(body) => {
+            let left = behind_string(alloc, solid, text, body)?;
+            first_of_many(alloc, left, body)
+        }
+        Pat::Choice(a, b) => {
+            let left = behind_string(alloc, solid, text, a)?;
+            either(alloc, left, behind_string(alloc, solid, text, b)?)
+        }
+        Pat::Group(a, b) => {
+            let left = behind_string(alloc, solid, text, a)?;
+            if !nullable(a) {
+                return first_side(alloc, left, b);
+            }
+            let second = behind_string(alloc, solid, text, b)?;
+            either_side(alloc, left, b, second)
+        }
+        Pat::Interleave(a, b) => {
+            let left = behind_string(alloc, solid, text, a)?;
+            let second = behind_string(alloc, solid, text, b)?;
+            one_of_interleave(alloc, left, a, b, second)
+        }
+    }
+}
+
+/// Behind a string.
+pub fn after(alloc: Global, p: &Pat, text: &str) -> Result<Pat, NoMemory>
+    requires { IsInOrder (pattern_of p.now) }
+    ensures { IfOk result (λ left. pattern_of left ≡ s.after text.now (pattern_of p.now)) }
+{
+    Ok(Box::into_inner(behind_string(alloc, false, text, p)?))
+}
