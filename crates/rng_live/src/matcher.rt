@@ -189,5 +189,6 @@ pub trait Matcher: Drop {
 
     ghost memory: { KeepsMemory later remembers };
 
-    ghost live: { (m : Self) → IsLive (language m) };
+    // Liveness is told by witnesses, of which no struct can hold one; that there are some, each matcher holds.
+    ghost live: { (m : Self) → ∥ IsLive (language m) ∥₁ };
 }
