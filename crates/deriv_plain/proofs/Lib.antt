@@ -1,0 +1,6 @@
+mod Alike
+mod Joined
+mod Steady
+mod Needed
+mod Props
+mod Knowing

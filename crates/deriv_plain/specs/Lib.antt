@@ -1,0 +1,6 @@
+pub mod Ways
+pub mod Sameness
+pub mod Order
+pub mod Steps
+pub mod Laws
+pub mod Possible
