@@ -24,7 +24,7 @@ module _ (w : Way) where
   joined_case true m n e x v d xs more go inside is = ap (λ y. y ∷ map way_of xs) is
   joined_case false m n e x v d xs more go inside is =
       subst (λ (k : ℕ). k < length (x ∷ xs) → way_of v ≡ joined_way (way_of (get_or (x ∷ xs) k d)) w → map way_of (set (x ∷ xs) k v) ≡ way_of x ∷ more)
-        (sym e) (later_there x v d xs n more go) inside is
+      (sym e) (later_there x v d xs n more go) inside is
 
   joined_there : (xs : List OneWay) (v d : OneWay) → prefix_len is_apart xs < length xs →
       way_of v ≡ joined_way (way_of (get_or xs (prefix_len is_apart xs) d)) w →
@@ -32,14 +32,14 @@ module _ (w : Way) where
   joined_there [] v d inside is = absurd (omega arith)
   joined_there (x ∷ xs) v d inside is =
       joined_case (can_join_ways (way_of x) w) (1 + prefix_len is_apart xs) (prefix_len is_apart xs) (omega arith) x v d xs (with_way (map way_of xs) w)
-        (joined_there xs v d) inside is
+      (joined_there xs v d) inside is
 
   -- the way at this place is merged
   pub joined_at : (xs : List OneWay) (i : ℕ) (u v : OneWay) → i ≡ prefix_len is_apart xs → i < length xs → u ≡ get_or xs i u →
       way_of v ≡ joined_way (way_of u) w → map way_of (set xs i v) ≡ with_way (map way_of xs) w
   joined_at xs i u v first inside at is =
       subst (λ (k : ℕ). k < length xs → u ≡ get_or xs k u → map way_of (set xs k v) ≡ with_way (map way_of xs) w) (sym first)
-        (λ within there. joined_there xs v u within (is ∙ ap (λ y. joined_way (way_of y) w) there)) inside at
+      (λ within there. joined_there xs v u within (is ∙ ap (λ y. joined_way (way_of y) w) there)) inside at
 
   later_added : (x v : OneWay) (xs : List OneWay) (n : ℕ) (more : Residual) → (length xs ≤ n → map way_of (xs ++ v ∷ []) ≡ more) →
       length (x ∷ xs) ≤ suc n → map way_of ((x ∷ xs) ++ v ∷ []) ≡ way_of x ∷ more
@@ -57,7 +57,7 @@ module _ (w : Way) where
   added_last [] v is all = ap (λ y. y ∷ []) is
   added_last (x ∷ xs) v is all =
       added_case (can_join_ways (way_of x) w) (1 + prefix_len is_apart xs) (prefix_len is_apart xs) (omega arith) x v xs (with_way (map way_of xs) w)
-        (added_last xs v is) all
+      (added_last xs v is) all
 
   -- the way is merged with none
   pub added_behind : (xs ys : List OneWay) (v : OneWay) (i : ℕ) → way_of v ≡ w → ys ≡ xs ++ v ∷ [] → i ≡ prefix_len is_apart xs → length xs ≤ i →

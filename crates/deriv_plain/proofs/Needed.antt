@@ -46,7 +46,7 @@ module _ {X : Type 0} (test : X → Bool) where
   filtered [] n h is = h
   filtered (x ∷ xs) n h is = ⊎_elim
       (λ one. ⊎_elim (λ none. absurd (let inside = none.1 in omega arith))
-        (λ same. first_kept (test x) x n (filter test xs) (subst (λ y. test y ≡ true) (sym same) is) same) (Contains-push_cases [] x n one))
+      (λ same. first_kept (test x) x n (filter test xs) (subst (λ y. test y ≡ true) (sym same) is) same) (Contains-push_cases [] x n one))
       (λ later. later_kept (test x) x n (filter test xs) (filtered xs n later is))
       (Contains-append_cases (x ∷ []) xs n h)
 
@@ -63,10 +63,10 @@ required_exactly x possible found sorted all is sorts = record {
   sorted = sorts.sorted;
   exact = λ n. (
     λ h.
-      let parts = unfiltered (λ m. is_required m x) possible n (subst (λ (ns : List Name). Contains ns n) is ((sorts.same n).0 h)) in
-      and_from (is_in_tag x) (is_required n x) (all.tag n parts.0) parts.1,
+        let parts = unfiltered (λ m. is_required m x) possible n (subst (λ (ns : List Name). Contains ns n) is ((sorts.same n).0 h)) in
+        and_from (is_in_tag x) (is_required n x) (all.tag n parts.0) parts.1,
     λ h.
-      let parts = and_parts (is_in_tag x) (is_required n x) h in
-      (sorts.same n).1 (subst (λ (ns : List Name). Contains ns n) (sym is) (filtered (λ m. is_required m x) possible n (all.whole n h) parts.1)),
+        let parts = and_parts (is_in_tag x) (is_required n x) h in
+        (sorts.same n).1 (subst (λ (ns : List Name). Contains ns n) (sym is) (filtered (λ m. is_required m x) possible n (all.whole n h) parts.1)),
   );
 }

@@ -4,3 +4,4 @@ pub mod Order
 pub mod Steps
 pub mod Laws
 pub mod Possible
+pub mod Known

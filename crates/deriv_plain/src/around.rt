@@ -35,7 +35,12 @@ impl Drop for Around {
         loop {
             match self {
                 Around::Document(_) => return,
-                Around::Inside { strict: _, loose: _, void: _, outer } => {
+                Around::Inside {
+                    strict: _,
+                    loose: _,
+                    void: _,
+                    outer,
+                } => {
                     let Some(next) = Rc::into_inner(outer) else {
                         return;
                     };

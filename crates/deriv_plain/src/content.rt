@@ -37,7 +37,11 @@ fn is_dead(around: &Around) -> bool
 pub(crate) fn among_of(alloc: Global, around: Rc<Around>) -> Result<Vec<OneWay>, NoMemory>
     ensures { IfOk result (λ ways. residual_of ways.items ≡ content.among_of (outer_of around.value)) }
 {
-    if is_dead(&around) { Ok(no_way(alloc)) } else { just_one(alloc, OneWay::Among(around)) }
+    if is_dead(&around) {
+        Ok(no_way(alloc))
+    } else {
+        just_one(alloc, OneWay::Among(around))
+    }
 }
 
 /// What is left of children without blank strings behind a string.
@@ -45,7 +49,11 @@ fn loose_after(alloc: Global, loose: &Pat, text: &str) -> Result<Pat, NoMemory>
     requires { IsInOrder (pattern_of loose.now) }
     ensures { IfOk result (λ left. pattern_of left ≡ content.loose_after text.now (pattern_of loose.now)) }
 {
-    if is_blank(text.as_bytes()) { loose.copy(alloc) } else { after(alloc, loose, text) }
+    if is_blank(text.as_bytes()) {
+        loose.copy(alloc)
+    } else {
+        after(alloc, loose, text)
+    }
 }
 
 /// What is left behind a string.

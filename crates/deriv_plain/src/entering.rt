@@ -93,7 +93,7 @@ fn tags_of_both(
 ) -> Result<Vec<OneWay>, NoMemory>
     ensures { IfOk result (λ ways. residual_of ways.items
         ≡ map (entering.tag_of_both (map definition_of defs.now) (openings_of loose.now) (outer_of outer.now.value))
-            (openings_of strict.now)) }
+        (openings_of strict.now)) }
 {
     let mut ways = no_way(alloc);
     let mut left = strict;
@@ -115,7 +115,7 @@ fn with_loose_tags(
 ) -> Result<Vec<OneWay>, NoMemory>
     ensures { IfOk result (λ all. residual_of all.items ≡ residual_of ways.items
         ++ map (entering.tag_of_loose (map definition_of defs.now) (outer_of outer.now.value))
-            (entering.others (openings_of strict.now) (openings_of loose.now))) }
+        (entering.others (openings_of strict.now) (openings_of loose.now))) }
 {
     let mut all = ways;
     let mut left = loose;
@@ -138,9 +138,9 @@ fn tags_inside(
 ) -> Result<Vec<OneWay>, NoMemory>
     ensures { IfOk result (λ ways. residual_of ways.items
         ≡ map (entering.tag_of_both (map definition_of defs.now) (openings_of loose.now) (outer_of outer.now.value))
-            (openings_of strict.now)
+        (openings_of strict.now)
         ++ map (entering.tag_of_loose (map definition_of defs.now) (outer_of outer.now.value))
-            (entering.others (openings_of strict.now) (openings_of loose.now))) }
+        (entering.others (openings_of strict.now) (openings_of loose.now))) }
 {
     let ways = tags_of_both(alloc, defs, strict, loose, outer)?;
     with_loose_tags(alloc, defs, strict, loose, outer, ways)
@@ -163,12 +163,7 @@ pub(crate) fn enter_way(
 }
 
 /// Behind an element's name among children.
-fn entered(
-    alloc: Global,
-    here: &Around,
-    defs: &[Def],
-    name: &Name,
-) -> Result<Vec<OneWay>, NoMemory>
+fn entered(alloc: Global, here: &Around, defs: &[Def], name: &Name) -> Result<Vec<OneWay>, NoMemory>
     ensures { IfOk result (λ ways. residual_of ways.items
         ≡ entering.enter_outer (map definition_of defs.now) name.now (outer_of here.now)) }
 {
@@ -207,12 +202,7 @@ pub(crate) fn skip_way(
 }
 
 /// Behind children that are left out and an element's name, among children.
-fn skipped(
-    alloc: Global,
-    here: &Around,
-    defs: &[Def],
-    name: &Name,
-) -> Result<Vec<OneWay>, NoMemory>
+fn skipped(alloc: Global, here: &Around, defs: &[Def], name: &Name) -> Result<Vec<OneWay>, NoMemory>
     ensures { IfOk result (λ ways. residual_of ways.items
         ≡ entering.skip_outer (map definition_of defs.now) name.now (outer_of here.now)) }
 {

@@ -26,7 +26,8 @@ fn can_join(a: &Around, b: &Around) -> bool
         (
             Around::Inside { outer, .. },
             Around::Inside {
-                outer: other_outer, ..
+                outer: other_outer,
+                ..
             },
         ) => outer.same(other_outer),
     }

@@ -15,6 +15,7 @@ ghost use Rattle.rng_live.specs.Calls as calls;
 ghost use Rattle.rng_live.specs.Calls.{Gives, Answers};
 ghost use Rattle.rng_live.specs.Schemas.{schema_language};
 ghost use Rattle.deriv_pattern.specs.Leaves.{IsInOrder};
+ghost use Rattle.deriv_plain.specs.Known as one_by_one;
 ghost use Rattle.deriv_plain.specs.Laws.{plain_laws, nothing_is_remembered};
 ghost use Rattle.deriv_plain.specs.Order.{IsState, ContentsAreInOrder, StepIsInOrder};
 ghost use Rattle.deriv_plain.specs.Steps.{way_step};
@@ -25,10 +26,11 @@ use crate::required::required_names;
 use crate::step::{Step, stepped};
 use crate::ways::{OneWay, Ways, as_answer, copied_ways, just_one, same_ways};
 use deriv_pattern::law::{left_is_in_order, sound_are_in_order};
-use deriv_pattern::small::{choice_of, is_not_allowed};
+use deriv_pattern::small::is_not_allowed;
 use nx_base::memory::NoMemory;
 use nx_base::name::{Name, Names};
 use nx_base::sequence::{Bytes, Sequence};
+use rng_core::building::choice_of;
 use rng_core::grammar::{Def, Pat};
 use rng_live::matcher::Matcher;
 use rng_live::schema::Schema;
@@ -73,7 +75,22 @@ fn begun_if_allowed(alloc: Global, start: &Pat) -> Result<Option<Ways>, NoMemory
     ensures { IfOk result (Answers IsState residual_of
         (if small.is_not_allowed (pattern_of start.now) then None else Some (first_residual (pattern_of start.now)))) }
 {
-    if is_not_allowed(start) { Ok(None) } else { Ok(Some(begun(alloc, start)?)) }
+    if is_not_allowed(start) {
+        Ok(None)
+    } else {
+        Ok(Some(begun(alloc, start)?))
+    }
+}
+
+/// A choice with a reference that isn't there yet.
+fn with_ref(alloc: Global, known: Pat, number: u32) -> Result<Pat, NoMemory>
+    ensures { IfOk result (λ made. pattern_of made ≡ one_by_one.with_ref (pattern_of known) number) }
+{
+    if is_not_allowed(&known) {
+        Ok(Pat::Ref(number))
+    } else {
+        choice_of(alloc, known, Pat::Ref(number))
+    }
 }
 
 /// The definitions that have a name, as a choice.
@@ -82,11 +99,9 @@ fn known(alloc: Global, defs: &[Def], name: &Name) -> Result<Pat, NoMemory>
     ensures { IfOk result (λ start. pattern_of start ≡ known_from (map definition_of defs.now) name.now 0) }
 {
     let mut known = Pat::NotAllowed;
-    let mut number = defs.len();
-    while number > 0 {
-        number -= 1;
+    for number in 0..defs.len() {
         if defs[number].class.has(name) {
-            known = choice_of(alloc, Pat::Ref(number as u32), &known)?;
+            known = with_ref(alloc, known, number as u32)?;
         }
     }
     Ok(known)

@@ -55,11 +55,7 @@ fn all_need(alloc: Global, name: &Name, ways: &[OneWay]) -> Result<bool, NoMemor
 }
 
 /// Those of the names that are required.
-fn required_among(
-    alloc: Global,
-    ways: &[OneWay],
-    names: &[Name],
-) -> Result<Vec<Name>, NoMemory>
+fn required_among(alloc: Global, ways: &[OneWay], names: &[Name]) -> Result<Vec<Name>, NoMemory>
     ensures { IfOk result (λ found. found.items ≡ filter (λ name. required.is_required name (residual_of ways.now)) names.now) }
 {
     let mut found = Vec::new(alloc);

@@ -63,11 +63,7 @@ impl<'a> Step<'a> {
 }
 
 /// The ways to go on behind a step, merged.
-pub(crate) fn stepped(
-    alloc: Global,
-    step: &Step,
-    ways: &[OneWay],
-) -> Result<Vec<OneWay>, NoMemory>
+pub(crate) fn stepped(alloc: Global, step: &Step, ways: &[OneWay]) -> Result<Vec<OneWay>, NoMemory>
     requires { AreInOrder (residual_of ways.now) }
     ensures { IfOk result (λ made. residual_of made.items ≡ merging.stepped (way_step step.now) [] (residual_of ways.now)) }
 {

@@ -68,11 +68,7 @@ pub(crate) fn any_value_way(
 }
 
 /// Among the children of an element of this content, of which no attribute comes any more.
-fn children_of(
-    alloc: Global,
-    content: &Pat,
-    outer: &Rc<Around>,
-) -> Result<Rc<Around>, NoMemory>
+fn children_of(alloc: Global, content: &Pat, outer: &Rc<Around>) -> Result<Rc<Around>, NoMemory>
     requires { IsInOrder (pattern_of content.now) }
     ensures { IfOk result (λ made. outer_of made.value ≡ tags.children_of (pattern_of content.now) (outer_of outer.now.value)) }
 {

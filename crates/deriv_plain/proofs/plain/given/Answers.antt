@@ -10,10 +10,10 @@ use Rattle.deriv_plain.proofs.plain.given.Goals as goal
 pub returns : goal.returns
 returns c =
     let meaning : residual_of c.from_vec.result ≡ stepped (way_step c.args.step.now) [] (residual_of c.args.ways.now) =
-      ap residual_of c.from_vec.ensures ∙ (c.in_ok-stepped.ensures ∙ ap (λ ws. stepped (way_step c.args.step.now) [] (residual_of ws)) c.as_slice.ensures) in
+    ap residual_of c.from_vec.ensures ∙ (c.in_ok-stepped.ensures ∙ ap (λ ws. stepped (way_step c.args.step.now) [] (residual_of ws)) c.as_slice.ensures) in
     let left = c.left_is_in_order.ensures in
     record {
       state = subst (λ (x : Residual). AreInOrder x) (sym meaning)
-        (stepped_in_order left (way_step c.args.step.now) (step_in_order left c.args.step.now c.requires.step) [] (residual_of c.args.ways.now) tt c.requires.ways);
+          (stepped_in_order left (way_step c.args.step.now) (step_in_order left c.args.step.now c.requires.step) [] (residual_of c.args.ways.now) tt c.requires.ways);
       meaning = meaning;
     }

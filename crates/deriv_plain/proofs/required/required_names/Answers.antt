@@ -11,4 +11,4 @@ pub returns : goal.returns
 returns c =
     let kept = c.in_ok-found.ensures ∙ ap (λ ns. filter (λ n. is_required n (residual_of c.args.ways.now)) ns) c.as_slice.ensures in
     subst (λ (ns : List Name). AreRequired (residual_of c.args.ways.now) ns) (sym c.from_vec.ensures)
-      (required_exactly (residual_of c.args.ways.now) _ _ _ c.in_ok-possible.ensures kept c.sort_names.ensures)
+    (required_exactly (residual_of c.args.ways.now) _ _ _ c.in_ok-possible.ensures kept c.sort_names.ensures)

@@ -8,4 +8,4 @@ use Rattle.deriv_plain.proofs.plain.PlainMatcher.same.Goals as goal
 pub returns : goal.returns
 returns c = residuals_told (residual_of c.args.a.now) (residual_of c.args.b.now) c.same_ways.result
     (c.same_ways.ensures ∙ (ap (λ (x : List OneWay). same_residual (residual_of x) (residual_of c.as_slice-2.result.now)) c.as_slice.ensures
-      ∙ ap (λ (y : List OneWay). same_residual (residual_of c.args.a.now) (residual_of y)) c.as_slice-2.ensures))
+    ∙ ap (λ (y : List OneWay). same_residual (residual_of c.args.a.now) (residual_of y)) c.as_slice-2.ensures))
