@@ -1,20 +1,20 @@
 -- What later matchers keep.
 use Rattle.std.specs.Prelude.{◌≡◌, Bool, false, List}
-use Rattle.std.proofs.Common.{refl, ◌∙◌}
+use Rattle.std.proofs.Common.{refl, ap, ◌∙◌}
 use Rattle.nx_base.specs.Rules.{LaterLaws}
 use Rattle.rng_core.specs.Patterns.{Language}
 use Rattle.rng_kept.specs.Residuals.{Residual}
 use Rattle.rng_live.specs.Calls.{Call, KeepsMemory}
 
--- a matcher whose states mean the same whichever one is asked is later than each one of its language
-pub plain_laws : {M S : Type 0} (language : M → Language) (is_state : S → Type 0) (means : S → Residual)
-    → LaterLaws (λ m l. language l ≡ language m) (λ _. is_state) (λ _. means) language
-plain_laws language is_state means = record {
+-- a matcher whose states mean the same whichever one is asked is later than each one of its schema
+pub plain_laws : {M X S : Type 0} (schema : M → X) (language : X → Language) (is_state : S → Type 0) (means : S → Residual)
+    → LaterLaws (λ m l. schema l ≡ schema m) (λ _. is_state) (λ _. means) (λ m. language (schema m))
+plain_laws schema language is_state means = record {
   same = λ m. refl;
   chain = λ m l k now then. then ∙ now;
   state = λ m l s later state. state;
   meaning = λ m l s later state. refl;
-  rule = λ m l later. later;
+  rule = λ m l later. ap language later;
 }
 
 -- what remembers nothing keeps it

@@ -159,7 +159,7 @@ impl Plain {
     pub fn new(schema: Schema) -> Plain
         requires live { IsLive (schema_language schema) }
         requires sound { IsSound schema.grammar }
-        ensures { schema_language result.schema ≡ schema_language schema }
+        ensures { result.schema ≡ schema }
     {
         Plain { schema }
     }
@@ -209,7 +209,7 @@ impl Plain {
 impl Matcher for Plain {
     type State = Ways;
 
-    ghost later = { λ m l. schema_language l.schema ≡ schema_language m.schema };
+    ghost later = { λ m l. l.schema ≡ m.schema };
 
     ghost is_state = { λ m s. IsState s };
 
@@ -221,7 +221,7 @@ impl Matcher for Plain {
 
     ghost remembers_answers = { false };
 
-    ghost laws = { plain_laws (λ m. schema_language m.schema) IsState residual_of };
+    ghost laws = { plain_laws (λ m. m.schema) schema_language IsState residual_of };
 
     ghost memory = { nothing_is_remembered _ };
 
