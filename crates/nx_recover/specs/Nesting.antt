@@ -8,7 +8,7 @@ use Rattle.nx_events.specs.declared.flaw.Flaw.{Flaw}
 use Rattle.nx_events.specs.declared.item.Event.{Event}
 use Rattle.nx_events.specs.declared.item.Event.TheVariants.{Enter, EnterLost, Att, TagEnd, Chars, Leave}
 use Rattle.nx_recover.specs.Frames.{Frame, known_frame}
-use Rattle.nx_recover.specs.Outcomes.{goes_on, begins_frame, loses, Recovers, Completes}
+use Rattle.nx_recover.specs.Outcomes.{goes_on, begins_frame, loses, Recovers, EndsElement}
 use Rattle.nx_recover.specs.declared.levels.Open.{Open}
 use Rattle.nx_recover.specs.declared.levels.Open.TheVariants.{In, Begins, Lost}
 
@@ -29,10 +29,10 @@ pub data LevelsAfter (g : Language) : Option Frame → List (Open Frame) → Eve
       → LevelsAfter g (Some f) os TagEnd (Some k) os w
   text : {f k : Frame} {os : List (Open Frame)} {t : List ℕ} {w : Option Flaw} → Recovers g f (trees.Chars t) (goes_on k) w
       → LevelsAfter g (Some f) os (Chars t) (Some k) os w
-  leaves : {f k : Frame} {os : List (Open Frame)} {n : Name} {w : Option Flaw} → Completes g f n k w
+  leaves : {f k : Frame} {os : List (Open Frame)} {n : Name} {w : Option Flaw} → EndsElement g f n k w
       → LevelsAfter g (Some f) (In n ∷ os) Leave (Some k) os w
   -- its own element ends, and so does the frame
-  leaves_own : {f k : Frame} {os : List (Open Frame)} {n : Name} {around : Option Frame} {w : Option Flaw} → Completes g f n k w
+  leaves_own : {f k : Frame} {os : List (Open Frame)} {n : Name} {around : Option Frame} {w : Option Flaw} → EndsElement g f n k w
       → LevelsAfter g (Some f) (Begins n around ∷ os) Leave around os w
   -- ---- in a lost element nothing has a fault
   enters_known : {os : List (Open Frame)} {n : Name} → IsKnown g n

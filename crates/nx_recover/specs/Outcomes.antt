@@ -51,6 +51,6 @@ pub data Recovers (g : Language) (f : Frame) : Event → Outcome → Option Flaw
       → Recovers g f (Chars t) (goes_on f) (flaw kinds.TextNotAllowed [])
 
 -- the end of the innermost element, which has this name
-pub data Completes (g : Language) (f : Frame) (n : Name) : Frame → Option Flaw → Type 0 where
-  complete : Can g f (take Leave) → Completes g f n (moved f (take Leave)) None
-  incomplete : (Can g f (take Leave) → ⊥) → Completes g f n (moved f missing_content) (flaw kinds.Incomplete (name_text n))
+pub data EndsElement (g : Language) (f : Frame) (n : Name) : Frame → Option Flaw → Type 0 where
+  complete : Can g f (take Leave) → EndsElement g f n (moved f (take Leave)) None
+  incomplete : (Can g f (take Leave) → ⊥) → EndsElement g f n (moved f missing_content) (flaw kinds.Incomplete (name_text n))

@@ -36,7 +36,7 @@ use Rattle.nx_recover.specs.Frames.{Frame, AreRequiredNames}
 use Rattle.nx_recover.specs.Nesting as nesting
 use Rattle.nx_recover.specs.Nesting.{LevelsAfter}
 use Rattle.nx_recover.specs.Outcomes as rows
-use Rattle.nx_recover.specs.Outcomes.{Outcome, Recovers, Completes}
+use Rattle.nx_recover.specs.Outcomes.{Outcome, Recovers, EndsElement}
 use Rattle.nx_recover.specs.declared.levels.Open.{Open}
 use Rattle.nx_recover.specs.declared.levels.Open.TheVariants.{In, Begins, Lost}
 use Rattle.nx_recovery.specs.Details.{FaultsAreText}
@@ -113,7 +113,7 @@ module _ {g : Language} {f : Frame} where
   chars_text (rows.bad_text a b) = IsUtf8-nil
   chars_text (rows.text_not_allowed a b) = IsUtf8-nil
 
-completes_text : {g : Language} {f k : Frame} {w : Option Flaw} (n : Name) → NameIsText n → Completes g f n k w → FlawIsText w
+completes_text : {g : Language} {f k : Frame} {w : Option Flaw} (n : Name) → NameIsText n → EndsElement g f n k w → FlawIsText w
 completes_text n h (rows.complete a) = tt
 completes_text n h (rows.incomplete a) = name_utf8 n h
 

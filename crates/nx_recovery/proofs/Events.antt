@@ -27,7 +27,7 @@ use Rattle.nx_recover.specs.Details.{name_text, names_text}
 use Rattle.nx_recover.specs.Frames.{Frame, moved, Can, known_frame, AreRequiredNames}
 use Rattle.nx_recover.specs.Required.{required_names}
 use Rattle.nx_recover.specs.Outcomes as rows
-use Rattle.nx_recover.specs.Outcomes.{goes_on, flaw, Recovers, Completes}
+use Rattle.nx_recover.specs.Outcomes.{goes_on, flaw, Recovers, EndsElement}
 use Rattle.nx_recover.specs.Nesting as nesting
 use Rattle.nx_recover.specs.Nesting.{LevelsAfter}
 use Rattle.nx_recover.specs.Table as table
@@ -271,7 +271,7 @@ module _ (g : Language) (live : AreLive g.definitions) where
     frame : Frame
     residual : Residual
     next : d.next ≡ Some residual
-    completes : Completes g f n frame d.flaw
+    completes : EndsElement g f n frame d.flaw
     stands : StandsFor g None depth frame residual
 
   left_by : (f : Frame) (n : Name) (depth : ℕ) (o : Option Residual) (z : Residual) → open_elements f.moves ≡ suc depth →

@@ -12,7 +12,7 @@ use Rattle.nx_recover.proofs.RequiredNames.{to_among, from_among, one_list}
 use Rattle.nx_recover.specs.Details.{names_text}
 use Rattle.nx_recover.specs.Frames.{Frame, AreRequiredNames}
 use Rattle.nx_recover.specs.Outcomes as table
-use Rattle.nx_recover.specs.Outcomes.{Outcome, goes_on, begins_frame, loses, flaw, Recovers, Completes, complete, incomplete}
+use Rattle.nx_recover.specs.Outcomes.{Outcome, goes_on, begins_frame, loses, flaw, Recovers, EndsElement, complete, incomplete}
 use Rattle.nx_recover.specs.Nesting as nesting
 use Rattle.nx_recover.specs.Nesting.{LevelsAfter}
 use Rattle.nx_recover.specs.Faults.{flaw_at, Along, at_end, by_event, by_fault}
@@ -106,7 +106,7 @@ module _ {g : Language} where
   apart_kinds : {f : Frame} {e : trees.Event} {w v : Option Flaw} → Recovers g f e begins_frame w → Recovers g f e loses v → ⊥
   apart_kinds a b = let r = (one_row a b).outcome in cc
 
-  completes_same : {f k j : Frame} {n : Name} {os : List (Open Frame)} {w v : Option Flaw} → Completes g f n k w → Completes g f n j v → SameLevels (Some k) (Some j) os os w v
+  completes_same : {f k j : Frame} {n : Name} {os : List (Open Frame)} {w v : Option Flaw} → EndsElement g f n k w → EndsElement g f n j v → SameLevels (Some k) (Some j) os os w v
   completes_same (complete a) (complete b) = same_levels
   completes_same (complete a) (incomplete b) = absurd (b a)
   completes_same (incomplete a) (complete b) = absurd (a b)

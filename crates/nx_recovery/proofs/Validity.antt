@@ -39,7 +39,7 @@ use Rattle.nx_recover.specs.Frames.{Frame, moved, Can, document_frame}
 use Rattle.nx_recover.specs.Nesting as nesting
 use Rattle.nx_recover.specs.Nesting.{LevelsAfter}
 use Rattle.nx_recover.specs.Outcomes as rows
-use Rattle.nx_recover.specs.Outcomes.{Outcome, goes_on, begins_frame, loses, Recovers, Completes}
+use Rattle.nx_recover.specs.Outcomes.{Outcome, goes_on, begins_frame, loses, Recovers, EndsElement}
 use Rattle.nx_recover.specs.declared.levels.Open.{Open}
 use Rattle.nx_recover.specs.declared.levels.Open.TheVariants.{In}
 use Rattle.nx_recovery.specs.Validity.{IsValidDocument, NoFaultsIsValid, NoFaultsHaveValidEvents}
