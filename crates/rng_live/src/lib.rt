@@ -32,5 +32,9 @@ mod naming;
 pub mod prune;
 pub mod schema;
 pub mod sorting;
+#[cfg(test)]
+mod sound;
 mod takes;
+#[cfg(test)]
+mod tests;
 mod waiting;
