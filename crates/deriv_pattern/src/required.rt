@@ -21,7 +21,7 @@ fn has_others(alloc: Global, class: &NameClass, name: &Name) -> Result<bool, NoM
     let class = Box::new(alloc, class.copy(alloc)?)?;
     let name = Box::new(alloc, NameClass::Name(name.copy()?))?;
     let others = NameClass::Except(class, name);
-    Ok(others.overlaps(&NameClass::AnyName, Bearer::Attribute))
+    Ok(others.overlaps(alloc, &NameClass::AnyName, Bearer::Attribute))
 }
 
 /// Whether the class has the name, and no other one that an attribute can have.

@@ -263,13 +263,6 @@ pub fn interleave_of(alloc: Global, p: Pat, q: &Pat) -> Result<Pat, NoMemory>
     Ok(Box::into_inner(beside(alloc, boxed(alloc, p)?, q)?))
 }
 
-/// One or more parts that match the body.
-pub fn one_or_more_of(alloc: Global, p: Pat) -> Result<Pat, NoMemory>
-    ensures { IfOk result (λ made. pattern_of made ≡ s.one_or_more_of (pattern_of p)) }
-{
-    Ok(Box::into_inner(repeated(alloc, boxed(alloc, p)?)?))
-}
-
 /// As many parts as one likes, or none.
 pub fn star(alloc: Global, p: &Pat) -> Result<Pat, NoMemory>
     ensures { IfOk result (λ made. pattern_of made ≡ s.star (pattern_of p.now)) }

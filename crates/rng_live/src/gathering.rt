@@ -15,7 +15,7 @@ use rng_core::name_class::NameClass;
 use std::alloc::Global;
 
 /// A list of texts.
-pub type Texts = Sequence<Bytes>;
+pub type Values = Sequence<Bytes>;
 
 /// What is asked of the classes.
 #[derive(Clone, Copy, Debug, PartialEq, Eq)]
@@ -193,7 +193,7 @@ fn add_literals(content: &Pat, found: &mut Vec<Bytes>) -> Result<(), NoMemory>
 }
 
 /// The literals that stand in the contents of the definitions, in order and each once.
-pub(crate) fn literals_of(alloc: Global, defs: &[Def]) -> Result<Texts, NoMemory>
+pub(crate) fn literals_of(alloc: Global, defs: &[Def]) -> Result<Values, NoMemory>
     ensures { IfOk result (SortsOnce text_order (fold (λ found def. with_literals (definition_of def).content found) [] defs.now)) }
 {
     let mut found = Vec::new(alloc);
@@ -201,5 +201,5 @@ pub(crate) fn literals_of(alloc: Global, defs: &[Def]) -> Result<Texts, NoMemory
         add_literals(&def.content, &mut found)?;
     }
     sort_texts(&mut found);
-    Ok(Texts::from_vec(found))
+    Ok(Values::from_vec(found))
 }

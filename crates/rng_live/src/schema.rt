@@ -8,7 +8,7 @@ ghost use Rattle.rng_kept.specs.Standing.{IsKnown};
 ghost use Rattle.rng_live.specs.Schemas.{schema_language};
 ghost use Rattle.rng_live.specs.Listed.{AreMentioned, AreNamespaces, AreLiterals};
 
-use crate::gathering::{Asked, Texts, literals_of, mentions_of};
+use crate::gathering::{Asked, Values, literals_of, mentions_of};
 use nx_base::memory::NoMemory;
 use nx_base::name::{Name, Names};
 use rng_core::grammar::{Def, Grammar};
@@ -61,7 +61,7 @@ impl Schema {
     }
 
     /// The literals of the value patterns, as they are written, in order and without doubles.
-    pub fn values(&self, alloc: Global) -> Result<Texts, NoMemory>
+    pub fn values(&self, alloc: Global) -> Result<Values, NoMemory>
         ensures { IfOk result (AreLiterals (schema_language self.now).definitions) }
     {
         let defs = self.grammar.defs.as_slice();

@@ -4,7 +4,7 @@ ghost use Rattle.std.specs.Prelude.{IsTrue};
 ghost use Rattle.rng_types.specs.WellMade.{is_well_made};
 
 use crate::fault::LiveFault;
-use crate::gathering::Texts;
+use crate::gathering::Values;
 use crate::prune::prune;
 use crate::schema::Schema;
 use crate::sound::is_sound;
@@ -77,7 +77,7 @@ fn line_of_names(alloc: Global, names: &Names) -> Result<String, Fail> {
 }
 
 // The texts, each in brackets.
-fn line_of_texts(alloc: Global, texts: &Texts) -> Result<String, Fail> {
+fn line_of_texts(alloc: Global, texts: &Values) -> Result<String, Fail> {
     let mut line = String::new(alloc);
     for text in texts.as_slice() {
         line.push_str("[")?;
