@@ -1,0 +1,25 @@
+//! Small cases that every matcher is to answer.
+//!
+//! A case is a schema in the compact syntax, a list of events and other moves, and the answer: at which of them a matcher answers
+//! none first, or which attributes are required behind them. The cases stand in tables (`tables`); a reader plays one against any
+//! matcher (`reader`); what can be made a matcher of a schema is in `matchers`, and each matcher has its own tests (`tests`). Documents
+//! and schemas with which a matcher is not to grow are in `growth`. All of this is for tests.
+//!
+//! The answers were worked out by the match relation of ISO/IEC 19757-2 and without derivatives. Another program, which isn't
+//! kept, wrote down all trees of up to six nodes that a schema matches, and larger ones where a case asks for them, with the
+//! strings and names of the case among theirs. Moves are followed by those trees whose events, with attributes in any order, begin
+//! with what the moves take or may add. The answer is the first move that no tree follows; required are the attributes that stand in
+//! the rest of the tag in each tree that follows. Cases of blank strings, of which that program knew too few, and those whose trees
+//! are larger were worked out by hand. So were all of `SINGLE_CALLS` and `ANY_ORDER`, and the answers of `growth`, which are plain.
+#![tactic(auto)]
+
+#[cfg(test)]
+mod growth;
+#[cfg(test)]
+mod matchers;
+#[cfg(test)]
+mod reader;
+#[cfg(test)]
+mod tables;
+#[cfg(test)]
+mod tests;

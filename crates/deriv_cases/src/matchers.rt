@@ -1,0 +1,54 @@
+//! The matchers that the cases are played against.
+
+ghost use Rattle.rng_core.specs.Soundness.{IsSound};
+ghost use Rattle.rng_kept.specs.Live.{IsLive};
+ghost use Rattle.rng_live.specs.Schemas.{schema_language};
+
+use deriv_plain::plain::Plain;
+use nx_base::memory::NoMemory;
+use nx_host::memory_files::SureFiles;
+use rng_core::grammar::Grammar;
+use rng_live::matcher::Matcher;
+use rng_live::prune::prune;
+use rng_live::schema::Schema;
+use rng_restrict::check::check;
+use rng_simplify::simplify::simplify;
+use std::alloc::Global;
+
+const FILE: &str = "file:///work/case.rnc";
+
+/// A matcher that can be made for any schema.
+pub(crate) trait Made: Matcher {
+    fn made(alloc: Global, schema: Schema) -> Result<Self, NoMemory>
+        requires live { IsLive (schema_language schema) }
+        requires sound { IsSound schema.grammar };
+}
+
+impl Made for Plain {
+    fn made(_alloc: Global, schema: Schema) -> Result<Plain, NoMemory> {
+        Ok(Plain::new(schema))
+    }
+}
+
+/// The matcher of a grammar; none where the grammar can't be used.
+fn matcher_of_grammar<M: Made>(alloc: Global, grammar: Grammar) -> Option<M>
+    requires { IsSound grammar }
+{
+    if let Err(_) = check(alloc, &grammar) {
+        return None;
+    }
+    match prune(alloc, grammar) {
+        Ok(schema) => M::made(alloc, schema).ok(),
+        Err(_) => None,
+    }
+}
+
+/// The matcher of a schema that is written in the compact syntax; none where it can't be used.
+pub(crate) fn matcher_of<M: Made>(alloc: Global, text: &str) -> Option<M> {
+    let mut files = SureFiles::new(alloc);
+    files.add(FILE, text.as_bytes()).ok()?;
+    match simplify(alloc, FILE, &mut files) {
+        Ok(grammar) => matcher_of_grammar(alloc, grammar),
+        Err(_) => None,
+    }
+}
