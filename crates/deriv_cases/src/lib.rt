@@ -9,8 +9,8 @@
 //! kept, wrote down all trees of up to six nodes that a schema matches, and larger ones where a case asks for them, with the
 //! strings and names of the case among theirs. Moves are followed by those trees whose events, with attributes in any order, begin
 //! with what the moves take or may add. The answer is the first move that no tree follows; required are the attributes that stand in
-//! the rest of the tag in each tree that follows. Cases of blank strings, of which that program knew too few, and those whose trees
-//! are larger were worked out by hand. So were all of `SINGLE_CALLS` and `ANY_ORDER`, and the answers of `growth`, which are plain.
+//! the rest of the tag in each tree that follows. Answers that a matcher didn't give at first were worked out by hand besides, and so
+//! were all of `SINGLE_CALLS`, `ANY_ORDER` and `growth`.
 #![tactic(auto)]
 
 #[cfg(test)]
