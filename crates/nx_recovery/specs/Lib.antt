@@ -1,1 +1,2 @@
 pub mod Uniqueness
+pub mod Existence

@@ -1,9 +1,22 @@
 //! Laws of recovery, each a function that does nothing.
 
+ghost use Rattle.nx_recovery.specs.Existence.{EveryTextHasFaults, RecoverGivesFaults};
 ghost use Rattle.nx_recovery.specs.Uniqueness.{RecoveryIsOne};
 
 /// A text has one list of faults at most, against a schema or none.
 #[tactic(auto, using(crate::proofs::Uniqueness::recovery_is_one))]
 pub fn recovery_is_one()
     ensures { RecoveryIsOne }
+{}
+
+/// Against a live schema or none, the rules of the machine over residuals find the faults of a text.
+#[tactic(auto, using(crate::proofs::Along::recover_gives_faults))]
+pub fn recover_gives_faults()
+    ensures { RecoverGivesFaults }
+{}
+
+/// So each text has faults, at each event of which a row of the table applies.
+#[tactic(auto, using(crate::proofs::Along::every_text_has_faults))]
+pub fn every_text_has_faults()
+    ensures { EveryTextHasFaults }
 {}
