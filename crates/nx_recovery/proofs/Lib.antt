@@ -8,3 +8,6 @@ pub mod Events
 pub mod Places
 pub mod Folding
 pub mod Along
+pub mod Following
+pub mod Viability
+pub mod Validity

@@ -1,2 +1,4 @@
 pub mod Uniqueness
 pub mod Existence
+pub mod Viability
+pub mod Validity

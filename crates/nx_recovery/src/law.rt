@@ -2,6 +2,8 @@
 
 ghost use Rattle.nx_recovery.specs.Existence.{EveryTextHasFaults, RecoverGivesFaults};
 ghost use Rattle.nx_recovery.specs.Uniqueness.{RecoveryIsOne};
+ghost use Rattle.nx_recovery.specs.Validity.{NoFaultsHaveValidEvents, NoFaultsIsValid};
+ghost use Rattle.nx_recovery.specs.Viability.{FramesStayViable};
 
 /// A text has one list of faults at most, against a schema or none.
 #[tactic(auto, using(crate::proofs::Uniqueness::recovery_is_one))]
@@ -19,4 +21,19 @@ pub fn recover_gives_faults()
 #[tactic(auto, using(crate::proofs::Along::every_text_has_faults))]
 pub fn every_text_has_faults()
     ensures { EveryTextHasFaults }
+{}
+
+/// Of a live schema each frame, here or around, keeps some list of events that can become valid, behind each item of a text.
+pub fn frames_stay_viable()
+    ensures { FramesStayViable }
+{}
+
+/// Against a live schema a text has no faults exactly where it is a document whose tree the schema matches.
+pub fn no_faults_is_valid()
+    ensures { NoFaultsIsValid }
+{}
+
+/// The same over items: they hold no fault, and their events are valid.
+pub fn no_faults_have_valid_events()
+    ensures { NoFaultsHaveValidEvents }
 {}
