@@ -11,3 +11,4 @@ pub mod Along
 pub mod Following
 pub mod Viability
 pub mod Validity
+pub mod Details

@@ -2,3 +2,4 @@ pub mod Uniqueness
 pub mod Existence
 pub mod Viability
 pub mod Validity
+pub mod Details

@@ -1,5 +1,6 @@
 //! Laws of recovery, each a function that does nothing.
 
+ghost use Rattle.nx_recovery.specs.Details.{FaultsAreText};
 ghost use Rattle.nx_recovery.specs.Existence.{EveryTextHasFaults, RecoverGivesFaults};
 ghost use Rattle.nx_recovery.specs.Uniqueness.{RecoveryIsOne};
 ghost use Rattle.nx_recovery.specs.Validity.{NoFaultsHaveValidEvents, NoFaultsIsValid};
@@ -36,4 +37,9 @@ pub fn no_faults_is_valid()
 /// The same over items: they hold no fault, and their events are valid.
 pub fn no_faults_have_valid_events()
     ensures { NoFaultsHaveValidEvents }
+{}
+
+/// The details of the faults of a text are UTF-8, as the text is.
+pub fn faults_are_text()
+    ensures { FaultsAreText }
 {}
