@@ -183,7 +183,7 @@ sorted_order (m ∷ ns) = sorted_put (in_order ns) m (sorted_order ns)
 
 -- ---- lists in order with the same names are one
 
-abbrev Alike : List Name → List Name → Type 0
+abbrev pub Alike : List Name → List Name → Type 0
 Alike ns ms = (n : Name) → IsAmong n ns → IsAmong n ms
 
 rest_of : (k : Name) (ns ms : List Name) → Below k ns → Alike (k ∷ ns) (k ∷ ms) → Alike ns ms
@@ -198,7 +198,7 @@ behind : (k m : Name) (ms : List Name) → Below m ms → IsAmong k (m ∷ ms) �
 behind k m ms h (first e) l = not_less k (subst (λ x. name_order k x ≡ Less) e l)
 behind k m ms h (later i) l = not_less k (names_total.trans k m k l (all_among (λ n. name_order m n ≡ Less) ms k h i))
 
-one_list : (ns ms : List Name) → IsStrictlySortedBy name_order ns → IsStrictlySortedBy name_order ms → Alike ns ms → Alike ms ns → ns ≡ ms
+pub one_list : (ns ms : List Name) → IsStrictlySortedBy name_order ns → IsStrictlySortedBy name_order ms → Alike ns ms → Alike ms ns → ns ≡ ms
 unfolding IsStrictlySortedBy
 one_list [] [] h k f g = refl
 one_list [] (m ∷ ms) h k f g = absurd (none_among m (g m (first refl)))
@@ -267,14 +267,26 @@ required_named (among o ∷ ws) n t r = required_named ws n t r
 
 -- ---- the list
 
-pub required_is : (x : Residual) (names : List Name) → AreRequired x names → names ≡ required_names x
+pub required_names_are : (x : Residual) → AreRequired x (required_names x)
 unfolding required_names
-required_is x names are =
+required_names_are x =
     let test : Name → Bool = λ n. is_in_tag x && is_required n x in
     let mentioned = flat_map way_names x in
-    one_list names (in_order (filter test mentioned)) are.sorted (sorted_order (filter test mentioned))
-    (λ n i.
-    let told : test n ≡ true = (are.exact n).0 (from_among names n i) in
-    let w = and_parts (is_in_tag x) (is_required n x) told in
-    to_order (filter test mentioned) n (kept test mentioned n (required_named x n w.0 w.1) told))
-    (λ n i. to_among names n ((are.exact n).1 (passed test mentioned n (from_order (filter test mentioned) n i))))
+    let names = in_order (filter test mentioned) in
+    record {
+      sorted = sorted_order (filter test mentioned);
+      exact = λ n. (
+        (λ c. passed test mentioned n (from_order (filter test mentioned) n (to_among names n c))),
+        (λ told.
+            let w = and_parts (is_in_tag x) (is_required n x) told in
+            from_among names n (to_order (filter test mentioned) n (kept test mentioned n (required_named x n w.0 w.1) told))),
+      );
+    }
+
+pub required_is : (x : Residual) (names : List Name) → AreRequired x names → names ≡ required_names x
+required_is x names are =
+    let all = required_names x in
+    let own = required_names_are x in
+    one_list names all are.sorted own.sorted
+    (λ n i. to_among all n ((own.exact n).1 ((are.exact n).0 (from_among names n i))))
+    (λ n i. to_among names n ((are.exact n).1 ((own.exact n).0 (from_among all n i))))
