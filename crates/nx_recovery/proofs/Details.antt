@@ -1,7 +1,7 @@
 -- The details of faults are names of the text or names that the schema requires, and so UTF-8.
 use Rattle.std.proofs.Common.{◌≡◌, ℕ, List, [], ◌∷◌, ◌++◌, Option, Some, None, refl, sym, subst, arith}
 use Rattle.std.specs.Prelude.{IfSome, IsTrue, Contains, codes}
-use Rattle.std.specs.List.{AllByRecursion, flat_map}
+use Rattle.std.specs.List.{AllByRecursion}
 use Rattle.std.specs.Str.{IsUtf8, is_utf8, chars}
 use Rattle.std.proofs.lemmas.Bool.{and_parts}
 use Rattle.std.proofs.lemmas.List.Elements.{recursion_from_All, Contains-get_or}
@@ -30,7 +30,7 @@ use Rattle.rng_kept.specs.Moves.{Adds, adds_attributes, missing_attributes}
 use Rattle.rng_kept.specs.Residuals.{Residual}
 use Rattle.rng_kept.specs.Standing.{first_residual}
 use Rattle.rng_residual.proofs.Missing.{missing_parts_go_on}
-use Rattle.nx_recover.specs.Details.{braced, name_text, names_text}
+use Rattle.nx_recover.specs.Details.{braced, name_text, further_text, names_text}
 use Rattle.nx_recover.specs.Faults.{flaw_at, Along, at_end, by_event, by_fault}
 use Rattle.nx_recover.specs.Frames.{Frame, AreRequiredNames}
 use Rattle.nx_recover.specs.Nesting as nesting
@@ -54,7 +54,7 @@ braced_text (b ∷ bs) h = IsUtf8-append (codes "{") ((b ∷ bs) ++ codes "}") (
 name_utf8 : (n : Name) → NameIsText n → IsUtf8 (name_text n)
 name_utf8 n h = IsUtf8-append (braced n.ns) n.local (braced_text n.ns h.0) h.1
 
-further_utf8 : (names : List Name) → AllByRecursion NameIsText names → IsUtf8 (flat_map (λ (name : Name). codes " " ++ name_text name) names)
+further_utf8 : (names : List Name) → AllByRecursion NameIsText names → IsUtf8 (further_text names)
 further_utf8 [] h = IsUtf8-nil
 further_utf8 (n ∷ names) h = IsUtf8-append (codes " " ++ name_text n) _ (IsUtf8-append (codes " ") (name_text n) (ascii_one 32 (omega arith)) (name_utf8 n h.0)) (further_utf8 names h.1)
 

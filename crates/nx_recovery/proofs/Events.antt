@@ -35,7 +35,7 @@ use Rattle.nx_recover.specs.Table.{Form, Done, done_by, entered, entered_by, ent
 use Rattle.nx_recover.specs.declared.levels.Open.{Open}
 use Rattle.nx_recover.specs.declared.levels.Open.TheVariants.{In, Begins, Lost}
 use Rattle.nx_recover.specs.declared.levels.Turn.{Turn}
-use Rattle.nx_recovery.proofs.Required.{required_names_are}
+use Rattle.nx_recover.proofs.RequiredNames.{required_names_are}
 use Rattle.nx_recovery.proofs.Tags.{Fits, tag_after}
 use Rattle.nx_recovery.proofs.Entered.{none_given, FollowsKnown, known_follows}
 use Rattle.nx_recovery.proofs.Standing.{own_elements, StandsFor, StandsHere, lost_here, frame_here, stands_in, stands_begins, stands_lost, StandAround, none_around, one_around}

@@ -20,7 +20,7 @@ use Rattle.rng_core.specs.Patterns.{Language}
 use Rattle.nx_recover.specs.Items.{faults_found, form_behind, form_along, found_along}
 use Rattle.nx_recover.specs.RecoverRules.{Recovered, recover_rules, levels_behind, faults_behind, first_levels}
 use Rattle.nx_recover.specs.Table.{Form}
-use Rattle.nx_recovery.proofs.Places.{levels_placed, gives_placed, ends_placed}
+use Rattle.nx_recover.specs.MachineLaws.{levels_placed, gives_placed, ends_placed}
 
 found_append : (g : Language) (l : Form) (xs ys : List Item) → found_along g l (xs ++ ys) ≡ found_along g l xs ++ found_along g (form_along g l xs) ys
 unfolding found_along form_along

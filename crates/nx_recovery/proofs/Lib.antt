@@ -1,11 +1,8 @@
-pub mod Names
 pub mod Uniqueness
-pub mod Required
 pub mod Tags
 pub mod Standing
 pub mod Entered
 pub mod Events
-pub mod Places
 pub mod Folding
 pub mod Along
 pub mod Following

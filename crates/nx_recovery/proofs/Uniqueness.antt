@@ -8,6 +8,7 @@ use Rattle.rng_core.specs.Patterns.{Language}
 use Rattle.nx_events.specs.declared.flaw.Flaw.{Flaw}
 use Rattle.nx_events.specs.declared.item.Event.{Event}
 use Rattle.nx_events.specs.declared.item.Item.{Item}
+use Rattle.nx_recover.proofs.RequiredNames.{to_among, from_among, one_list}
 use Rattle.nx_recover.specs.Details.{names_text}
 use Rattle.nx_recover.specs.Frames.{Frame, AreRequiredNames}
 use Rattle.nx_recover.specs.Outcomes as table
@@ -17,7 +18,6 @@ use Rattle.nx_recover.specs.Nesting.{LevelsAfter}
 use Rattle.nx_recover.specs.Faults.{flaw_at, Along, at_end, by_event, by_fault}
 use Rattle.nx_recover.specs.declared.levels.Open.{Open}
 use Rattle.nx_recovery.specs.Uniqueness.{RecoveryIsOne}
-use Rattle.nx_recovery.proofs.Names.{same_names}
 
 -- ---- one row
 
@@ -30,7 +30,10 @@ same_row = record { outcome = refl; flaw = refl }
 
 module _ {g : Language} {f : Frame} where
   same_required : (names others : List Name) → AreRequiredNames g f names → AreRequiredNames g f others → names ≡ others
-  same_required names others a b = same_names names others a.sorted b.sorted (λ n h. (b.exact n).1 ((a.exact n).0 h)) (λ n h. (a.exact n).1 ((b.exact n).0 h))
+  same_required names others a b =
+      one_list names others a.sorted b.sorted
+      (λ n i. to_among others n ((b.exact n).1 ((a.exact n).0 (from_among names n i))))
+      (λ n i. to_among names n ((a.exact n).1 ((b.exact n).0 (from_among others n i))))
 
   pub one_row : {e : trees.Event} {o u : Outcome} {w v : Option Flaw} → Recovers g f e o w → Recovers g f e u v → SameRow o u w v
   one_row (table.admitted a) (table.admitted b) = same_row

@@ -20,7 +20,8 @@ pub record IsValidDocument (g : Language) (text : List ℕ) : Type 0 where
   pub matched : Matches g.definitions g.start [] (alone tree)
 
 abbrev pub NoFaultsIsValid : Type 0
-NoFaultsIsValid = (g : Language) → IsLive g → (text : List ℕ) → IsUtf8 text → AreFaultsOf (Some g) text [] ↔ IsValidDocument g text
+NoFaultsIsValid = (g : Language) → IsLive g → (text : List ℕ) → IsUtf8 text →
+    AreFaultsOf (Some g) text [] ↔ IsValidDocument g text
 
 -- the same without a document: items without a fault, whose events are valid
 pub record HasValidEvents (g : Language) (text : List ℕ) : Type 0 where
@@ -30,4 +31,5 @@ pub record HasValidEvents (g : Language) (text : List ℕ) : Type 0 where
   pub valid : Valid g.definitions g.start events
 
 abbrev pub NoFaultsHaveValidEvents : Type 0
-NoFaultsHaveValidEvents = (g : Language) → IsLive g → (text : List ℕ) → IsUtf8 text → AreFaultsOf (Some g) text [] ↔ HasValidEvents g text
+NoFaultsHaveValidEvents = (g : Language) → IsLive g → (text : List ℕ) → IsUtf8 text →
+    AreFaultsOf (Some g) text [] ↔ HasValidEvents g text

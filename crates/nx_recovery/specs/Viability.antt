@@ -20,7 +20,8 @@ use Rattle.nx_recover.specs.declared.levels.Open.{Open}
 use Rattle.nx_recover.specs.declared.levels.Open.TheVariants.{In, Begins, Lost}
 
 -- the frame here and the open elements behind items
-pub data LevelsBehind (g : Language) : Option Frame → List (Open Frame) → List Item → Option Frame → List (Open Frame) → Type 0 where
+pub data LevelsBehind (g : Language) :
+    Option Frame → List (Open Frame) → List Item → Option Frame → List (Open Frame) → Type 0 where
   no_item : {here : Option Frame} {os : List (Open Frame)} → LevelsBehind g here os [] here os
   an_event : {here last : Option Frame} {os around : List (Open Frame)} {e : Event} {s : Span} {all : List Item}
       (next : Option Frame) (behind : List (Open Frame)) (w : Option Flaw)
@@ -46,7 +47,19 @@ pub record AreViableLevels (g : Language) (here : Option Frame) (os : List (Open
   pub inside : IfSome here (IsViableFrame g)
   pub around : AllByRecursion (IsViableOpen g) os
 
--- of a live schema, behind each item of a text
+-- levels that the document's frame comes to behind items
+pub record HasLevels (g : Language) (front : List Item) : Type 0 where
+  pub inside : Option Frame
+  pub elements : List (Open Frame)
+  pub behind : LevelsBehind g (Some (document_frame g)) [] front inside elements
+
+-- of a live schema there are levels behind each item of a text
+abbrev pub LevelsAreThere : Type 0
+LevelsAreThere = (g : Language) → IsLive g → (text : List ℕ) → IsUtf8 text →
+    (front rest : List Item) → items_of_text text ≡ front ++ rest → HasLevels g front
+
+-- and these are viable
 abbrev pub FramesStayViable : Type 0
-FramesStayViable = (g : Language) → IsLive g → (text : List ℕ) → IsUtf8 text → (front rest : List Item) → items_of_text text ≡ front ++ rest
-    → (here : Option Frame) (os : List (Open Frame)) → LevelsBehind g (Some (document_frame g)) [] front here os → AreViableLevels g here os
+FramesStayViable = (g : Language) → IsLive g → (text : List ℕ) → IsUtf8 text →
+    (front rest : List Item) → items_of_text text ≡ front ++ rest →
+    (here : Option Frame) (os : List (Open Frame)) → LevelsBehind g (Some (document_frame g)) [] front here os → AreViableLevels g here os

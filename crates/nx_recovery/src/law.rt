@@ -4,7 +4,7 @@ ghost use Rattle.nx_recovery.specs.Details.{FaultsAreText};
 ghost use Rattle.nx_recovery.specs.Existence.{EveryTextHasFaults, RecoverGivesFaults};
 ghost use Rattle.nx_recovery.specs.Uniqueness.{RecoveryIsOne};
 ghost use Rattle.nx_recovery.specs.Validity.{NoFaultsHaveValidEvents, NoFaultsIsValid};
-ghost use Rattle.nx_recovery.specs.Viability.{FramesStayViable};
+ghost use Rattle.nx_recovery.specs.Viability.{FramesStayViable, LevelsAreThere};
 
 /// A text has one list of faults at most, against a schema or none.
 #[tactic(auto, using(crate::proofs::Uniqueness::recovery_is_one))]
@@ -24,9 +24,11 @@ pub fn every_text_has_faults()
     ensures { EveryTextHasFaults }
 {}
 
-/// Of a live schema each frame, here or around, keeps some list of events that can become valid, behind each item of a text.
+/// Of a live schema there are levels behind each item of a text, and each frame, here or around, keeps some list of events that
+/// can become valid.
 pub fn frames_stay_viable()
-    ensures { FramesStayViable }
+    ensures there { LevelsAreThere }
+    ensures viable { FramesStayViable }
 {}
 
 /// Against a live schema a text has no faults exactly where it is a document whose tree the schema matches.
