@@ -62,4 +62,5 @@ LevelsAreThere = (g : Language) → IsLive g → (text : List ℕ) → IsUtf8 te
 abbrev pub FramesStayViable : Type 0
 FramesStayViable = (g : Language) → IsLive g → (text : List ℕ) → IsUtf8 text →
     (front rest : List Item) → items_of_text text ≡ front ++ rest →
-    (here : Option Frame) (os : List (Open Frame)) → LevelsBehind g (Some (document_frame g)) [] front here os → AreViableLevels g here os
+    (here : Option Frame) (os : List (Open Frame)) → LevelsBehind g (Some (document_frame g)) [] front here os →
+    AreViableLevels g here os
