@@ -30,5 +30,5 @@ pub mod surface;
 #[cfg(test)]
 mod tests;
 
-pub use read::{ReadFault, read};
+pub use read::ReadFault;
 pub use surface::Surface;

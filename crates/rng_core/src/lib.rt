@@ -17,4 +17,3 @@ mod tests;
 
 pub use grammar::{Def, Defs, Grammar, Pat};
 pub use name_class::NameClass;
-pub use overlap::overlap;

@@ -41,5 +41,4 @@ mod waiting;
 
 pub use fault::LiveFault;
 pub use matcher::Matcher;
-pub use prune::prune;
 pub use schema::Schema;

@@ -30,5 +30,4 @@ mod tests;
 mod text;
 mod wildcard;
 
-pub use check::check;
 pub use fault::RestrictFault;

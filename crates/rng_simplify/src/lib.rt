@@ -46,4 +46,3 @@ mod tests;
 pub mod types;
 
 pub use fault::SchemaFault;
-pub use simplify::simplify;
