@@ -1,5 +1,5 @@
 -- What is left in each frame stands for the frame's moves: the invariant of recovery along items, at its start.
-use Rattle.std.proofs.Common.{Option, Some, None, refl}
+use Rattle.std.proofs.Common.{Some, None, refl}
 use Rattle.rng_core.specs.Patterns.{Language}
 use Rattle.rng_kept.specs.Standing.{first_residual}
 use Rattle.rng_kept.specs.Live.{IsFrame}

@@ -1,17 +1,16 @@
 -- What stands goes on, so that each frame keeps a list that is viable.
-use Rattle.std.proofs.Common.{ℕ, List, [], ◌∷◌, ◌++◌, Option, Some, None, subst}
+use Rattle.std.proofs.Common.{ℕ, List, [], ◌++◌, Option, Some, None, subst}
 use Rattle.std.specs.Prelude.{IfSome}
 use Rattle.std.specs.List.{AllByRecursion}
 use Rattle.nx_base.specs.declared.name.Name.{Name}
 use Rattle.nx_events.specs.Texts.{ItemsAreText}
 use Rattle.nx_events.specs.declared.item.Item.{Item}
-use Rattle.nx_events.specs.declared.item.Item.TheVariants as items
 use Rattle.rng_core.specs.Patterns.{Language}
 use Rattle.rng_kept.specs.Live.{AreLive}
 use Rattle.rng_kept.specs.Residuals.{Residual}
 use Rattle.rng_kept.specs.Standing.{first_residual}
 use Rattle.rng_residual.proofs.Standing.{standing_goes_on}
-use Rattle.nx_recover.specs.Frames.{Frame, document_frame}
+use Rattle.nx_recover.specs.Frames.{Frame}
 use Rattle.nx_recover.specs.declared.levels.Open.{Open}
 use Rattle.nx_recovery.specs.Viability.{IsViableFrame, IsViableOpen, AreViableLevels, FramesStayViable}
 use Rattle.nx_recovery.proofs.Tags.{InTags, text_in_tags}

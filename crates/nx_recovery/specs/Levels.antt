@@ -1,24 +1,29 @@
 -- Levels behind items: the frames that go on, here and around, and what is left for them.
-use Rattle.std.specs.Prelude.{◌≡◌, ◌↔◌, ℕ, suc, Bool, true, false, List, [], ◌∷◌, ◌++◌, Option, Some, None}
+use Rattle.std.specs.Prelude.{◌≡◌, ◌↔◌, ℕ, suc, true, false, List, [], ◌∷◌, ◌++◌, map, Option, Some, None, IsSome}
 use Rattle.std.specs.Str.{IsUtf8}
+use Rattle.nx_base.specs.Rules.{lexeme_of}
+use Rattle.nx_base.specs.Running.{after_all}
+use Rattle.nx_base.specs.Tokens.{tokens_of}
 use Rattle.nx_base.specs.declared.fault.Fault.{Fault}
 use Rattle.nx_base.specs.declared.fault.Span.{Span}
 use Rattle.nx_base.specs.declared.name.Name.{Name}
+use Rattle.nx_base.specs.declared.token.Token.{Token}
 use Rattle.rng_core.specs.Patterns.{Language}
 use Rattle.rng_kept.specs.Events.{IsAmong}
 use Rattle.rng_kept.specs.Live.{IsLive}
 use Rattle.rng_kept.specs.Moves.{Move, attributes_of, is_tag_open, open_elements}
 use Rattle.rng_kept.specs.Residuals.{Residual}
 use Rattle.rng_kept.specs.Standing.{Stands}
-use Rattle.nx_events.specs.Items.{items_of_text}
+use Rattle.nx_events.specs.Items.{first_state, items_of_token, state_behind, items_of_text}
 use Rattle.nx_events.specs.declared.flaw.Flaw.{Flaw}
 use Rattle.nx_events.specs.declared.item.Event.{Event}
 use Rattle.nx_events.specs.declared.item.Event.TheVariants.{Enter, EnterLost, Att, TagEnd, Chars, Leave}
 use Rattle.nx_events.specs.declared.item.Item.{Item}
 use Rattle.nx_events.specs.declared.item.Item.TheVariants as items
+use Rattle.nx_events.specs.declared.state.EventState.{EventState}
 use Rattle.nx_recover.specs.Frames.{Frame, document_frame}
 use Rattle.nx_recover.specs.Nesting.{LevelsAfter}
-use Rattle.nx_recover.specs.RecoverRules.{first_levels, levels_behind}
+use Rattle.nx_recover.specs.RecoverRules.{first_levels, levels_behind, recover_rules}
 use Rattle.nx_recover.specs.Table.{Form}
 use Rattle.nx_recover.specs.declared.levels.Open.{Open}
 use Rattle.nx_recover.specs.declared.levels.Open.TheVariants.{In, Begins, Lost}
@@ -114,9 +119,35 @@ pub record TellLevels (g : Language) (front : List Item) (l : Form) : Type 0 whe
 -- of a live schema, those that the rules over residuals have behind items of a text
 abbrev pub LevelsAreTold : Type 0
 LevelsAreTold = (g : Language) → IsLive g → (text : List ℕ) → IsUtf8 text →
-    (front rest : List Item) → items_of_text text ≡ front ++ rest → TellLevels g front (levels_behind (Some g) (first_levels (Some g)) front)
+    (front rest : List Item) → items_of_text text ≡ front ++ rest →
+    TellLevels g front (levels_behind (Some g) (first_levels (Some g)) front)
+
+-- the items of tokens, without those of an end
+abbrev pub items_through : EventState → List Token → List Item
+items_through state [] = []
+items_through state (token ∷ others) = items_of_token state token ++ items_through (state_behind state token) others
+
+-- so do those that a state of the machine means, behind tokens of a text
+abbrev pub StatesTellLevels : Type 0
+StatesTellLevels = (g : Language) → IsLive g → (text : List ℕ) → IsUtf8 text →
+    (front rest : List Token) → tokens_of text ≡ front ++ rest →
+    let rules = recover_rules (Some g) in
+    TellLevels g (items_through first_state front) (after_all rules rules.first (map lexeme_of front)).levels
 
 -- there is one frame here, and one list of open elements, behind items
 abbrev pub LevelsAreOne : Type 0
 LevelsAreOne = (g : Language) (here one other : Option Frame) (os around others : List (Open Frame)) (all : List Item) →
     LevelsBehind g here os all one around → LevelsBehind g here os all other others → (one ≡ other) × (around ≡ others)
+
+-- an element is open, and it is one of the frame here, or it is lost
+abbrev pub CanEnd : Option Frame → List (Open Frame) → Type 0
+CanEnd here [] = ⊥
+CanEnd here (In n ∷ os) = IsSome here
+CanEnd here (Begins n around ∷ os) = IsSome here
+CanEnd here (Lost around ∷ os) = Unit {0}
+
+-- in front of each end of an element in a text
+abbrev pub EndsAreOfElements : Type 0
+EndsAreOfElements = (g : Language) (text : List ℕ) (front rest : List Item) (s : Span) →
+    items_of_text text ≡ front ++ (items.Event Leave s ∷ rest) → (here : Option Frame) (os : List (Open Frame)) →
+    LevelsBehind g (Some (document_frame g)) [] front here os → CanEnd here os
