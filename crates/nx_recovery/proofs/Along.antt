@@ -20,8 +20,9 @@ use Rattle.nx_recover.specs.RecoverRules.{recover_rules, first_levels}
 use Rattle.nx_recover.specs.Table.{Form, done_by}
 use Rattle.nx_recover.specs.declared.levels.Open.{Open}
 use Rattle.nx_recovery.specs.Existence.{RecoverGivesFaults, EveryTextHasFaults}
-use Rattle.nx_recovery.proofs.Tags.{InTags, tag_after, text_in_tags}
-use Rattle.nx_recovery.proofs.Standing.{own_elements, StandsHere, StandAround, none_around, document_stands}
+use Rattle.nx_recovery.proofs.Tags.{InTags, text_in_tags}
+use Rattle.nx_recovery.specs.Levels.{tag_after, own_elements, StandsHere, StandAround, none_around}
+use Rattle.nx_recovery.proofs.Standing.{document_stands}
 use Rattle.nx_recovery.proofs.Events.{recovers_to}
 use Rattle.nx_recovery.proofs.Folding.{rules_fold}
 

@@ -40,8 +40,9 @@ use Rattle.nx_recover.specs.Outcomes.{Outcome, Recovers, EndsElement}
 use Rattle.nx_recover.specs.declared.levels.Open.{Open}
 use Rattle.nx_recover.specs.declared.levels.Open.TheVariants.{In, Begins, Lost}
 use Rattle.nx_recovery.specs.Details.{FaultsAreText}
-use Rattle.nx_recovery.proofs.Tags.{Fits, InTags, tag_after, text_in_tags}
-use Rattle.nx_recovery.proofs.Standing.{StandsFor, StandsHere, lost_here, frame_here, none_around, document_stands}
+use Rattle.nx_recovery.proofs.Tags.{Fits, InTags, text_in_tags}
+use Rattle.nx_recovery.specs.Levels.{tag_after, StandsFor, StandsHere, lost_here, frame_here, none_around}
+use Rattle.nx_recovery.proofs.Standing.{document_stands}
 use Rattle.nx_recovery.proofs.Following.{LevelsStand, follow}
 use Rattle.nx_recovery.proofs.Along.{text_items}
 

@@ -36,9 +36,9 @@ use Rattle.nx_recover.specs.declared.levels.Open.{Open}
 use Rattle.nx_recover.specs.declared.levels.Open.TheVariants.{In, Begins, Lost}
 use Rattle.nx_recover.specs.declared.levels.Turn.{Turn}
 use Rattle.nx_recover.proofs.RequiredNames.{required_names_are}
-use Rattle.nx_recovery.proofs.Tags.{Fits, tag_after}
+use Rattle.nx_recovery.proofs.Tags.{Fits}
+use Rattle.nx_recovery.specs.Levels.{tag_after, own_elements, StandsFor, StandsHere, lost_here, frame_here, stands_in, stands_begins, stands_lost, StandAround, none_around, one_around}
 use Rattle.nx_recovery.proofs.Entered.{none_given, FollowsKnown, known_follows}
-use Rattle.nx_recovery.proofs.Standing.{own_elements, StandsFor, StandsHere, lost_here, frame_here, stands_in, stands_begins, stands_lost, StandAround, none_around, one_around}
 
 -- levels that recover so, for which the outcome over residuals stands
 pub record RecoversTo (g : Language) (here : Option Frame) (os : List (Open Frame)) (e : Event) (tag : Option (List Name)) (d : Done) : Type 0 where

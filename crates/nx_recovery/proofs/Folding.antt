@@ -1,5 +1,5 @@
 -- The faults of recovery's rules over the tokens of a text are those along its items.
-use Rattle.std.proofs.Common.{◌≡◌, ℕ, ◌+◌, ◌-◌, ◌≤◌, List, [], ◌∷◌, ◌++◌, length, map, Option, Some, None, refl, sym, ap, ◌∙◌, arith, append_assoc}
+use Rattle.std.proofs.Common.{◌≡◌, ℕ, ◌+◌, ◌-◌, ◌≤◌, List, [], ◌∷◌, ◌++◌, length, map, Option, Some, None, refl, sym, ap, ◌∙◌, arith, append_assoc, subst}
 use Rattle.std.specs.Str.{IsUtf8}
 use Rattle.std.proofs.lemmas.Str.{IsCharBoundary-start}
 use Rattle.nx_scan.proofs.Joined.{joined-from}
@@ -11,6 +11,7 @@ use Rattle.nx_base.specs.declared.fault.Fault.{Fault}
 use Rattle.nx_base.specs.declared.token.Token.{Token}
 use Rattle.nx_events.specs.BareLaws.{after_placed}
 use Rattle.nx_events.specs.Items.{first_state, items_of_token, items_from, items_of_text, state_behind}
+use Rattle.nx_events.specs.OpenTags.{state_after}
 use Rattle.nx_events.specs.Runs.{run_back}
 use Rattle.nx_events.specs.RunsGrow.{back_grows}
 use Rattle.nx_events.specs.declared.item.Item.{Item}
@@ -20,6 +21,7 @@ use Rattle.rng_core.specs.Patterns.{Language}
 use Rattle.nx_recover.specs.Items.{faults_found, form_behind, form_along, found_along}
 use Rattle.nx_recover.specs.RecoverRules.{Recovered, recover_rules, levels_behind, faults_behind, first_levels}
 use Rattle.nx_recover.specs.Table.{Form}
+use Rattle.nx_recovery.specs.Levels.{items_through}
 use Rattle.nx_recover.specs.MachineLaws.{levels_placed, gives_placed, ends_placed}
 
 found_append : (g : Language) (l : Form) (xs ys : List Item) → found_along g l (xs ++ ys) ≡ found_along g l xs ++ found_along g (form_along g l xs) ys
@@ -64,3 +66,51 @@ pub rules_fold : (g : Option Language) (text : List ℕ) → IsUtf8 text → mac
 rules_fold g text utf8 =
     let cover = (joined-from (length text - 0) text 0 utf8 (IsCharBoundary-start text utf8) (omega arith)).lie in
     sym (along g (length text) 0 (record { events = first_state; levels = first_levels g }) (tokens_of text) cover (omega arith))
+
+-- ---- the levels behind tokens
+
+levels_append : (g : Option Language) (l : Form) (xs ys : List Item) → levels_behind g l (xs ++ ys) ≡ levels_behind g (levels_behind g l xs) ys
+unfolding form_along
+levels_append None l xs ys = refl
+levels_append (Some g) l [] ys = refl
+levels_append (Some g) l (x ∷ xs) ys = levels_append (Some g) (form_behind g l x) xs ys
+
+levels_through : (g : Option Language) (len p : ℕ) (m : Recovered) (ks rest : List Token) → AreTokensFrom len p (ks ++ rest) → run_back m.events.run ≤ p →
+    levels_behind g m.levels (items_through m.events ks) ≡ (after_all (recover_rules g) m (map lexeme_of ks)).levels
+unfolding AreTokensFrom form_along
+levels_through None len p m [] rest h b = refl
+levels_through (Some g) len p m [] rest h b = refl
+levels_through g len p m (k ∷ ks) rest h b =
+    let r = recover_rules g in
+    let from = h.0 in
+    let next = r.after m (lexeme_of k) in
+    let same : state_behind m.events k ≡ next.events = after_placed m.events k in
+    let grown = back_grows m.events k in
+    let back : run_back next.events.run ≤ p + length k.bytes = rw (← same) (omega arith) in
+    levels_append g m.levels (items_of_token m.events k) (items_through (state_behind m.events k) ks)
+    ∙ ap (λ (l : Form). levels_behind g l (items_through (state_behind m.events k) ks)) (levels_placed g m k (omega arith))
+    ∙ ap (λ (s : EventState). levels_behind g next.levels (items_through s ks)) same
+    ∙ levels_through g len (p + length k.bytes) next ks rest h.1 back
+
+items_part : (state : EventState) (front rest : List Token) (len : ℕ) →
+    items_from state (front ++ rest) len ≡ items_through state front ++ items_from (state_after state front) rest len
+unfolding items_from state_after
+items_part state [] rest len = refl
+items_part state (k ∷ front) rest len =
+    ap (λ (xs : List Item). items_of_token state k ++ xs) (items_part (state_behind state k) front rest len)
+    ∙ sym (append_assoc (items_of_token state k) (items_through (state_behind state k) front) (items_from (state_after (state_behind state k) front) rest len))
+
+-- tokens at the front of a text: their items are at the front of its items, and fold to the levels behind them
+pub record FoldsTo (g : Option Language) (text : List ℕ) (front : List Token) : Type 0 where
+  pub behind : List Item
+  pub part : items_of_text text ≡ items_through first_state front ++ behind
+  pub levels : levels_behind g (first_levels g) (items_through first_state front) ≡ (after_all (recover_rules g) (recover_rules g).first (map lexeme_of front)).levels
+
+pub tokens_fold : (g : Option Language) (text : List ℕ) → IsUtf8 text → (front rest : List Token) → tokens_of text ≡ front ++ rest → FoldsTo g text front
+tokens_fold g text utf8 front rest e =
+    let cover = (joined-from (length text - 0) text 0 utf8 (IsCharBoundary-start text utf8) (omega arith)).lie in
+    record {
+      behind = items_from (state_after first_state front) rest (length text);
+      part = ap (λ (all : List Token). items_from first_state all (length text)) e ∙ items_part first_state front rest (length text);
+      levels = levels_through g (length text) 0 (record { events = first_state; levels = first_levels g }) front rest (subst (λ (all : List Token). AreTokensFrom (length text) 0 all) e cover) (omega arith);
+    }

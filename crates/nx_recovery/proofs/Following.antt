@@ -10,9 +10,9 @@ use Rattle.nx_recover.specs.Frames.{Frame}
 use Rattle.nx_recover.specs.Nesting.{LevelsAfter}
 use Rattle.nx_recover.specs.Table.{Form, done_by}
 use Rattle.nx_recover.specs.declared.levels.Open.{Open}
-use Rattle.nx_recovery.proofs.Tags.{Fits, tag_after}
+use Rattle.nx_recovery.proofs.Tags.{Fits}
+use Rattle.nx_recovery.specs.Levels.{tag_after, own_elements, StandsHere, StandAround}
 use Rattle.nx_recovery.proofs.Uniqueness.{one_event}
-use Rattle.nx_recovery.proofs.Standing.{own_elements, StandsHere, StandAround}
 use Rattle.nx_recovery.proofs.Events.{recovers_to}
 
 -- some residuals stand for these levels

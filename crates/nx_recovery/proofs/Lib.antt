@@ -6,6 +6,7 @@ pub mod Events
 pub mod Folding
 pub mod Along
 pub mod Following
+pub mod Levels
 pub mod Viability
 pub mod Validity
 pub mod Details

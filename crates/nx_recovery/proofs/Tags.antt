@@ -39,6 +39,7 @@ use Rattle.nx_events.specs.declared.state.Run.{Run}
 use Rattle.nx_events.specs.declared.tag.Attribute.{Attribute}
 use Rattle.rng_kept.specs.Events.{IsAmong, first, later}
 use Rattle.rng_residual.proofs.SmallPatterns.{by_test}
+use Rattle.nx_recovery.specs.Levels.{tag_after}
 
 -- ---- events in order: the names of the attributes so far where a tag is open, and none elsewhere
 
@@ -55,19 +56,6 @@ Fits (Some l) (Att n v) = IsAmong n l → ⊥
 Fits (Some l) TagEnd = Unit {0}
 Fits (Some l) (Chars t) = ⊥
 Fits (Some l) Leave = ⊥
-
--- a tag with one attribute more
-abbrev pub with_attribute : Option (List Name) → Name → Option (List Name)
-with_attribute None n = None
-with_attribute (Some l) n = Some (n ∷ l)
-
-abbrev pub tag_after : Option (List Name) → Event → Option (List Name)
-tag_after tag (Enter n) = Some []
-tag_after tag EnterLost = Some []
-tag_after tag (Att n v) = with_attribute tag n
-tag_after tag TagEnd = None
-tag_after tag (Chars t) = None
-tag_after tag Leave = None
 
 -- such items, up to a place outside of tags
 abbrev pub InTags : Option (List Name) → List Item → Type 0

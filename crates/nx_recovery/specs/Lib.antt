@@ -1,5 +1,6 @@
 pub mod Uniqueness
 pub mod Existence
+pub mod Levels
 pub mod Viability
 pub mod Validity
 pub mod Details

@@ -2,9 +2,10 @@
 
 ghost use Rattle.nx_recovery.specs.Details.{FaultsAreText};
 ghost use Rattle.nx_recovery.specs.Existence.{EveryTextHasFaults, RecoverGivesFaults};
+ghost use Rattle.nx_recovery.specs.Levels.{EndsAreOfElements, LevelsAreOne, LevelsAreTold, StatesTellLevels};
 ghost use Rattle.nx_recovery.specs.Uniqueness.{RecoveryIsOne};
 ghost use Rattle.nx_recovery.specs.Validity.{NoFaultsHaveValidEvents, NoFaultsIsValid};
-ghost use Rattle.nx_recovery.specs.Viability.{FramesStayViable, LevelsAreThere};
+ghost use Rattle.nx_recovery.specs.Viability.{FramesStayViable};
 
 /// A text has one list of faults at most, against a schema or none.
 #[tactic(auto, using(crate::proofs::Uniqueness::recovery_is_one))]
@@ -24,11 +25,20 @@ pub fn every_text_has_faults()
     ensures { EveryTextHasFaults }
 {}
 
-/// Of a live schema there are levels behind each item of a text, and each frame, here or around, keeps some list of events that
-/// can become valid.
+/// Of a live schema, the levels that the rules over residuals have behind items of a text, and so those that a state of the machine
+/// means behind tokens of a text, tell the levels of the definition, of which there are some and no others: what is left in each
+/// frame, here and around, stands for its moves, and the open elements are of the same kinds and names. No frame goes on here
+/// exactly where the innermost open element is lost. Where an element ends one is open, and it is of the frame here or lost.
+pub fn levels_are_told()
+    ensures told { LevelsAreTold }
+    ensures states { StatesTellLevels }
+    ensures one { LevelsAreOne }
+    ensures ends { EndsAreOfElements }
+{}
+
+/// Of a live schema each frame behind an item of a text, here or around, keeps some list of events that can become valid.
 pub fn frames_stay_viable()
-    ensures there { LevelsAreThere }
-    ensures viable { FramesStayViable }
+    ensures { FramesStayViable }
 {}
 
 /// Against a live schema a text has no faults exactly where it is a document whose tree the schema matches.
