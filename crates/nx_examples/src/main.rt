@@ -20,24 +20,28 @@ use std::marker::Brand;
 use std::sync::ledger::{Blank, Ledger};
 
 /// The scripts, in the folder that the program is called in.
-const SCRIPTS: [&str; 5] = [
+const SCRIPTS: [&str; 8] = [
     "examples/first.nxs",
     "examples/manual.nxs",
     "examples/configuration.nxs",
     "examples/languages.nxs",
     "examples/broken.nxs",
+    "examples/manual-schema.nxs",
+    "examples/configuration-schema.nxs",
+    "examples/languages-schema.nxs",
 ];
 
 /// The schemas, there, too. Each element that is left in a schema has a definition: 12 of manual-inlines.rnc, 12 of
-/// manual-blocks.rnc, each but for the one that is replaced, and 15 of manual.rnc; 10 of config.rnc. The parts of a schema
-/// have no start. Of dead.rnc one definition in five lives: an element that has to hold itself is dead, so is one that has to
+/// manual-blocks.rnc, each but for the one that is replaced, and 15 of manual.rnc; 10 of config.rnc; 2 of languages.rnc. The
+/// parts of a schema have no start. Of dead.rnc one definition in five lives: an element that has to hold itself is dead, so is one that has to
 /// hold a number that is none, and nothing leads to the last. Those below `refused` break a restriction each, but for
 /// nothing-valid.rnc, which no document can meet.
-const SCHEMAS: [&str; 12] = [
+const SCHEMAS: [&str; 13] = [
     "examples/schemas/manual.rnc",
     "examples/schemas/manual-blocks.rnc",
     "examples/schemas/manual-inlines.rnc",
     "examples/schemas/config.rnc",
+    "examples/schemas/languages.rnc",
     "examples/schemas/dead.rnc",
     "examples/schemas/refused/path.rnc",
     "examples/schemas/refused/mixture.rnc",

@@ -25,7 +25,12 @@ struct Row {
     status: Status,
 }
 
-const ROWS: [Row; 26] = [
+const ROWS: [Row; 27] = [
+    Row {
+        script: "schema \"s1.rnc\"\ninsert 0 \"<doc id='a'><title>T</title><para>x<em>y</em></para></doc>\"\nerrors\n",
+        output: "errors: 0\n",
+        status: Status::Done,
+    },
     Row {
         script: "insert 0 \"ab\"\ndelete 0 1\nprint\n",
         output: "b\n",
@@ -158,11 +163,167 @@ const ROWS: [Row; 26] = [
     },
 ];
 
-/// The documents beside a script, of which two are no text.
-const DOCUMENTS: [(&str, &[u8]); 3] = [
+/// The documents beside a script, of which two are no text, and schemas.
+const DOCUMENTS: [(&str, &[u8]); 16] = [
     ("file:///work/b.xml", b"a\xE2\x82A"),
     ("file:///work/c.xml", b"a\xE2\x82"),
     ("file:///work/d.xml", b"<d/>\n"),
+    ("file:///work/s1.rnc", SECTIONS),
+    ("file:///work/m.rnc", b"include \"s1.rnc\"\n"),
+    ("file:///work/e.rnc", b"element n { string \"\" }"),
+    ("file:///work/a.rnc", b"element a { empty }"),
+    (
+        "file:///work/n.rnc",
+        b"element n { xsd:int { minInclusive = \"5\" maxInclusive = \"4\" } }",
+    ),
+    (
+        "file:///work/u.rnc",
+        b"default namespace = \"u\"\nstart = element a { element b { empty }* }",
+    ),
+    (
+        "file:///work/mixed.rnc",
+        b"element r { element a { empty }, element b { empty } | element c { empty } }",
+    ),
+    (
+        "file:///work/sides.rnc",
+        b"element r { (element a { empty }, element b { empty }) | element c { empty } }",
+    ),
+    (
+        "file:///work/any.rnc",
+        b"element r { element * { text } & element x { text } }",
+    ),
+    (
+        "file:///work/five.rnc",
+        b"element n { xsd:int { minInclusive = \"5\" } }",
+    ),
+    (
+        "file:///work/xy.rnc",
+        b"element a { attribute x { text }, attribute y { text } }",
+    ),
+    ("file:///work/true.rnc", b"element b { xsd:boolean \"true\" }"),
+    ("file:///work/gone.rnc", b"start = external \"http://[\""),
+];
+
+const SECTIONS: &[u8] = b"start = element doc { attribute id { xsd:NCName }, element title { text }, element para { (text | element em { text })* }* }";
+
+/// Scripts that hold documents against those schemas, what they print and how they end.
+const VALIDATED: [(&str, &str, Status); 24] = [
+    ("schema \"s1.rnc\"\nerrors\n", "errors: 1\n0-0 NoRoot\n", Status::Done),
+    (
+        "schema \"s1.rnc\"\ninsert 0 \"<doc id='a'><para/></doc>\"\nerrors\n",
+        "errors: 1\n12-19 NotYet para\n",
+        Status::Done,
+    ),
+    (
+        "schema \"s1.rnc\"\ninsert 0 \"<doc id='a'><title/><foo><em>x</em></foo></doc>\"\nerrors\n",
+        "errors: 1\n20-25 Unknown foo\n",
+        Status::Done,
+    ),
+    (
+        "schema \"s1.rnc\"\ninsert 0 \"<doc><title/></doc>\"\nerrors\n",
+        "errors: 1\n0-5 MissingAttributes id\n",
+        Status::Done,
+    ),
+    (
+        "schema \"s1.rnc\"\ninsert 0 \"<doc id='1a'><title/></doc>\"\nerrors\n",
+        "errors: 1\n9-11 BadValue id\n",
+        Status::Done,
+    ),
+    (
+        "schema \"s1.rnc\"\ninsert 0 \"<doc id='a'><title>T</doc>\"\nerrors\n",
+        "errors: 1\n20-26 MissingEnd title\n",
+        Status::Done,
+    ),
+    (
+        "schema \"e.rnc\"\ninsert 0 \"<n> </n>\"\nerrors\ndelete 3 4\nerrors\n",
+        "errors: 1\n3-4 TextNotAllowed\nerrors: 0\n",
+        Status::Done,
+    ),
+    (
+        "schema \"a.rnc\"\ninsert 0 \"<a> <b/> </a>\"\nerrors\n",
+        "errors: 1\n4-8 Unknown b\n",
+        Status::Done,
+    ),
+    (
+        "schema \"e.rnc\"\nschema \"n.rnc\"\ninsert 0 \"<n></n>\"\nerrors\n",
+        "line 2 refused: Unreadable NothingValid\nerrors: 0\n",
+        Status::Refused,
+    ),
+    (
+        "schema \"s1.rnc\"\ninsert 0 \"<doc id='a'><title>T</title></doc>\"\nerrors\ninsert 20 \"]]>\"\nerrors\n",
+        "errors: 0\nerrors: 1\n20-23 BadText\n",
+        Status::Done,
+    ),
+    (
+        "schema \"u.rnc\"\ninsert 0 \"<a xmlns='u'><b/><b/></a>\"\nerrors\ndelete 10 11\ninsert 10 \"v\"\nslice 1\nslice 1\nslice 1\nerrors\n",
+        "errors: 0\nfrontier 13 of 25\nfrontier 17 of 25\nfrontier 21 of 25\nerrors: 1\n0-13 Unknown {v}a\n",
+        Status::Done,
+    ),
+    (
+        "schema \"mixed.rnc\"\nschema \"sides.rnc\"\ninsert 0 \"<r><c/></r>\"\nerrors\n",
+        "line 1 refused: Unreadable Syntax\nerrors: 0\n",
+        Status::Refused,
+    ),
+    (
+        "schema \"any.rnc\"\n",
+        "line 1 refused: Unreadable InterleaveOverlap\n",
+        Status::Refused,
+    ),
+    (
+        "schema \"s1.rnc\"\ninsert 0 \"<doc id='a'><title>T\"\nerrors\n",
+        "errors: 2\n20-20 UnclosedElement title\n20-20 UnclosedElement doc\n",
+        Status::Done,
+    ),
+    (
+        "schema \"s1.rnc\"\ninsert 0 \"<doc id='a'><!-- x\"\nerrors\n",
+        "errors: 3\n12-18 Unclosed\n18-18 UnclosedElement doc\n18-18 Incomplete doc\n",
+        Status::Done,
+    ),
+    (
+        "schema \"s1.rnc\"\ninsert 0 \"<doc id='a'><title/><em>x</em></doc>\"\nerrors\n",
+        "errors: 1\n20-24 NotAllowed em\n",
+        Status::Done,
+    ),
+    (
+        "schema \"s1.rnc\"\ninsert 0 \"<doc id='a'>x<title/></doc>\"\nerrors\n",
+        "errors: 1\n12-13 TextNotAllowed\n",
+        Status::Done,
+    ),
+    (
+        "schema \"s1.rnc\"\ninsert 0 \"<?xml version=\\\"1.0\\\" encoding=\\\"UTF-8\\\"?>\\n<?xml-stylesheet type='text/css' href='s.css'?>\\n<!-- c -->\\n<doc id='a'>\\n  <title>A &amp; B</title>\\n  <para>x &#233; <![CDATA[<y>]]></para>\\n</doc>\\n\"\nerrors\n",
+        "errors: 0\n",
+        Status::Done,
+    ),
+    (
+        "schema \"five.rnc\"\ninsert 0 \"<n> +007 </n>\"\nerrors\ndelete 3 9\ninsert 3 \"4\"\nerrors\n",
+        "errors: 0\nerrors: 1\n3-4 BadValue\n",
+        Status::Done,
+    ),
+    (
+        "schema \"xy.rnc\"\ninsert 0 \"<a y='1' x='2'/>\"\nerrors\n",
+        "errors: 0\n",
+        Status::Done,
+    ),
+    (
+        "schema \"true.rnc\"\ninsert 0 \"<b>1</b>\"\nerrors\ninsert 4 \"1\"\nerrors\n",
+        "errors: 0\nerrors: 1\n3-5 BadValue\n",
+        Status::Done,
+    ),
+    (
+        "insert 0 \"<a><b/></a>\"\nschema \"a.rnc\"\nslice 2\nstats\nschema none\nslice 1\nschema \"a.rnc\"\nstats\nerrors\nschema none\nerrors\n",
+        "frontier 7 of 11\ntaken 2\nfrontier 3 of 11\ntaken 0\nerrors: 1\n3-7 Unknown b\nerrors: 0\n",
+        Status::Done,
+    ),
+    (
+        "schema \"a.rnc\"\nschema \"http://[\"\nschema \"none.rnc\"\nschema \"b.xml\"\nschema \"gone.rnc\"\nschema \"d.xml\"\ninsert 0 \"<n/>\"\nerrors\n",
+        "line 2 refused: BadUri\nline 3 refused: Absent file:///work/none.rnc\nline 4 refused: NotUtf8 file:///work/b.xml 3\nline 5 refused: BadUri\nline 6 refused: Unreadable BadCharacter\nerrors: 1\n0-4 Unknown n\n",
+        Status::Refused,
+    ),
+    (
+        "schema auto\nschema \"m.rnc\"\ninsert 0 \"<doc id='a'><title/></doc>\"\nerrors\n",
+        "line 1 refused: BadCommand\nerrors: 0\n",
+        Status::Refused,
+    ),
 ];
 
 /// The script, and documents beside it.
@@ -249,6 +410,17 @@ fn scripts_print(rt: HostRuntime) {
                 row.output,
                 row.status
             ) == "as told",
+            "{script:?}"
+        );
+    }
+}
+
+#[test]
+fn documents_are_held_against_schemas(rt: HostRuntime) {
+    for (script, output, status) in &VALIDATED {
+        assert_eq!(rt;
+            played(rt.alloc(), &["run.nxs"], script.as_bytes(), *output, *status),
+            "as told",
             "{script:?}"
         );
     }
@@ -350,7 +522,7 @@ fn holds(alloc: Global, files: &mut SureFiles, uri: &str, text: &str) -> bool {
 #[test]
 fn saved_texts_are_there(rt: HostRuntime) -> Result<(), Fail> {
     let alloc = rt.alloc();
-    let script = ROWS[10].script;
+    let script = ROWS[11].script;
     let mut files = files_with(alloc, script.as_bytes())?;
     let mut out = SureOut::new(alloc);
     let _ended = run_words(alloc, &["run.nxs"], &mut files, &mut out);
@@ -358,6 +530,43 @@ fn saved_texts_are_there(rt: HostRuntime) -> Result<(), Fail> {
     assert!(rt; holds(alloc, &mut files, "file:///work/o.xml", "x"));
     assert!(rt; holds(alloc, &mut files, SCRIPT, script));
     Ok(())
+}
+
+/// A schema is held, and one that includes the same.
+const INCLUDING: &str = "schema \"s1.rnc\"\nschema \"m.rnc\"\ninsert 0 \"<doc id='a'><title>T</title><para>x<em>y</em></para></doc>\"\nerrors\n";
+
+/// What becomes of that script where the call on files with this number fails.
+fn included_failing(alloc: Global, number: u64, output: &str, status: Status) -> &'static str {
+    let Ok(mut files) = MemFiles::new(alloc, &[number]) else {
+        return "no memory";
+    };
+    if files.add(SCRIPT, INCLUDING.as_bytes()).is_err() {
+        return "no memory";
+    }
+    for (uri, bytes) in &DOCUMENTS {
+        if files.add(*uri, *bytes).is_err() {
+            return "no memory";
+        }
+    }
+    let mut out = SureOut::new(alloc);
+    let ended = run_words(alloc, &["run.nxs"], &mut files, &mut out);
+    compared(out.bytes(), ended, output, status)
+}
+
+/// The third call fetches the second schema, the fourth the file that this includes. The first schema stays.
+#[test]
+fn failing_schemas_are_told(rt: HostRuntime) {
+    for number in 3..5u64 {
+        assert_eq!(rt;
+            included_failing(
+                rt.alloc(),
+                number,
+                "line 2 refused: Failed\nerrors: 0\n",
+                Status::Refused
+            ),
+            "as told"
+        );
+    }
 }
 
 const FILING: &str = "insert 0 \"x\"\nsave \"o.xml\"\nopen \"run.nxs\"\ndelete 1 59\nprint\n";

@@ -4,4 +4,5 @@ pub mod Numbers
 pub mod Printed
 pub mod Reader
 pub mod Texts
+pub mod Words
 pub mod Writing

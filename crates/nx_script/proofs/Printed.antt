@@ -9,10 +9,13 @@ use Rattle.std.proofs.lemmas.List.{append-nil, flat_map_more, take_more}
 use Rattle.std.proofs.lemmas.List.Concat.{flat_map-append}
 use Rattle.std.proofs.lemmas.Str.{IsUtf8-append, IsUtf8-encode, IsUtf8-from_ascii, IsUtf8-nil, encode_ascii, chars_from_encodes}
 use Rattle.std.proofs.lemmas.Str.Ascii.{IsAscii-nil, IsAscii-cons}
+use Rattle.nx_base.specs.declared.cause.Cause.{Cause}
+use Rattle.nx_base.specs.declared.cause.Cause.TheVariants as causes
 use Rattle.nx_base.specs.declared.fault.Fault.{Fault}
 use Rattle.nx_base.specs.declared.fault.Span.{Span}
 use Rattle.nx_base.specs.declared.fault.Kind.{Kind}
 use Rattle.nx_base.specs.declared.fault.Kind.TheVariants as kinds
+use Rattle.nx_script.specs.Causes.{cause_name}
 use Rattle.nx_script.specs.Escapes.{is_escaped, escape, printed, printed_text, printed_character}
 use Rattle.nx_script.specs.FaultLines.{place_text, detail_text, fault_line, errors_text}
 use Rattle.nx_script.specs.Kinds.{kind_name}
@@ -21,7 +24,7 @@ use Rattle.nx_script.specs.Replies.{RefusalIsText, ReplyIsText}
 use Rattle.nx_script.specs.declared.reply.Reply.{Reply}
 use Rattle.nx_script.specs.declared.reply.Reply.TheVariants.{Silent, Printed, Errors, Frontier, Taken, Refused}
 use Rattle.nx_script.specs.declared.reply.Refusal.{Refusal}
-use Rattle.nx_script.specs.declared.reply.Refusal.TheVariants.{BadCommand, BadPosition, BadUri, Absent, NotUtf8, Failed, NoMemory}
+use Rattle.nx_script.specs.declared.reply.Refusal.TheVariants.{BadCommand, BadPosition, BadUri, Absent, NotUtf8, Unreadable, Failed, NoMemory}
 
 -- ---- bytes below 128
 
@@ -148,6 +151,37 @@ kind_text kinds.MissingAttributes = word_text (codes "MissingAttributes") refl
 kind_text kinds.TextNotAllowed = word_text (codes "TextNotAllowed") refl
 kind_text kinds.Incomplete = word_text (codes "Incomplete") refl
 
+cause_text : (why : Cause) → IsUtf8 (cause_name why)
+cause_text causes.BadEscape = word_text (codes "BadEscape") refl
+cause_text causes.BadLiteral = word_text (codes "BadLiteral") refl
+cause_text causes.BadCharacter = word_text (codes "BadCharacter") refl
+cause_text causes.Syntax = word_text (codes "Syntax") refl
+cause_text causes.TooDeep = word_text (codes "TooDeep") refl
+cause_text causes.UndeclaredPrefix = word_text (codes "UndeclaredPrefix") refl
+cause_text causes.Twice = word_text (codes "Twice") refl
+cause_text causes.NotGrammar = word_text (codes "NotGrammar") refl
+cause_text causes.IncludeLoop = word_text (codes "IncludeLoop") refl
+cause_text causes.NoDefinition = word_text (codes "NoDefinition") refl
+cause_text causes.NoStart = word_text (codes "NoStart") refl
+cause_text causes.CombineClash = word_text (codes "CombineClash") refl
+cause_text causes.RefLoop = word_text (codes "RefLoop") refl
+cause_text causes.BadExcept = word_text (codes "BadExcept") refl
+cause_text causes.XmlnsName = word_text (codes "XmlnsName") refl
+cause_text causes.TooLarge = word_text (codes "TooLarge") refl
+cause_text causes.UnknownType = word_text (codes "UnknownType") refl
+cause_text causes.UnknownParam = word_text (codes "UnknownParam") refl
+cause_text causes.BadParam = word_text (codes "BadParam") refl
+cause_text causes.BadValue = word_text (codes "BadValue") refl
+cause_text causes.TooManyExcepts = word_text (codes "TooManyExcepts") refl
+cause_text causes.UnsupportedExcept = word_text (codes "UnsupportedExcept") refl
+cause_text causes.Path = word_text (codes "Path") refl
+cause_text causes.Mixture = word_text (codes "Mixture") refl
+cause_text causes.AttributeOverlap = word_text (codes "AttributeOverlap") refl
+cause_text causes.WildcardOnce = word_text (codes "WildcardOnce") refl
+cause_text causes.InterleaveOverlap = word_text (codes "InterleaveOverlap") refl
+cause_text causes.TextTwice = word_text (codes "TextTwice") refl
+cause_text causes.NothingValid = word_text (codes "NothingValid") refl
+
 detail_is_text : (detail : List ℕ) → IsUtf8 detail → IsUtf8 (detail_text detail)
 detail_is_text [] h = IsUtf8-nil
 detail_is_text (b ∷ bytes) h = IsUtf8-append (codes " ") (printed_text (b ∷ bytes)) (word_text (codes " ") refl) (printed_is_text (b ∷ bytes) h)
@@ -192,6 +226,7 @@ refusal_is_text (NotUtf8 uri at) h =
     IsUtf8-append (codes "NotUtf8 " ++ uri ++ codes " ") (decimal at)
     (IsUtf8-append (codes "NotUtf8 " ++ uri) (codes " ") (IsUtf8-append (codes "NotUtf8 ") uri (word_text (codes "NotUtf8 ") refl) h) (word_text (codes " ") refl))
     (decimal_text at)
+refusal_is_text (Unreadable why) h = IsUtf8-append (codes "Unreadable ") (cause_name why) (word_text (codes "Unreadable ") refl) (cause_text why)
 refusal_is_text Failed h = word_text (codes "Failed") refl
 refusal_is_text NoMemory h = word_text (codes "NoMemory") refl
 

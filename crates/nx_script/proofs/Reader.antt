@@ -7,15 +7,16 @@ use Rattle.std.proofs.lemmas.Option.{same_Some, cond_some}
 use Rattle.std.proofs.lemmas.Bool.{eqb-true, eq-eqb, and_parts, not-true}
 use Rattle.std.proofs.lemmas.Slice.Eq.{bytes_eq-Decides}
 use Rattle.nx_script.specs.declared.command.Command.{Command}
-use Rattle.nx_script.specs.declared.command.Command.TheVariants.{Nothing, OpenFile, Save, Insert, Delete, Print, Errors, Slice, Stats}
+use Rattle.nx_script.specs.declared.command.Command.TheVariants.{Nothing, OpenFile, Save, Insert, Delete, Print, Errors, Slice, Stats, SchemaFile, SchemaNone}
 use Rattle.nx_script.specs.declared.read.ScriptFault.{ScriptFault}
 use Rattle.nx_script.specs.declared.read.ScriptFault.TheVariants.{BadCommand, NoMemory}
-use Rattle.nx_script.specs.Grammar.{IsBlanks, IsNothingLine, IsOpenLine, IsSaveLine, IsInsertLine, IsDeleteLine, IsPrintLine, IsErrorsLine, IsSliceLine, IsStatsLine, IsLine, ReadsLine}
+use Rattle.nx_script.specs.Grammar.{IsBlanks, IsNothingLine, IsOpenLine, IsSaveLine, IsInsertLine, IsDeleteLine, IsPrintLine, IsErrorsLine, IsSliceLine, IsStatsLine, IsSchemaFileLine, IsSchemaNoneLine, IsLine, ReadsLine}
 use Rattle.nx_script.specs.Commands.{HasUtf8Texts}
-use Rattle.nx_script.specs.Reading.{Finds, ◌>>=◌, is_blank, after_blanks, number_at, text_at, ended, open_of, save_of, insert_of, delete_of, print_of, errors_of, slice_of, stats_of, command_of, command_at, line_command}
+use Rattle.nx_script.specs.Reading.{Finds, ◌>>=◌, is_blank, after_blanks, number_at, text_at, word_at, ended, none_or_file, open_of, save_of, insert_of, delete_of, print_of, errors_of, slice_of, stats_of, schema_file_of, schema_of, command_of, command_at, line_command}
 use Rattle.nx_script.proofs.Blanks.{chosen, found_step, Pass-from_test, FirstFails, prefix_len_is, front_passes, IsBlanks-pass, pass-IsBlanks, test-IsBlank, after_blanks_is, after_blanks_leaves, Ends, tail_ends}
 use Rattle.nx_script.proofs.Numbers.{number_at_is, number_at_takes}
 use Rattle.nx_script.proofs.Texts.{text_at_is, text_at_takes, word_utf8}
+use Rattle.nx_script.proofs.Words.{word_at_is, word_at_takes, word_at_text}
 
 -- ---- the end of a line
 
@@ -114,6 +115,18 @@ stats_is : (line : List ℕ) → IsStatsLine line → line_command line ≡ Some
 unfolding command_of stats_of
 stats_is line (blanks, rest, e, b, last) = verb_read line (codes "stats") rest blanks refl e b (tail_ends [] rest last) ∙ ended_is Stats rest last
 
+schema_file_is : (line uri : List ℕ) → IsSchemaFileLine uri line → line_command line ≡ Some (SchemaFile uri)
+unfolding command_of schema_of schema_file_of
+schema_file_is line uri (text, t, (blanks, rest, e, b, (gap, end, e1, g, last))) =
+    verb_read line (codes "schema") rest blanks refl e b (tail_ends (text ∷ []) rest (gap, end, e1, g, last))
+    ∙ rw (e1, word_at_text (codes "none") gap text end uri refl g t, text_at_is gap text end uri g t) (ended_is (SchemaFile uri) end last)
+
+schema_none_is : (line : List ℕ) → IsSchemaNoneLine line → line_command line ≡ Some SchemaNone
+unfolding command_of schema_of
+schema_none_is line (blanks, rest, e, b, (gap, end, e1, g, last)) =
+    verb_read line (codes "schema") rest blanks refl e b (tail_ends (codes "none" ∷ []) rest (gap, end, e1, g, last))
+    ∙ rw (e1, word_at_is (codes "none") gap end refl g) (ended_is SchemaNone end last)
+
 pub line_is : (line : List ℕ) (command : Command) → IsLine line command → line_command line ≡ Some command
 line_is line Nothing h = nothing_is line h
 line_is line (OpenFile uri) h = open_is line uri h
@@ -124,6 +137,8 @@ line_is line Print h = print_is line h
 line_is line Errors h = errors_is line h
 line_is line (Slice count) h = slice_is line count h
 line_is line Stats h = stats_is line h
+line_is line (SchemaFile uri) h = schema_file_is line uri h
+line_is line SchemaNone h = schema_none_is line h
 
 -- ---- what is read is the line's command
 
@@ -189,6 +204,26 @@ stats_takes line blanks rest c e b h =
     let end = ended_takes Stats rest c h in
     subst (IsLine line) end.0 (blanks, rest, e, b, end.1)
 
+schema_file_takes : (line blanks rest : List ℕ) (c : Command) → line ≡ blanks ++ codes "schema" ++ rest → IsBlanks blanks → schema_file_of rest ≡ Some c → IsLine line c
+unfolding schema_file_of
+schema_file_takes line blanks rest c e b h =
+    let uri = found_step (text_at rest) (λ x. ended (SchemaFile x.0) x.1) c h in
+    let text = text_at_takes rest uri.0.0 uri.0.1 uri.1 in
+    let end = ended_takes (SchemaFile uri.0.0) uri.0.1 c uri.2 in
+    subst (IsLine line) end.0 (text.1, text.4, (blanks, rest, e, b, (text.0, uri.0.1, text.2, text.3, end.1)))
+
+none_or_file_takes : (line blanks rest : List ℕ) (c : Command) (found : Option (List ℕ)) → line ≡ blanks ++ codes "schema" ++ rest → IsBlanks blanks
+    → word_at (codes "none") rest ≡ found → none_or_file found rest ≡ Some c → IsLine line c
+none_or_file_takes line blanks rest c (Some behind) e b is h =
+    let word = word_at_takes (codes "none") rest behind is in
+    let end = ended_takes SchemaNone behind c h in
+    subst (IsLine line) end.0 (blanks, rest, e, b, (word.0, behind, word.1, word.2, end.1))
+none_or_file_takes line blanks rest c None e b is h = schema_file_takes line blanks rest c e b h
+
+schema_takes : (line blanks rest : List ℕ) (c : Command) → line ≡ blanks ++ codes "schema" ++ rest → IsBlanks blanks → schema_of rest ≡ Some c → IsLine line c
+unfolding schema_of
+schema_takes line blanks rest c e b h = none_or_file_takes line blanks rest c (word_at (codes "none") rest) e b refl h
+
 -- what is found is the line's command
 abbrev Takes : List ℕ → Option Command → Type 0
 Takes line found = (c : Command) → found ≡ Some c → IsLine line c
@@ -216,7 +251,8 @@ verb_takes line blanks word rest e b =
     (by_name line blanks word rest (codes "errors") (errors_of rest) _ e (λ k c h. errors_takes line blanks rest c k b h)
     (by_name line blanks word rest (codes "slice") (slice_of rest) _ e (λ k c h. slice_takes line blanks rest c k b h)
     (by_name line blanks word rest (codes "stats") (stats_of rest) _ e (λ k c h. stats_takes line blanks rest c k b h)
-    (by_no_name line))))))))
+    (by_name line blanks word rest (codes "schema") (schema_of rest) _ e (λ k c h. schema_takes line blanks rest c k b h)
+    (by_no_name line)))))))))
 
 command_takes : (line blanks bytes : List ℕ) (c : Command) → line ≡ blanks ++ bytes → IsBlanks blanks → command_at bytes ≡ Some c → IsLine line c
 unfolding command_at
@@ -268,6 +304,10 @@ texts_utf8 line Print utf8 h = tt
 texts_utf8 line Errors utf8 h = tt
 texts_utf8 line (Slice count) utf8 h = tt
 texts_utf8 line Stats utf8 h = tt
+texts_utf8 line (SchemaFile uri) utf8 (text, t, (blanks, rest, e, b, (gap, end, e1, g, last))) =
+    let front = blanks ++ codes "schema" in
+    word_utf8 (front ++ gap) text end uri t (subst IsUtf8 (in_line line front rest gap text end e e1) utf8)
+texts_utf8 line SchemaNone utf8 h = tt
 
 pub answer_utf8 : (line : List ℕ) (answer : Result Command ScriptFault) → IsUtf8 line → ReadsLine line answer → IfOk answer HasUtf8Texts
 answer_utf8 line (Ok command) utf8 h = texts_utf8 line command utf8 h

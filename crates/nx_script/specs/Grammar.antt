@@ -4,7 +4,7 @@ use Rattle.std.specs.Char.{IsScalar}
 use Rattle.std.specs.List.{AllByRecursion, flat_map}
 use Rattle.std.specs.Str.Parse.{IsNumeral, digits_value}
 use Rattle.nx_script.specs.declared.command.Command.{Command}
-use Rattle.nx_script.specs.declared.command.Command.TheVariants.{Nothing, OpenFile, Save, Insert, Delete, Print, Errors, Slice, Stats}
+use Rattle.nx_script.specs.declared.command.Command.TheVariants.{Nothing, OpenFile, Save, Insert, Delete, Print, Errors, Slice, Stats, SchemaFile, SchemaNone}
 use Rattle.nx_script.specs.declared.read.ScriptFault.{ScriptFault}
 use Rattle.nx_script.specs.declared.read.ScriptFault.TheVariants.{BadCommand, NoMemory}
 
@@ -120,6 +120,14 @@ IsSliceLine count line = (number : List ℕ) × IsNumber number count × IsOfWor
 abbrev pub IsStatsLine : List ℕ → Type 0
 IsStatsLine line = IsOfWords (codes "stats") [] line
 
+-- `schema "URI"`
+abbrev pub IsSchemaFileLine : List ℕ → List ℕ → Type 0
+IsSchemaFileLine uri line = (text : List ℕ) × IsText text uri × IsOfWords (codes "schema") (text ∷ []) line
+
+-- `schema none`
+abbrev pub IsSchemaNoneLine : List ℕ → Type 0
+IsSchemaNoneLine line = IsOfWords (codes "schema") (codes "none" ∷ []) line
+
 -- the line is this command
 abbrev pub IsLine : List ℕ → Command → Type 0
 IsLine line Nothing = IsNothingLine line
@@ -131,6 +139,8 @@ IsLine line Print = IsPrintLine line
 IsLine line Errors = IsErrorsLine line
 IsLine line (Slice count) = IsSliceLine count line
 IsLine line Stats = IsStatsLine line
+IsLine line (SchemaFile uri) = IsSchemaFileLine uri line
+IsLine line SchemaNone = IsSchemaNoneLine line
 
 -- no line is two commands
 abbrev pub LinesAreOneCommand : Type 0

@@ -1,4 +1,5 @@
 pub mod Grammar
+pub mod Causes
 pub mod Commands
 pub mod Escapes
 pub mod FaultLines

@@ -1,11 +1,13 @@
 -- The text that a reply prints.
 use Rattle.std.specs.Prelude.{ℕ, List, [], ◌++◌, codes}
 use Rattle.std.specs.Fmt.{decimal}
+use Rattle.nx_base.specs.declared.cause.Cause.{Cause}
+use Rattle.nx_script.specs.Causes.{cause_name}
 use Rattle.nx_script.specs.FaultLines.{errors_text}
 use Rattle.nx_script.specs.declared.reply.Reply.{Reply}
 use Rattle.nx_script.specs.declared.reply.Reply.TheVariants.{Silent, Printed, Errors, Frontier, Taken, Refused}
 use Rattle.nx_script.specs.declared.reply.Refusal.{Refusal}
-use Rattle.nx_script.specs.declared.reply.Refusal.TheVariants.{BadCommand, BadPosition, BadUri, Absent, NotUtf8, Failed, NoMemory}
+use Rattle.nx_script.specs.declared.reply.Refusal.TheVariants.{BadCommand, BadPosition, BadUri, Absent, NotUtf8, Unreadable, Failed, NoMemory}
 
 -- the number that is no place, and the text's length
 abbrev pub bad_position_text : ℕ → ℕ → List ℕ
@@ -15,6 +17,10 @@ bad_position_text at len = codes "BadPosition " ++ decimal at ++ codes " " ++ de
 abbrev pub not_utf8_text : List ℕ → ℕ → List ℕ
 not_utf8_text uri at = codes "NotUtf8 " ++ uri ++ codes " " ++ decimal at
 
+-- the cause for which a schema can't be used
+abbrev pub unreadable_text : Cause → List ℕ
+unreadable_text why = codes "Unreadable " ++ cause_name why
+
 -- why a command was refused
 abbrev pub refusal_text : Refusal → List ℕ
 refusal_text BadCommand = codes "BadCommand"
@@ -22,6 +28,7 @@ refusal_text (BadPosition at len) = bad_position_text at len
 refusal_text BadUri = codes "BadUri"
 refusal_text (Absent uri) = codes "Absent " ++ uri
 refusal_text (NotUtf8 uri at) = not_utf8_text uri at
+refusal_text (Unreadable why) = unreadable_text why
 refusal_text Failed = codes "Failed"
 refusal_text NoMemory = codes "NoMemory"
 

@@ -8,7 +8,7 @@ use Rattle.std.specs.Char.{is_ascii_digit, is_digit}
 use Rattle.std.specs.Str.{bytes_eq}
 use Rattle.std.specs.Str.Parse.{digits_value}
 use Rattle.nx_script.specs.declared.command.Command.{Command}
-use Rattle.nx_script.specs.declared.command.Command.TheVariants.{Nothing, OpenFile, Save, Insert, Delete, Print, Errors, Slice, Stats}
+use Rattle.nx_script.specs.declared.command.Command.TheVariants.{Nothing, OpenFile, Save, Insert, Delete, Print, Errors, Slice, Stats, SchemaFile, SchemaNone}
 use Rattle.nx_script.specs.declared.read.ScriptFault.{ScriptFault}
 use Rattle.nx_script.specs.declared.read.ScriptFault.TheVariants.{BadCommand, NoMemory}
 
@@ -122,6 +122,12 @@ text_at bytes = do
   inside ← after_quote gone
   pieces_at inside
 
+-- what follows this word, where it stands behind a gap
+unfoldable pub word_at : List ℕ → List ℕ → Option (List ℕ)
+word_at word bytes = do
+  gone ← after_gap bytes
+  if bytes_eq (take (length word) gone) word then Some (drop (length word) gone) else None
+
 -- the command, where blanks alone follow
 unfoldable pub ended : Command → List ℕ → Option Command
 ended command bytes = if prefix_len is_blank bytes == length bytes then Some command else None
@@ -163,6 +169,19 @@ slice_of bytes = do
 unfoldable pub stats_of : List ℕ → Option Command
 stats_of bytes = ended Stats bytes
 
+unfoldable pub schema_file_of : List ℕ → Option Command
+schema_file_of bytes = do
+  uri ← text_at bytes
+  ended (SchemaFile uri.0) uri.1
+
+-- what follows `none`, where that stands there
+abbrev pub none_or_file : Option (List ℕ) → List ℕ → Option Command
+none_or_file (Some rest) bytes = ended SchemaNone rest
+none_or_file None bytes = schema_file_of bytes
+
+unfoldable pub schema_of : List ℕ → Option Command
+schema_of bytes = none_or_file (word_at (codes "none") bytes) bytes
+
 -- the command of this word
 unfoldable pub command_of : List ℕ → List ℕ → Option Command
 command_of word bytes =
@@ -174,7 +193,8 @@ command_of word bytes =
     else (if bytes_eq word (codes "errors") then errors_of bytes
     else (if bytes_eq word (codes "slice") then slice_of bytes
     else (if bytes_eq word (codes "stats") then stats_of bytes
-    else None)))))))
+    else (if bytes_eq word (codes "schema") then schema_of bytes
+    else None))))))))
 
 -- the command of the line whose blanks at the front are left out
 unfoldable pub command_at : List ℕ → Option Command

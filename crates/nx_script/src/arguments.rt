@@ -1,10 +1,11 @@
 //! What stands behind a command's word: numbers and texts.
 
-ghost use Rattle.std.specs.Prelude.{◌≡◌, ◌≤◌, length};
+ghost use Rattle.std.specs.Prelude.{◌≡◌, ◌≤◌, length, take, drop, option_copied, Some, None, if◌then◌else◌};
 ghost use Rattle.std.specs.List.{prefix_len};
 ghost use Rattle.std.specs.Char.{is_ascii_digit};
+ghost use Rattle.std.specs.Str.{bytes_eq};
 ghost use Rattle.std.specs.Str.Parse.{AllDigits, digits_value};
-ghost use Rattle.nx_script.specs.Reading.{Finds, is_blank, after_gap, digits_at, number_at, text_at, ended};
+ghost use Rattle.nx_script.specs.Reading.{Finds, is_blank, after_gap, digits_at, number_at, text_at, word_at, ended};
 
 use crate::command::Command;
 use crate::quoted::{after_quote, pieces};
@@ -59,6 +60,20 @@ impl<'a> Arguments<'a> {
         Ok(Bytes::from_vec(text))
     }
 
+    /// What is left behind this word, where it stands there; nothing is taken.
+    #[tactic(auto, unfolding(crate::specs::Reading::word_at))]
+    pub(crate) fn behind(&self, word: &str) -> Option<Arguments<'a>>
+        ensures { result ≡ word_at word.now self.now }
+    {
+        match behind_gap(self.rest) {
+            Some(gone) => match behind_word(gone, word.as_bytes()) {
+                Some(rest) => Some(Arguments { rest }),
+                None => None,
+            },
+            None => None,
+        }
+    }
+
     /// The command, where blanks alone are left.
     #[tactic(auto, unfolding(crate::specs::Reading::ended))]
     pub(crate) fn end(self, command: Command) -> Result<Command, ScriptFault>
@@ -89,14 +104,32 @@ pub(crate) fn leading_blanks(bytes: &[u8]) -> usize
 
 /// What follows the gap at the front.
 #[tactic(auto, unfolding(crate::specs::Reading::after_blanks, crate::specs::Reading::after_gap))]
-fn after_gap(bytes: &[u8]) -> Result<&[u8], ScriptFault>
-    ensures { Finds (λ rest. rest.now) result (after_gap bytes.now) }
+fn behind_gap(bytes: &[u8]) -> Option<&[u8]>
+    ensures { option_copied result ≡ after_gap bytes.now }
 {
     let blanks = leading_blanks(bytes);
     if blanks == 0 {
-        return Err(ScriptFault::BadCommand);
+        return None;
     }
-    Ok(&bytes[blanks..])
+    Some(&bytes[blanks..])
+}
+
+/// What follows the gap at the front, which is to be there.
+fn after_gap(bytes: &[u8]) -> Result<&[u8], ScriptFault>
+    ensures { Finds (λ rest. rest.now) result (after_gap bytes.now) }
+{
+    match behind_gap(bytes) {
+        Some(rest) => Ok(rest),
+        None => Err(ScriptFault::BadCommand),
+    }
+}
+
+/// What follows the word at the front.
+fn behind_word<'a>(bytes: &'a [u8], word: &[u8]) -> Option<&'a [u8]>
+    ensures { option_copied result ≡ (if bytes_eq (take (length word.now) bytes.now) word.now
+        then Some (drop (length word.now) bytes.now) else None) }
+{
+    bytes.strip_prefix(word)
 }
 
 /// How many digits stand at the front.

@@ -23,4 +23,8 @@ pub enum Command {
     Slice(u64),
     /// `stats`: tells how many tokens the last `slice` or `errors` took.
     Stats,
+    /// `schema "URI"`: holds the document against the schema of the file from now on.
+    SchemaFile(Bytes),
+    /// `schema none`: holds it against none.
+    SchemaNone,
 }

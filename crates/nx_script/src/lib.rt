@@ -2,6 +2,7 @@
 #![tactic(auto)]
 
 mod arguments;
+mod cause_name;
 pub mod command;
 mod escape;
 mod fault_line;

@@ -4,7 +4,7 @@ ghost use Rattle.std.specs.Prelude.{◌≡◌, ◌≤◌, length, IfOk};
 ghost use Rattle.std.specs.List.{position_or_len};
 ghost use Rattle.nx_script.specs.Grammar.{LinesAreOneCommand, ReadsLine};
 ghost use Rattle.nx_script.specs.Commands.{HasUtf8Texts};
-ghost use Rattle.nx_script.specs.Reading.{Finds, is_blank, open_of, save_of, insert_of, delete_of, slice_of, command_of, line_command};
+ghost use Rattle.nx_script.specs.Reading.{Finds, is_blank, open_of, save_of, insert_of, delete_of, slice_of, schema_file_of, schema_of, command_of, line_command};
 ghost use Rattle.nx_script.specs.Reading.{after_blanks};
 ghost use Rattle.nx_script.specs.declared.read.ScriptFault.TheVariants.{NoMemory};
 
@@ -94,6 +94,7 @@ fn command(alloc: Global, word: &str, arguments: Arguments<'_>) -> Result<Comman
         "errors" => arguments.end(Command::Errors),
         "slice" => slice(arguments),
         "stats" => arguments.end(Command::Stats),
+        "schema" => schema(alloc, arguments),
         _ => Err(ScriptFault::BadCommand),
     }
 }
@@ -143,4 +144,24 @@ fn slice(mut arguments: Arguments<'_>) -> Result<Command, ScriptFault>
 {
     let count = arguments.number()?;
     arguments.end(Command::Slice(count))
+}
+
+/// `schema none` or `schema "URI"`, from what follows the word.
+#[tactic(auto, unfolding(crate::specs::Reading::schema_of))]
+fn schema(alloc: Global, arguments: Arguments<'_>) -> Result<Command, ScriptFault>
+    ensures { Finds (λ command. command) result (schema_of arguments.entry) }
+{
+    match arguments.behind("none") {
+        Some(rest) => rest.end(Command::SchemaNone),
+        None => schema_file(alloc, arguments),
+    }
+}
+
+/// `schema "URI"`, from what follows the word.
+#[tactic(auto, unfolding(crate::specs::Reading::schema_file_of))]
+fn schema_file(alloc: Global, mut arguments: Arguments<'_>) -> Result<Command, ScriptFault>
+    ensures { Finds (λ command. command) result (schema_file_of arguments.entry) }
+{
+    let uri = arguments.text(alloc)?;
+    arguments.end(Command::SchemaFile(uri))
 }

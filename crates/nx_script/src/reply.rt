@@ -1,5 +1,6 @@
 //! What the editor answers a command.
 
+use nx_base::cause::Cause;
 use nx_base::fault::Faults;
 use nx_base::memory::NoMemory;
 use nx_base::sequence::Bytes;
@@ -37,6 +38,8 @@ pub enum Refusal {
     Absent(Bytes),
     /// The file under the URI is no text from this byte offset on.
     NotUtf8(Bytes, usize),
+    /// The files of the schema make no grammar that can be used.
+    Unreadable(Cause),
     /// The files could not do it.
     Failed,
     NoMemory,

@@ -6,6 +6,7 @@ use crate::line::split_line;
 use crate::read::{ScriptFault, read_line};
 use crate::reply::{Refusal, Reply};
 use crate::write::write_reply;
+use nx_base::cause::Cause;
 use nx_base::fault::{Fault, Faults, Kind, Span};
 use nx_base::sequence::Bytes;
 use nx_host::out::{Out, OutFault};
@@ -33,6 +34,11 @@ fn told(alloc: Global, line: &str) -> Result<String, Fail> {
         Ok(Command::Errors) => format!(in alloc; "errors")?,
         Ok(Command::Slice(count)) => format!(in alloc; "slice {count}")?,
         Ok(Command::Stats) => format!(in alloc; "stats")?,
+        Ok(Command::SchemaFile(uri)) => format!(in alloc;
+            "schema {}",
+            std::str::from_utf8(uri.as_slice())?
+        )?,
+        Ok(Command::SchemaNone) => format!(in alloc; "no schema")?,
         Err(ScriptFault::BadCommand) => format!(in alloc; "bad")?,
         Err(ScriptFault::NoMemory) => format!(in alloc; "no memory")?,
     };
@@ -40,7 +46,7 @@ fn told(alloc: Global, line: &str) -> Result<String, Fail> {
 }
 
 /// Lines, and what `told` makes of them.
-const LINES: [(&str, &str); 57] = [
+const LINES: [(&str, &str); 66] = [
     ("", "nothing"),
     (" \t ", "nothing"),
     ("#", "nothing"),
@@ -101,6 +107,15 @@ const LINES: [(&str, &str); 57] = [
     ("save \"o.xml\"", "save o.xml"),
     ("save o.xml", "bad"),
     ("save", "bad"),
+    ("schema \"s1.rnc\"", "schema s1.rnc"),
+    ("\tschema\t\"none\" ", "schema none"),
+    ("schema none", "no schema"),
+    ("schema \t none\t", "no schema"),
+    ("schema none 1", "bad"),
+    ("schema nonesuch", "bad"),
+    ("schemanone", "bad"),
+    ("schema s1.rnc", "bad"),
+    ("schema", "bad"),
 ];
 
 #[test]
@@ -247,6 +262,10 @@ fn refusals_are_written(rt: HostRuntime) -> Result<(), Fail> {
         (
             Refusal::NotUtf8(other, 3),
             "line 3 refused: NotUtf8 file:///work/c 3\n",
+        ),
+        (
+            Refusal::Unreadable(Cause::NothingValid),
+            "line 3 refused: Unreadable NothingValid\n",
         ),
         (Refusal::Failed, "line 3 refused: Failed\n"),
         (Refusal::NoMemory, "line 3 refused: NoMemory\n"),

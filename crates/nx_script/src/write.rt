@@ -4,10 +4,12 @@ ghost use Rattle.std.specs.Prelude.{◌≡◌, ◌++◌, IfOk, OnOk, codes, stri
 ghost use Rattle.nx_host.specs.Out.{WritesInParts, CountsOutFault};
 ghost use Rattle.nx_script.specs.FaultLines.{errors_text};
 ghost use Rattle.nx_script.specs.Printing.{reply_text, frontier_text, taken_text, refused_text, refusal_text, bad_position_text};
-ghost use Rattle.nx_script.specs.Printing.{not_utf8_text};
+ghost use Rattle.nx_script.specs.Printing.{not_utf8_text, unreadable_text};
 
+use crate::cause_name::cause_name;
 use crate::fault_line::errors_text;
 use crate::reply::{Refusal, Reply};
+use nx_base::cause::Cause;
 use nx_base::fault::Fault;
 use nx_base::memory::NoMemory;
 use nx_host::out::{Out, OutFault};
@@ -128,6 +130,7 @@ fn push_refusal(alloc: Global, text: &mut Vec<u8>, refusal: &Refusal) -> Result<
             text.extend_from_slice(uri.as_slice())?
         }
         Refusal::NotUtf8(uri, at) => push_not_utf8(alloc, text, uri.as_slice(), *at)?,
+        Refusal::Unreadable(why) => push_unreadable(text, *why)?,
         Refusal::Failed => text.extend_from_slice(b"Failed")?,
         Refusal::NoMemory => text.extend_from_slice(b"NoMemory")?,
     }
@@ -141,6 +144,15 @@ fn push_not_utf8(alloc: Global, text: &mut Vec<u8>, uri: &[u8], at: usize) -> Re
     text.extend_from_slice(b"NotUtf8 ")?;
     text.extend_from_slice(uri)?;
     text.extend_from_slice(format!(in alloc; " {at}")?.as_bytes())?;
+    Ok(())
+}
+
+/// Adds why a schema can't be used.
+fn push_unreadable(text: &mut Vec<u8>, why: Cause) -> Result<(), NoMemory>
+    ensures { OnOk result (text.new.items ≡ text.old.items ++ unreadable_text why) }
+{
+    text.extend_from_slice(b"Unreadable ")?;
+    text.extend_from_slice(cause_name(why).as_bytes())?;
     Ok(())
 }
 

@@ -1,13 +1,15 @@
 -- Documents that are opened and saved.
 use Rattle.std.proofs.Common.{◌≡◌, ℕ, List, Option, Some, Err, refl, sym, ap, ◌∙◌, subst, inr}
 use Rattle.nx_host.specs.Files.{FileMap, LeavesOthers, CountsFault}
-use Rattle.nx_host.specs.Uri.{Joins}
+use Rattle.nx_host.specs.Uri.{Joins, IsBadUri}
 use Rattle.nx_host.specs.declared.files.FileFault.{FileFault}
 use Rattle.nx_host.specs.declared.files.FileFault.TheVariants as file_fault
-use Rattle.nx_script.specs.Replies.{refusal_of_files}
+use Rattle.nx_host.specs.declared.uri.UriFault.{UriFault}
+use Rattle.nx_host.specs.declared.uri.UriFault.TheVariants as uri_fault
+use Rattle.nx_script.specs.Replies.{refusal_of_files, refusal_of_uri}
 use Rattle.nx_script.specs.declared.reply.Reply.{Reply}
 use Rattle.nx_script.specs.declared.reply.Reply.TheVariants.{Silent, Printed, Errors, Frontier, Taken, Refused}
-use Rattle.nx_script.specs.declared.reply.Refusal.TheVariants.{BadCommand, BadPosition, BadUri, Absent, NotUtf8, Failed, NoMemory}
+use Rattle.nx_script.specs.declared.reply.Refusal.TheVariants.{BadCommand, BadPosition, BadUri, Absent, NotUtf8, Unreadable, Failed, NoMemory}
 use Rattle.nx_session.specs.Editor.{EditorState, FilesState, files_state, work_folder}
 use Rattle.nx_session.specs.Documents.{Finds, OpensBytes, OpenStep, SaveStep}
 
@@ -27,12 +29,19 @@ opens uri_text uri bytes old new (Refused BadCommand) before after found same h 
 opens uri_text uri bytes old new (Refused (BadPosition at len)) before after found same h = absurd h
 opens uri_text uri bytes old new (Refused BadUri) before after found same h = absurd h
 opens uri_text uri bytes old new (Refused (Absent named)) before after found same h = absurd h
+opens uri_text uri bytes old new (Refused (Unreadable why)) before after found same h = absurd h
 opens uri_text uri bytes old new (Refused Failed) before after found same h = absurd h
 
 -- files that tell the same, and have failed as often, are the same to an editor
 pub same-files : (after before : FilesState) → after.map ≡ before.map → after.faults ≡ before.faults → after ≡ before
 same-files after before map faults =
     ap (λ (m : Option FileMap). files_state m after.faults) map ∙ ap (λ (n : ℕ). files_state before.map n) faults
+
+-- the command's text is no URI, or there is no memory to see whether it is one
+pub open-unjoined : (uri_text : List ℕ) (old : EditorState) (files : FilesState) (fault : UriFault)
+    → (fault ≡ uri_fault.Bad → IsBadUri work_folder uri_text) → OpenStep uri_text old files (Refused (refusal_of_uri fault)) old files
+open-unjoined uri_text old files uri_fault.Bad bad = (bad refl, refl, refl)
+open-unjoined uri_text old files uri_fault.NoMemory bad = (refl, refl)
 
 -- the files refuse what is asked of them
 abbrev IsCounted : FileFault → FilesState → FilesState → Type 0

@@ -1,66 +1,80 @@
--- What a machine over the tokens of a text finds, and that it is text.
-use Rattle.std.proofs.Common.{◌≡◌, ℕ, zero, suc, ◌+◌, ◌-◌, ◌<◌, ◌≤◌, List, [], ◌∷◌, ◌++◌, length, map, Result, Ok, Err, refl, sym, ap, subst, ◌∙◌, arith, append_assoc, inl, inr}
+-- What is kept of reading a text, and what is found in it.
+use Rattle.std.proofs.Common.{◌≡◌, ℕ, zero, suc, ◌+◌, ◌-◌, ◌<◌, ◌≤◌, List, length, Option, Some, None, option_map, refl, sym, ap, subst, arith, inl, inr}
 use Rattle.std.specs.List.{AllByRecursion}
-use Rattle.std.specs.Prelude.{IfOk}
+use Rattle.std.specs.Prelude.{IfSome}
 use Rattle.std.specs.Str.{IsUtf8}
 use Rattle.std.proofs.lemmas.Bool.{cases_lt, le-leb, lt-leb}
-use Rattle.std.proofs.lemmas.List.Concat.{flat_map-append}
 use Rattle.std.proofs.lemmas.Str.{IsCharBoundary-start, IsUtf8-between}
-use Rattle.nx_base.specs.Rules.{lexeme_of}
-use Rattle.nx_base.specs.Running.{after_all, faults_along, machine_faults}
-use Rattle.nx_base.specs.Shifting.{placed}
+use Rattle.deriv_plain.specs.declared.plain.Plain.{Plain}
+use Rattle.deriv_plain.specs.declared.ways.OneWay.{OneWay}
+use Rattle.nx_base.specs.Running.{machine_faults}
 use Rattle.nx_base.specs.Text.{IsPlace}
-use Rattle.nx_base.specs.Tokens.{AreTokensFrom, IsOfKind, cut, end_of, tokens_within, tokens_of}
+use Rattle.nx_base.specs.Tokens.{IsOfKind, cut, end_of, tokens_within, tokens_of}
 use Rattle.nx_base.specs.declared.fault.Fault.{Fault}
 use Rattle.nx_base.specs.declared.token.Token.{Token}
 use Rattle.nx_scan.proofs.Every.{cut-is_token}
-use Rattle.nx_scan.proofs.Joined.{joined-from}
 use Rattle.nx_scan.proofs.OwnBytes.{cut-own}
-use Rattle.nx_events.specs.Among.{faults_among}
-use Rattle.nx_events.specs.BareLaws.{gives_placed, after_placed, ends_placed}
-use Rattle.nx_events.specs.BareRules.{bare_rules, gives_bare}
-use Rattle.nx_events.specs.Items.{first_state, items_of_token, items_from, items_of_text, state_behind}
-use Rattle.nx_events.specs.Runs.{run_back}
+use Rattle.nx_events.specs.Items.{items_of_text}
 use Rattle.nx_events.specs.Texts.{ItemsAreText}
-use Rattle.nx_events.specs.declared.item.Item.{Item}
-use Rattle.nx_events.specs.declared.item.Item.TheVariants as items
-use Rattle.nx_events.specs.declared.state.EventState.{EventState}
-use Rattle.nx_events.specs.RunsGrow.{back_grows}
 use Rattle.nx_events.proofs.TextItems.{all_text}
 use Rattle.nx_marks.specs.Frontier.{IsBorder}
 use Rattle.nx_marks.specs.declared.marks.Kept.{Kept}
-use Rattle.nx_session.specs.Faults.{faults_of, FaultsAreText}
-use Rattle.nx_session.specs.Reading.{IsReadRight}
+use Rattle.nx_recover.specs.Faults.{AreFaultsOf}
+use Rattle.nx_recover.specs.Machine.{later_by}
+use Rattle.nx_recover.specs.RecoverRules.{recover_rules}
+use Rattle.nx_recover.specs.declared.state.RecoverState.{RecoverState}
+use Rattle.nx_recovery.proofs.Along.{recover_gives_faults}
+use Rattle.nx_recovery.proofs.Details.{faults_are_text}
+use Rattle.nx_session.specs.Reading.{grammar_of, followed, IsReadRight}
+use Rattle.rng_core.specs.Meaning.{language_of}
+use Rattle.rng_core.specs.Patterns.{Language}
+use Rattle.rng_kept.specs.Live.{IsLive}
 
 -- what is right reaches a border of the text's tokens
-pub border_of : (text : List ℕ) (kept : Kept EventState) → IsReadRight text kept → IsBorder text kept.at
-border_of text kept right = record { tokens = right.tokens; cuts = right.cuts }
+pub border_of : (text : List ℕ) (matcher : Option Plain) (kept : Kept (RecoverState (List OneWay))) → IsReadRight text matcher kept → IsBorder text kept.at
+border_of text matcher kept right = record { tokens = right.tokens; cuts = right.cuts }
 
--- ---- a machine over tokens finds the faults among their items
+-- ---- reading leaves the schema
 
-along : (len at : ℕ) (state : EventState) (tokens : List Token) → AreTokensFrom len at tokens → run_back state.run ≤ at →
-    faults_among (items_from state tokens len) ≡ faults_along bare_rules at state (map lexeme_of tokens)
-    ++ placed (len - bare_rules.back (after_all bare_rules state (map lexeme_of tokens))) (bare_rules.ends (after_all bare_rules state (map lexeme_of tokens)))
-unfolding items_from AreTokensFrom
-along len at state [] lie within = ends_placed state len (omega arith)
-along len at state (token ∷ others) lie within =
-    let next = bare_rules.after state (lexeme_of token) in
-    let same : state_behind state token ≡ next = after_placed state token in
-    let grown = back_grows state token in
-    let back : run_back next.run ≤ at + length token.bytes = rw (← same) (omega arith) in
-    let rest = along len (at + length token.bytes) next others lie.1 back in
-    let here = gives_bare state (lexeme_of token) in
-    flat_map-append _ (items_of_token state token) (items_from (state_behind state token) others len)
-    ∙ ap (λ (fs : List Fault). fs ++ faults_among (items_from (state_behind state token) others len)) (gives_placed state token (omega arith) ∙ ap (λ n. placed (n - run_back state.run) here) lie.0)
-    ∙ ap (λ (s : EventState). placed (at - run_back state.run) here ++ faults_among (items_from s others len)) same
-    ∙ ap (λ (fs : List Fault). placed (at - run_back state.run) here ++ fs) rest
-    ∙ sym (append_assoc (placed (at - run_back state.run) here) (faults_along bare_rules (at + length token.bytes) next (map lexeme_of others)) _)
+-- a machine is later than another where their matchers are
+abbrev pub IsLater : Option Plain → Option Plain → Type 0
+IsLater old new = later_by (λ (a b : Plain). b.schema ≡ a.schema) old new
 
--- so over a text it finds the text's faults
-pub machine_finds : (text : List ℕ) → IsUtf8 text → machine_faults bare_rules text ≡ faults_of text
-machine_finds text utf8 =
-    let all = joined-from (length text - 0) text 0 utf8 (IsCharBoundary-start text utf8) (omega arith) in
-    sym (along (length text) 0 first_state (tokens_of text) all.lie (omega arith))
+pub later_grammar : (old new : Option Plain) → IsLater old new → grammar_of new ≡ grammar_of old
+later_grammar None None h = refl
+later_grammar (Some a) (Some b) h = ap (λ s. Some s.grammar) h
+later_grammar None (Some b) h = absurd h
+later_grammar (Some a) None h = absurd h
+
+later_followed : (old new : Option Plain) → IsLater old new → followed new ≡ followed old
+later_followed None None h = refl
+later_followed (Some a) (Some b) h = ap (λ s. Some (language_of s.grammar)) h
+later_followed None (Some b) h = absurd h
+later_followed (Some a) None h = absurd h
+
+pub later_live : (old new : Option Plain) → IsLater old new → IfSome (followed old) IsLive → IfSome (followed new) IsLive
+later_live old new h live =
+    let P : Option Language → Type 0 = λ o. IfSome o IsLive in
+    subst P (sym (later_followed old new h)) live
+
+-- ---- the machine finds the faults of the text
+
+schema_followed : (matcher : Option Plain) → followed matcher ≡ option_map language_of (grammar_of matcher)
+schema_followed None = refl
+schema_followed (Some plain) = refl
+
+pub are_faults : (text : List ℕ) (matcher : Option Plain) (faults : List Fault) → IsUtf8 text → IfSome (followed matcher) IsLive
+    → faults ≡ machine_faults (recover_rules (followed matcher)) text → AreFaultsOf (option_map language_of (grammar_of matcher)) text faults
+are_faults text matcher faults utf8 live found =
+    let P : List Fault → Type 0 = λ all. AreFaultsOf (followed matcher) text all in
+    let Q : Option Language → Type 0 = λ o. AreFaultsOf o text faults in
+    subst Q (schema_followed matcher) (subst P (sym found) (recover_gives_faults (followed matcher) text live utf8))
+
+pub details_text : (text : List ℕ) (matcher : Option Plain) (faults : List Fault) → IsUtf8 text → IfSome (followed matcher) IsLive
+    → faults ≡ machine_faults (recover_rules (followed matcher)) text → AllByRecursion (λ (fault : Fault). IsUtf8 fault.detail) faults
+details_text text matcher faults utf8 live found =
+    let P : List Fault → Type 0 = λ all. AreFaultsOf (followed matcher) text all in
+    faults_are_text (followed matcher) text faults live utf8 (subst P (sym found) (recover_gives_faults (followed matcher) text live utf8))
 
 -- ---- what a text gives is text
 
@@ -83,12 +97,3 @@ tokens_text (suc n) text at utf8 place = elim (cases_lt at (length text)) [
 
 pub texts_give_text : (text : List ℕ) → IsUtf8 text → ItemsAreText (items_of_text text)
 texts_give_text text utf8 = all_text (tokens_of text) (length text) (tokens_text (length text - 0) text 0 utf8 (IsCharBoundary-start text utf8))
-
-details_text : (all : List Item) → ItemsAreText all → FaultsAreText (faults_among all)
-details_text [] h = tt
-details_text (items.Event event span ∷ all) h = details_text all h.1
-details_text (items.Fault fault ∷ all) h = (h.0, details_text all h.1)
-
--- so are the details of its faults
-pub faults_are_text : (text : List ℕ) → IsUtf8 text → FaultsAreText (faults_of text)
-faults_are_text text utf8 = details_text (items_of_text text) (texts_give_text text utf8)

@@ -1,15 +1,19 @@
 -- The editor, and the world that it works in.
-use Rattle.std.specs.Prelude.{ℕ, List, [], ◌==◌, length, codes, Option, if◌then◌else◌}
+use Rattle.std.specs.Prelude.{ℕ, List, [], ◌==◌, length, codes, Option, None, option_map, if◌then◌else◌}
 use Rattle.nx_base.specs.Text.{edited, moved_place}
 use Rattle.nx_base.specs.declared.edit.Edit.{Edit}
 use Rattle.nx_host.specs.Files.{FileMap}
+use Rattle.rng_core.specs.Meaning.{language_of}
+use Rattle.rng_core.specs.Patterns.{Language}
+use Rattle.rng_core.specs.declared.grammar.Grammar.{Grammar}
 
--- an editor between two commands: its text, the caret's byte offset, the URI of its document, the byte offset up to
--- which the text is read, and how many tokens the last command took that read it
+-- an editor between two commands: its text, the caret's byte offset, the URI of its document, the grammar that the document
+-- is held against, if any, the byte offset up to which the text is read, and how many tokens the last command took that read it
 pub record EditorState : Type 0 where
   pub text : List ℕ
   pub caret : ℕ
   pub document : List ℕ
+  pub schema : Option Grammar
   pub frontier : ℕ
   pub taken : ℕ
 
@@ -36,11 +40,25 @@ work_folder = codes "file:///work/"
 
 -- the editor with the document under this URI: the whole text is replaced, so nothing of it is read
 abbrev pub opened : EditorState → List ℕ → List ℕ → EditorState
-opened old uri text = record { text = text; caret = 0; document = uri; frontier = 0; taken = old.taken }
+opened old uri text = record {
+  text = text;
+  caret = 0;
+  document = uri;
+  schema = old.schema;
+  frontier = 0;
+  taken = old.taken;
+}
 
 -- an editor before its first command
 abbrev pub new_editor : EditorState
-new_editor = record { text = []; caret = 0; document = codes "file:///work/untitled.xml"; frontier = 0; taken = 0 }
+new_editor = record {
+  text = [];
+  caret = 0;
+  document = codes "file:///work/untitled.xml";
+  schema = None;
+  frontier = 0;
+  taken = 0;
+}
 
 -- where a caret goes: it moves with the text, but stays where text is put in at it
 abbrev pub caret_after : Edit → ℕ → ℕ
@@ -52,6 +70,7 @@ edited_editor old from to added frontier = record {
   text = edited old.text from to added;
   caret = caret_after (record { from = from; to = to; added = length added }) old.caret;
   document = old.document;
+  schema = old.schema;
   frontier = frontier;
   taken = old.taken;
 }
@@ -62,6 +81,22 @@ read_editor old frontier taken = record {
   text = old.text;
   caret = old.caret;
   document = old.document;
+  schema = old.schema;
   frontier = frontier;
   taken = taken;
 }
+
+-- the editor that holds its document against this grammar, or against none, from now on: nothing of the text is read yet
+abbrev pub with_schema : EditorState → Option Grammar → EditorState
+with_schema old schema = record {
+  text = old.text;
+  caret = old.caret;
+  document = old.document;
+  schema = schema;
+  frontier = 0;
+  taken = 0;
+}
+
+-- what the document is held against, without the memory that it stands in
+abbrev pub schema_of : EditorState → Option Language
+schema_of editor = option_map language_of editor.schema

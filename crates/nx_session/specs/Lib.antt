@@ -5,3 +5,4 @@ pub mod Faults
 pub mod Step
 pub mod Validating
 pub mod Reading
+pub mod Schemas

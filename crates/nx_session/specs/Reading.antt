@@ -1,10 +1,32 @@
 -- What is kept of reading the text.
-use Rattle.std.specs.Prelude.{ℕ, List}
-use Rattle.nx_events.specs.BareRules.{bare_rules}
-use Rattle.nx_events.specs.declared.state.EventState.{EventState}
+use Rattle.std.specs.Prelude.{ℕ, List, Option, option_map, IfSome}
+use Rattle.deriv_plain.specs.Order.{IsState}
+use Rattle.deriv_plain.specs.Ways.{residual_of}
+use Rattle.deriv_plain.specs.declared.plain.Plain.{Plain}
+use Rattle.deriv_plain.specs.declared.ways.OneWay.{OneWay}
+use Rattle.nx_recover.specs.Machine.{state_by, means_by, rules_by}
+use Rattle.nx_recover.specs.declared.state.RecoverState.{RecoverState}
 use Rattle.nx_marks.specs.Right.{IsRight}
 use Rattle.nx_marks.specs.declared.marks.Kept.{Kept}
+use Rattle.rng_core.specs.Patterns.{Language}
+use Rattle.rng_core.specs.declared.grammar.Grammar.{Grammar}
+use Rattle.rng_kept.specs.Live.{IsLive}
+use Rattle.rng_live.specs.Schemas.{schema_language}
 
--- it is right for the machine without a schema, of which each state of events is a state that means itself
-abbrev pub IsReadRight : List ℕ → Kept EventState → Type 0
-IsReadRight text kept = IsRight (λ _. Unit {0}) (λ state. state) bare_rules text kept
+-- the grammar that a matcher follows, and the same without its memory
+abbrev pub grammar_of : Option Plain → Option Grammar
+grammar_of matcher = option_map (λ (plain : Plain). plain.schema.grammar) matcher
+
+abbrev pub followed : Option Plain → Option Language
+followed matcher = option_map (λ (plain : Plain). schema_language plain.schema) matcher
+
+-- it is right for the machine with this matcher, or with none
+abbrev pub IsReadRight : List ℕ → Option Plain → Kept (RecoverState (List OneWay)) → Type 0
+IsReadRight text matcher kept = IsRight (state_by (λ (plain : Plain) ways. IsState ways) matcher)
+    (means_by (λ (plain : Plain) ways. residual_of ways) matcher)
+    (rules_by (λ (plain : Plain). schema_language plain.schema) matcher) text kept
+
+-- between two commands it is, and the grammar is live
+pub record IsWellKept (text : List ℕ) (matcher : Option Plain) (kept : Kept (RecoverState (List OneWay))) : Type 0 where
+  pub read : IsReadRight text matcher kept
+  pub live : IfSome (followed matcher) IsLive

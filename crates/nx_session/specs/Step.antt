@@ -1,8 +1,8 @@
 -- One step of the editor: the table of commands, each with its one definition. What no case allows doesn't happen.
-use Rattle.std.specs.Prelude.{◌≡◌, ℕ, ◌⊎◌, List}
+use Rattle.std.specs.Prelude.{◌≡◌, ℕ, ◌⊎◌, List, None}
 use Rattle.nx_script.specs.Grammar.{IsLine}
 use Rattle.nx_script.specs.declared.command.Command.{Command}
-use Rattle.nx_script.specs.declared.command.Command.TheVariants.{Nothing, OpenFile, Save, Insert, Delete, Print, Errors, Slice, Stats}
+use Rattle.nx_script.specs.declared.command.Command.TheVariants.{Nothing, OpenFile, Save, Insert, Delete, Print, Errors, Slice, Stats, SchemaFile, SchemaNone}
 use Rattle.nx_script.specs.declared.reply.Reply.{Reply}
 use Rattle.nx_script.specs.declared.reply.Reply.TheVariants.{Silent, Refused}
 use Rattle.nx_script.specs.declared.reply.Refusal.{Refusal}
@@ -10,6 +10,7 @@ use Rattle.nx_script.specs.declared.reply.Refusal.TheVariants.{BadCommand, NoMem
 use Rattle.nx_session.specs.Editor.{EditorState, FilesState, World}
 use Rattle.nx_session.specs.Editing.{InsertStep, DeleteStep, PrintStep}
 use Rattle.nx_session.specs.Documents.{OpenStep, SaveStep}
+use Rattle.nx_session.specs.Schemas.{SchemaFileStep, HoldStep}
 use Rattle.nx_session.specs.Validating.{ErrorsStep, SliceStep, StatsStep}
 
 -- a line that is passed over
@@ -40,14 +41,17 @@ Step old Print reply new = OnEditor PrintStep old reply new
 Step old Errors reply new = OnTokens ErrorsStep old reply new
 Step old (Slice count) reply new = OnTokens (SliceStep count) old reply new
 Step old Stats reply new = OnEditor StatsStep old reply new
+Step old (SchemaFile uri) reply new = OnFiles (SchemaFileStep uri) old reply new
+Step old SchemaNone reply new = OnEditor (HoldStep None) old reply new
 
--- the text, the caret and the document's URI are as before
+-- the text, the caret, the document's URI and the schema are as before
 pub record SameDocument (old new : EditorState) : Type 0 where
   pub text : new.text ≡ old.text
   pub caret : new.caret ≡ old.caret
   pub document : new.document ≡ old.document
+  pub schema : new.schema ≡ old.schema
 
--- whatever the cause, a refused command leaves the text, the caret and the document's URI
+-- whatever the cause, a refused command leaves the text, the caret, the document's URI and the schema
 abbrev pub RefusalsLeaveTheDocument : Type 0
 RefusalsLeaveTheDocument = (old new : World) (given : Command) (cause : Refusal) →
     Step old given (Refused cause) new → SameDocument old.editor new.editor

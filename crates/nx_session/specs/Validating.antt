@@ -4,8 +4,8 @@ use Rattle.nx_marks.specs.Frontier.{IsBorder, MovesOver}
 use Rattle.nx_script.specs.declared.reply.Reply.{Reply}
 use Rattle.nx_script.specs.declared.reply.Reply.TheVariants.{Errors, Frontier, Taken, Refused}
 use Rattle.nx_script.specs.declared.reply.Refusal.TheVariants.{NoMemory}
-use Rattle.nx_session.specs.Editor.{EditorState, read_editor}
-use Rattle.nx_session.specs.Faults.{faults_of}
+use Rattle.nx_session.specs.Editor.{EditorState, read_editor, schema_of}
+use Rattle.nx_recover.specs.Faults.{AreFaultsOf}
 
 -- the text is read on, by as many tokens as were cut in this command, up to a border of its tokens; nothing else changes
 pub record ReadsOn (old : EditorState) (before : ℕ) (new : EditorState) (now : ℕ) : Type 0 where
@@ -18,10 +18,10 @@ pub record ReadsOn (old : EditorState) (before : ℕ) (new : EditorState) (now :
 abbrev pub TakesTokens : EditorState → EditorState → Type 0
 TakesTokens old new = MovesOver old.text old.frontier new.taken new.frontier
 
--- the faults of the whole text are the reply, whatever came before; the text is read to its end
+-- the faults of the whole text against the schema are the reply, whatever came before; the text is read to its end
 abbrev pub ErrorsStep : EditorState → ℕ → Reply → EditorState → ℕ → Type 0
 ErrorsStep old before (Errors faults) new now =
-    (faults ≡ faults_of old.text) × (new.frontier ≡ length old.text) × TakesTokens old new × ReadsOn old before new now
+    AreFaultsOf (schema_of old) old.text faults × (new.frontier ≡ length old.text) × TakesTokens old new × ReadsOn old before new now
 ErrorsStep old before (Refused NoMemory) new now = ReadsOn old before new now
 ErrorsStep old before reply new now = ⊥
 

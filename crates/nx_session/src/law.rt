@@ -3,7 +3,7 @@
 ghost use Rattle.nx_session.specs.Faults.{TextsGiveText};
 ghost use Rattle.nx_session.specs.Step.{RefusalsLeaveTheDocument};
 
-/// A refused command leaves the text, the caret and the document's URI.
+/// A refused command leaves the text, the caret, the document's URI and the schema.
 pub fn refusals_leave_the_document()
     ensures { RefusalsLeaveTheDocument }
 {}

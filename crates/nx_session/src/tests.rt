@@ -12,16 +12,20 @@ use std::process::Abort;
 use std::sync::ledger::{Blank, Ledger};
 use std::test::Fail;
 
-/// Lines, and how long the text is behind each.
-const LINES: [(&str, usize); 8] = [
-    ("insert 0 \"é<b>\"", 5),
-    ("slice 1", 5),
-    ("delete 2 3", 4),
-    ("stats", 4),
-    ("errors", 4),
-    ("open \"d.xml\"", 5),
-    ("open \"none.xml\"", 5),
-    ("# nothing", 5),
+/// Lines, how long the text is behind each, and whether a schema is held.
+const LINES: [(&str, usize, bool); 12] = [
+    ("insert 0 \"é<b>\"", 5, false),
+    ("slice 1", 5, false),
+    ("delete 2 3", 4, false),
+    ("stats", 4, false),
+    ("errors", 4, false),
+    ("open \"d.xml\"", 5, false),
+    ("open \"none.xml\"", 5, false),
+    ("schema \"d.rnc\"", 5, true),
+    ("errors", 5, true),
+    ("schema \"d.xml\"", 5, true),
+    ("schema none", 5, false),
+    ("# nothing", 5, false),
 ];
 
 fn plays<R: Abort, L: Ledger>(rt: &R, alloc: Global, blank: Blank) -> Result<(), Fail>
@@ -32,11 +36,13 @@ fn plays<R: Abort, L: Ledger>(rt: &R, alloc: Global, blank: Blank) -> Result<(),
     let mut steps = Steps::<L>::new(blank);
     let mut files = SureFiles::new(alloc);
     files.add("file:///work/d.xml", b"<d/>\n")?;
+    files.add("file:///work/d.rnc", b"element d { empty }")?;
     let mut session = Session::new(alloc)?;
-    for (line, len) in &LINES {
+    for (line, len, has_schema) in &LINES {
         let command = read_line(alloc, *line)?;
         session.apply(&command, &mut files, &mut steps);
         assert_eq!(rt; (session.len(), session.caret()), (*len, 0));
+        assert_eq!(rt; session.has_schema(), *has_schema, "behind {line}");
     }
     Ok(())
 }

@@ -4,6 +4,7 @@ ghost use Rattle.nx_script.specs.Replies.{reply_of, ReplyIsText};
 ghost use Rattle.nx_session.specs.Validating.{ErrorsStep, SliceStep};
 
 use super::Session;
+use super::reading::{caught_up, found, sliced};
 use nx_base::steps::Steps;
 use nx_script::reply::{Refusal, Reply};
 use std::sync::ledger::Ledger;
@@ -14,9 +15,8 @@ impl Session {
         ensures step { ErrorsStep self.old steps.old (reply_of result) self.new steps.new }
         ensures text { ReplyIsText (reply_of result) }
     {
-        self.marks.catch_up(&mut self.machine, &self.text, steps)?;
-        let len = self.text.len();
-        let faults = self.marks.faults(&mut self.machine, len)?;
+        caught_up(&mut self.machine, &mut self.marks, &self.text, steps)?;
+        let faults = found(&mut self.machine, &self.marks, &self.text)?;
         Ok(Reply::Errors(faults))
     }
 
@@ -29,8 +29,13 @@ impl Session {
         ensures step { SliceStep count self.old steps.old (reply_of result) self.new steps.new }
         ensures text { ReplyIsText (reply_of result) }
     {
-        self.marks
-            .slice(&mut self.machine, &self.text, count, steps)?;
+        sliced(
+            &mut self.machine,
+            &mut self.marks,
+            &self.text,
+            count,
+            steps,
+        )?;
         Ok(Reply::Frontier {
             at: self.marks.frontier(),
             len: self.text.len(),

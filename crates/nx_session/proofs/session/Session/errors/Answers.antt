@@ -1,24 +1,19 @@
-use Rattle.std.proofs.Common.{◌≡◌, ◌∙◌, List, sym, subst, refl}
-use Rattle.nx_base.specs.declared.fault.Fault.{Fault}
-use Rattle.nx_session.specs.Faults.{faults_of, FaultsAreText}
-use Rattle.nx_session.proofs.Reading.{border_of, machine_finds, faults_are_text}
-use Rattle.nx_session.proofs.session.Session.errors.Given as given
+use Rattle.std.proofs.Common.{◌≡◌, ◌∙◌, Option, option_map, subst}
+use Rattle.nx_recover.specs.Faults.{AreFaultsOf}
+use Rattle.nx_session.specs.Reading.{grammar_of}
+use Rattle.nx_session.proofs.Holding.{reads_on}
 use Rattle.nx_session.proofs.session.Session.errors.Goals as goal
-
-found : (g : given.Over) (c : goal.In_ok-faults g) → c.in_ok-faults.faults ≡ faults_of c.self.inside.text
-found g c =
-    c.in_ok-faults.ensures.faults c.self.inside.text c.len-len.ensures.utf8 (sym c.len-len.ensures.bytes) c.catch_up.ensures.right
-    ∙ machine_finds c.self.inside.text c.len-len.ensures.utf8
+use Rattle.rng_core.specs.Meaning.{language_of}
+use Rattle.rng_core.specs.declared.grammar.Grammar.{Grammar}
 
 pub returns-clause-step : goal.returns-clause-step
-returns-clause-step g c = rw (← c.self.view_is) (
-  found g c,
-  c.in_ok-catch_up.ensures.all,
-  c.in_ok-catch_up.ensures.on,
-  record { editor = refl; further = c.catch_up.ensures.frontier; border = border_of _ c.catch_up.new.self.kept c.catch_up.ensures.right; counted = c.catch_up.ensures.steps },
-)
-
-pub returns-clause-text : goal.returns-clause-text
-returns-clause-text g c =
-    let P : List Fault → Type 0 = λ all. FaultsAreText all in
-    subst P (sym (found g c)) (faults_are_text c.self.inside.text c.len-len.ensures.utf8)
+returns-clause-step g c =
+    let P : Option Grammar → Type 0 = λ schema. AreFaultsOf (option_map language_of schema) c.self.inside.text c.in_ok-faults.faults in
+    let was = c.caught_up.ensures.grammar in
+    rw (← c.self.view_is) (
+      subst P was c.in_ok-faults.ensures.faults,
+      c.in_ok-caught_up.ensures.all,
+      c.in_ok-caught_up.ensures.on,
+      reads_on _ _ _ (grammar_of c.found.new.machine.matcher) c.caught_up.new.machine.matcher c.caught_up.new.marks.kept c.caught_up.new.marks.taken
+          c.caught_up.ensures.well.read (c.found.ensures.grammar ∙ was) c.caught_up.ensures.frontier c.caught_up.ensures.steps,
+    )

@@ -1,8 +1,16 @@
-use Rattle.std.proofs.Common.{refl}
+use Rattle.std.proofs.Common.{Err, refl, ap}
 use Rattle.std.proofs.lemmas.Result.{err_from_is_err_and}
 use Rattle.nx_session.specs.Editor.{files_state}
-use Rattle.nx_session.proofs.Filing.{opens, open-unfetched}
+use Rattle.nx_session.proofs.Filing.{opens, open-unfetched, open-unjoined}
 use Rattle.nx_session.proofs.session.Session.open_file.Goals as goal
+
+pub returns-in_err-uri-clause-step : goal.returns-in_err-uri-clause-step
+returns-in_err-uri-clause-step g c =
+    let f = g.F.Files in
+    let refusal = err_from_is_err_and c.from_residual.result c.from_residual.ensures.1 in
+    rw (refusal.1, refusal.2)
+    (open-unjoined c.args.uri_text.now c.args.self.now (files_state (f.told c.args.files.now) (f.faults c.args.files.now)) c.in_err-uri.field-0.0
+    (λ bad. rw c.text_of.ensures at c.in_err-uri.ensures.bad (ap (λ fault. Err fault) bad)))
 
 pub returns-in_err-bytes-clause-step : goal.returns-in_err-bytes-clause-step
 returns-in_err-bytes-clause-step g c =

@@ -1,0 +1,14 @@
+use Rattle.nx_session.proofs.Reading.{later_grammar, later_live}
+use Rattle.nx_session.proofs.session.reading.begun.Goals as goal
+
+pub returns-clause-well : goal.returns-clause-well
+returns-clause-well c = λ text utf8. record {
+  read = c.in_ok-marks.ensures.right text utf8;
+  live = later_live c.args.machine.now.matcher c.new.new.machine.matcher c.new.ensures.later c.requires;
+}
+
+pub returns-clause-grammar : goal.returns-clause-grammar
+returns-clause-grammar c = later_grammar c.args.machine.now.matcher c.new.new.machine.matcher c.new.ensures.later
+
+pub returns-in_err-marks-clause-grammar : goal.returns-in_err-marks-clause-grammar
+returns-in_err-marks-clause-grammar c = later_grammar c.args.machine.now.matcher c.new.new.machine.matcher c.new.ensures.later

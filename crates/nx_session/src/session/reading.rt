@@ -1,0 +1,93 @@
+//! The text, read by the machine, and what is kept of that. The machine holds the schema, and reading leaves it.
+
+ghost use Rattle.std.specs.Prelude.{◌≡◌, ◌⊎◌, ℕ, ◌+◌, ◌≤◌, List, length, option_map, IsUtf8, IfOk, IfSome, OnOk};
+ghost use Rattle.std.specs.List.{AllByRecursion};
+ghost use Rattle.nx_base.specs.declared.fault.Fault.{Fault};
+ghost use Rattle.nx_marks.specs.Frontier.{MovesOver};
+ghost use Rattle.nx_recover.specs.Faults.{AreFaultsOf};
+ghost use Rattle.nx_session.specs.Reading.{grammar_of, followed, IsWellKept};
+ghost use Rattle.rng_core.specs.Meaning.{language_of};
+ghost use Rattle.rng_kept.specs.Live.{IsLive};
+
+use deriv_plain::plain::Plain;
+use nx_base::fault::Faults;
+use nx_base::memory::NoMemory;
+use nx_base::steps::Steps;
+use nx_marks::law::later_machines_keep_it_right;
+use nx_marks::marks::Marks;
+use nx_recover::recover::Recover;
+use nx_text::text::Text;
+use std::alloc::Global;
+use std::sync::ledger::Ledger;
+
+/// Before the first token of whatever text.
+pub(super) fn begun(
+    alloc: Global,
+    machine: &mut Recover<Plain>,
+) -> Result<Marks<Recover<Plain>>, NoMemory>
+    requires { IfSome (followed machine.old.matcher) IsLive }
+    ensures well { IfOk result (λ marks. (text : List ℕ) → IsUtf8 text → IsWellKept text machine.new.matcher marks.kept) }
+    ensures grammar { grammar_of machine.new.matcher ≡ grammar_of machine.old.matcher }
+    ensures frontier { IfOk result (λ marks. marks.kept.at ≡ 0) }
+    ensures taken { IfOk result (λ marks. marks.taken ≡ 0) }
+{
+    let marks = Marks::new(alloc, machine)?;
+    Ok(marks)
+}
+
+/// Reads the text to its end.
+pub(super) fn caught_up<L: Ledger>(
+    machine: &mut Recover<Plain>,
+    marks: &mut Marks<Recover<Plain>>,
+    text: &Text,
+    steps: &mut Steps<L>,
+) -> Result<(), NoMemory>
+    requires { IsWellKept text.now machine.old.matcher marks.old.kept }
+    ensures well { IsWellKept text.now machine.new.matcher marks.new.kept }
+    ensures grammar { grammar_of machine.new.matcher ≡ grammar_of machine.old.matcher }
+    ensures steps { steps.new ≡ steps.old + marks.new.taken }
+    ensures frontier { marks.old.kept.at ≤ marks.new.kept.at }
+    ensures on { OnOk result (MovesOver text.now marks.old.kept.at marks.new.taken marks.new.kept.at) }
+    ensures all { OnOk result (marks.new.kept.at ≡ length text.now) }
+{
+    marks.catch_up(machine, text, steps)
+}
+
+/// Reads so many tokens of the text on.
+pub(super) fn sliced<L: Ledger>(
+    machine: &mut Recover<Plain>,
+    marks: &mut Marks<Recover<Plain>>,
+    text: &Text,
+    count: u64,
+    steps: &mut Steps<L>,
+) -> Result<(), NoMemory>
+    requires { IsWellKept text.now machine.old.matcher marks.old.kept }
+    ensures well { IsWellKept text.now machine.new.matcher marks.new.kept }
+    ensures grammar { grammar_of machine.new.matcher ≡ grammar_of machine.old.matcher }
+    ensures steps { steps.new ≡ steps.old + marks.new.taken }
+    ensures most { marks.new.taken ≤ count }
+    ensures frontier { marks.old.kept.at ≤ marks.new.kept.at }
+    ensures on { OnOk result (MovesOver text.now marks.old.kept.at marks.new.taken marks.new.kept.at) }
+    ensures enough { OnOk result ((marks.new.taken ≡ count) ⊎ (marks.new.kept.at ≡ length text.now)) }
+{
+    marks.slice(machine, text, count, steps)
+}
+
+/// The faults of the whole text, which is read to its end.
+pub(super) fn found(
+    machine: &mut Recover<Plain>,
+    marks: &Marks<Recover<Plain>>,
+    text: &Text,
+) -> Result<Faults, NoMemory>
+    requires well { IsWellKept text.now machine.old.matcher marks.now.kept }
+    requires all { marks.now.kept.at ≡ length text.now }
+    ensures well { IsWellKept text.now machine.new.matcher marks.now.kept }
+    ensures grammar { grammar_of machine.new.matcher ≡ grammar_of machine.old.matcher }
+    ensures faults { IfOk result (AreFaultsOf (option_map language_of (grammar_of machine.old.matcher)) text.now) }
+    ensures text { IfOk result (AllByRecursion (λ (fault : Fault). IsUtf8 fault.detail)) }
+{
+    later_machines_keep_it_right::<Recover<Plain>>();
+    let len = text.len();
+    let faults = marks.faults(machine, len)?;
+    Ok(faults)
+}
