@@ -200,15 +200,23 @@ const DOCUMENTS: [(&str, &[u8]); 16] = [
         "file:///work/xy.rnc",
         b"element a { attribute x { text }, attribute y { text } }",
     ),
-    ("file:///work/true.rnc", b"element b { xsd:boolean \"true\" }"),
+    (
+        "file:///work/true.rnc",
+        b"element b { xsd:boolean \"true\" }",
+    ),
     ("file:///work/gone.rnc", b"start = external \"http://[\""),
 ];
 
-const SECTIONS: &[u8] = b"start = element doc { attribute id { xsd:NCName }, element title { text }, element para { (text | element em { text })* }* }";
+const SECTIONS: &[u8] =
+    b"start = element doc { attribute id { xsd:NCName }, element title { text }, element para { (text | element em { text })* }* }";
 
 /// Scripts that hold documents against those schemas, what they print and how they end.
 const VALIDATED: [(&str, &str, Status); 24] = [
-    ("schema \"s1.rnc\"\nerrors\n", "errors: 1\n0-0 NoRoot\n", Status::Done),
+    (
+        "schema \"s1.rnc\"\nerrors\n",
+        "errors: 1\n0-0 NoRoot\n",
+        Status::Done,
+    ),
     (
         "schema \"s1.rnc\"\ninsert 0 \"<doc id='a'><para/></doc>\"\nerrors\n",
         "errors: 1\n12-19 NotYet para\n",
@@ -419,7 +427,13 @@ fn scripts_print(rt: HostRuntime) {
 fn documents_are_held_against_schemas(rt: HostRuntime) {
     for (script, output, status) in &VALIDATED {
         assert_eq!(rt;
-            played(rt.alloc(), &["run.nxs"], script.as_bytes(), *output, *status),
+            played(
+                rt.alloc(),
+                &["run.nxs"],
+                script.as_bytes(),
+                *output,
+                *status
+            ),
             "as told",
             "{script:?}"
         );
@@ -533,7 +547,8 @@ fn saved_texts_are_there(rt: HostRuntime) -> Result<(), Fail> {
 }
 
 /// A schema is held, and one that includes the same.
-const INCLUDING: &str = "schema \"s1.rnc\"\nschema \"m.rnc\"\ninsert 0 \"<doc id='a'><title>T</title><para>x<em>y</em></para></doc>\"\nerrors\n";
+const INCLUDING: &str =
+    "schema \"s1.rnc\"\nschema \"m.rnc\"\ninsert 0 \"<doc id='a'><title>T</title><para>x<em>y</em></para></doc>\"\nerrors\n";
 
 /// What becomes of that script where the call on files with this number fails.
 fn included_failing(alloc: Global, number: u64, output: &str, status: Status) -> &'static str {

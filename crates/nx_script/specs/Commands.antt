@@ -1,7 +1,8 @@
 -- What holds of every command that is read.
 use Rattle.std.specs.Str.{IsUtf8}
 use Rattle.nx_script.specs.declared.command.Command.{Command}
-use Rattle.nx_script.specs.declared.command.Command.TheVariants.{Nothing, OpenFile, Save, Insert, Delete, Print, Errors, Slice, Stats, SchemaFile, SchemaNone}
+use Rattle.nx_script.specs.declared.command.Command.TheVariants.{Nothing, OpenFile, Save, Insert, Delete, Print, Errors, Slice, Stats}
+use Rattle.nx_script.specs.declared.command.Command.TheVariants.{SchemaFile, SchemaNone}
 
 -- the texts of the command are UTF-8
 abbrev pub HasUtf8Texts : Command → Type 0

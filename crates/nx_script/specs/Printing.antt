@@ -7,7 +7,8 @@ use Rattle.nx_script.specs.FaultLines.{errors_text}
 use Rattle.nx_script.specs.declared.reply.Reply.{Reply}
 use Rattle.nx_script.specs.declared.reply.Reply.TheVariants.{Silent, Printed, Errors, Frontier, Taken, Refused}
 use Rattle.nx_script.specs.declared.reply.Refusal.{Refusal}
-use Rattle.nx_script.specs.declared.reply.Refusal.TheVariants.{BadCommand, BadPosition, BadUri, Absent, NotUtf8, Unreadable, Failed, NoMemory}
+use Rattle.nx_script.specs.declared.reply.Refusal.TheVariants.{BadCommand, BadPosition, BadUri, Absent, NotUtf8, Unreadable, Failed}
+use Rattle.nx_script.specs.declared.reply.Refusal.TheVariants.{NoMemory}
 
 -- the number that is no place, and the text's length
 abbrev pub bad_position_text : ℕ → ℕ → List ℕ

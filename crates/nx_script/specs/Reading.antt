@@ -8,7 +8,8 @@ use Rattle.std.specs.Char.{is_ascii_digit, is_digit}
 use Rattle.std.specs.Str.{bytes_eq}
 use Rattle.std.specs.Str.Parse.{digits_value}
 use Rattle.nx_script.specs.declared.command.Command.{Command}
-use Rattle.nx_script.specs.declared.command.Command.TheVariants.{Nothing, OpenFile, Save, Insert, Delete, Print, Errors, Slice, Stats, SchemaFile, SchemaNone}
+use Rattle.nx_script.specs.declared.command.Command.TheVariants.{Nothing, OpenFile, Save, Insert, Delete, Print, Errors, Slice, Stats}
+use Rattle.nx_script.specs.declared.command.Command.TheVariants.{SchemaFile, SchemaNone}
 use Rattle.nx_script.specs.declared.read.ScriptFault.{ScriptFault}
 use Rattle.nx_script.specs.declared.read.ScriptFault.TheVariants.{BadCommand, NoMemory}
 

@@ -5,7 +5,8 @@ use Rattle.std.specs.Str.{IsUtf8}
 use Rattle.nx_script.specs.declared.reply.Reply.{Reply}
 use Rattle.nx_script.specs.declared.reply.Reply.TheVariants.{Silent, Printed, Errors, Frontier, Taken, Refused}
 use Rattle.nx_script.specs.declared.reply.Refusal.{Refusal}
-use Rattle.nx_script.specs.declared.reply.Refusal.TheVariants.{BadCommand, BadPosition, BadUri, Absent, NotUtf8, Unreadable, Failed, NoMemory}
+use Rattle.nx_script.specs.declared.reply.Refusal.TheVariants.{BadCommand, BadPosition, BadUri, Absent, NotUtf8, Unreadable, Failed}
+use Rattle.nx_script.specs.declared.reply.Refusal.TheVariants.{NoMemory}
 use Rattle.nx_base.specs.declared.fault.Fault.{Fault}
 use Rattle.nx_host.specs.declared.files.FileFault.{FileFault}
 use Rattle.nx_host.specs.declared.files.FileFault.TheVariants as file_fault

@@ -4,7 +4,8 @@ ghost use Rattle.std.specs.Prelude.{◌≡◌, ◌≤◌, length, IfOk};
 ghost use Rattle.std.specs.List.{position_or_len};
 ghost use Rattle.nx_script.specs.Grammar.{LinesAreOneCommand, ReadsLine};
 ghost use Rattle.nx_script.specs.Commands.{HasUtf8Texts};
-ghost use Rattle.nx_script.specs.Reading.{Finds, is_blank, open_of, save_of, insert_of, delete_of, slice_of, schema_file_of, schema_of, command_of, line_command};
+ghost use Rattle.nx_script.specs.Reading.{Finds, is_blank, open_of, save_of, insert_of, delete_of, slice_of, schema_file_of, schema_of};
+ghost use Rattle.nx_script.specs.Reading.{command_of, line_command};
 ghost use Rattle.nx_script.specs.Reading.{after_blanks};
 ghost use Rattle.nx_script.specs.declared.read.ScriptFault.TheVariants.{NoMemory};
 

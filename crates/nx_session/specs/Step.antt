@@ -2,7 +2,8 @@
 use Rattle.std.specs.Prelude.{◌≡◌, ℕ, ◌⊎◌, List, None}
 use Rattle.nx_script.specs.Grammar.{IsLine}
 use Rattle.nx_script.specs.declared.command.Command.{Command}
-use Rattle.nx_script.specs.declared.command.Command.TheVariants.{Nothing, OpenFile, Save, Insert, Delete, Print, Errors, Slice, Stats, SchemaFile, SchemaNone}
+use Rattle.nx_script.specs.declared.command.Command.TheVariants.{Nothing, OpenFile, Save, Insert, Delete, Print, Errors, Slice, Stats}
+use Rattle.nx_script.specs.declared.command.Command.TheVariants.{SchemaFile, SchemaNone}
 use Rattle.nx_script.specs.declared.reply.Reply.{Reply}
 use Rattle.nx_script.specs.declared.reply.Reply.TheVariants.{Silent, Refused}
 use Rattle.nx_script.specs.declared.reply.Refusal.{Refusal}

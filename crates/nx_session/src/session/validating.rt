@@ -29,13 +29,7 @@ impl Session {
         ensures step { SliceStep count self.old steps.old (reply_of result) self.new steps.new }
         ensures text { ReplyIsText (reply_of result) }
     {
-        sliced(
-            &mut self.machine,
-            &mut self.marks,
-            &self.text,
-            count,
-            steps,
-        )?;
+        sliced(&mut self.machine, &mut self.marks, &self.text, count, steps)?;
         Ok(Reply::Frontier {
             at: self.marks.frontier(),
             len: self.text.len(),

@@ -9,8 +9,11 @@ pub invariant_of-self : goal.invariant_of-self
 invariant_of-self c =
     let done = c.in-Ok.ensures in
     let Q : List ℕ → Type 0 = λ new. IsReadRight new c.self.inside.machine.matcher c.edit.new.self.kept in
-    record { live = c.self.invariant.live; read = subst Q (sym done.1)
-    (c.edit.ensures.right c.self.inside.machine c.self.inside.text [] c.len-len.ensures.utf8 IsUtf8-nil done.0.start done.0.end done.0.ordered refl c.self.invariant.read) }
+    record {
+      live = c.self.invariant.live;
+      read = subst Q (sym done.1)
+          (c.edit.ensures.right c.self.inside.machine c.self.inside.text [] c.len-len.ensures.utf8 IsUtf8-nil done.0.start done.0.end done.0.ordered refl c.self.invariant.read);
+    }
 
 pub returns-in-Ok-clause-step : goal.returns-in-Ok-clause-step
 returns-in-Ok-clause-step c =

@@ -10,8 +10,12 @@ returns-in_err-uri-clause-step g c =
     let f = g.F.Files in
     let refusal = err_from_is_err_and c.from_residual.result c.from_residual.ensures.1 in
     let files = files_state (f.told c.args.files.now) (f.faults c.args.files.now) in
-    rw (refusal.1, refusal.2) (refl, refl, unjoined c.args.uri_text.now files files c.in_err-uri.field-0.0
-    (λ bad. rw c.text_of.ensures at c.in_err-uri.ensures.bad (ap (λ fault. Err fault) bad)) refl)
+    rw (refusal.1, refusal.2) (
+      refl,
+      refl,
+      unjoined c.args.uri_text.now files files c.in_err-uri.field-0.0
+          (λ bad. rw c.text_of.ensures at c.in_err-uri.ensures.bad (ap (λ fault. Err fault) bad)) refl,
+    )
 
 pub returns-in-Ok-clause-step : goal.returns-in-Ok-clause-step
 returns-in-Ok-clause-step g c =

@@ -9,8 +9,11 @@ pub invariant_of-self : goal.invariant_of-self
 invariant_of-self c =
     let done = c.in-Ok.ensures in
     let Q : List ℕ → Type 0 = λ new. IsReadRight new c.self.inside.machine.matcher c.edit.new.self.kept in
-    record { live = c.self.invariant.live; read = subst Q (sym done.1) (rw c.text_of.ensures
-    (c.edit.ensures.right c.self.inside.machine c.self.inside.text c.args.added.now c.len-len.ensures.utf8 c.requires done.0 done.0 (omega arith) c.len.ensures c.self.invariant.read)) }
+    record {
+      live = c.self.invariant.live;
+      read = subst Q (sym done.1) (rw c.text_of.ensures
+          (c.edit.ensures.right c.self.inside.machine c.self.inside.text c.args.added.now c.len-len.ensures.utf8 c.requires done.0 done.0 (omega arith) c.len.ensures c.self.invariant.read));
+    }
 
 pub returns-in-Ok-clause-step : goal.returns-in-Ok-clause-step
 returns-in-Ok-clause-step c =

@@ -10,6 +10,9 @@ invariant_of-self c =
     let text = c.self.inside.text in
     let P : ℕ → Type 0 = λ n. IsPlace text n in
     let Q : List ℕ → Type 0 = λ new. IsReadRight new c.self.inside.machine.matcher c.edit.new.self.kept in
-    record { live = c.self.invariant.live; read = subst Q (edited_whole text c.args.text c.len.result c.len.ensures.bytes)
-    (c.edit.ensures.right c.self.inside.machine text c.args.text c.len.ensures.utf8 c.len-2.ensures.utf8 (IsCharBoundary-start text c.len.ensures.utf8)
-    (subst P (sym c.len.ensures.bytes) (IsCharBoundary-end text)) (omega arith) c.len-2.ensures.bytes c.self.invariant.read) }
+    record {
+      live = c.self.invariant.live;
+      read = subst Q (edited_whole text c.args.text c.len.result c.len.ensures.bytes)
+          (c.edit.ensures.right c.self.inside.machine text c.args.text c.len.ensures.utf8 c.len-2.ensures.utf8 (IsCharBoundary-start text c.len.ensures.utf8)
+          (subst P (sym c.len.ensures.bytes) (IsCharBoundary-end text)) (omega arith) c.len-2.ensures.bytes c.self.invariant.read);
+    }
