@@ -14,5 +14,4 @@ pub mod status;
 mod tests;
 mod words;
 
-pub use run::run;
 pub use status::Status;
