@@ -1,5 +1,5 @@
 use Rattle.rng_simplify.proofs.Typing.{part_known}
 use Rattle.rng_simplify.proofs.copies.parts_taken.Goals as goal
 
-pub of-except-requires : goal.of-except-requires
-of-except-requires c = (part_known _ _ _ _ _ _ c.in-Typed.is c.requires.known).within
+pub of-number-requires : goal.of-number-requires
+of-number-requires c = (part_known _ _ _ _ _ _ c.in-Typed.is c.requires.known).within
