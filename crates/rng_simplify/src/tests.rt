@@ -967,7 +967,7 @@ fn copies_have_a_limit(rt: HostRuntime) -> Result<(), Fail> {
 fn ending_of_long_excepts(alloc: Global, count: usize) -> Result<String, Fail> {
     let value = "v".repeat(alloc, 64_000)?;
     let first = format!(in alloc; "\"{value}\"")?;
-    let types = ", string - x7".repeat(alloc, count)?;
+    let types = ", (string - x7)".repeat(alloc, count)?;
     let start = format!(in alloc; "empty y = list {{ empty{types} }}")?;
     ending_of_doubled(alloc, start.as_str(), first.as_str(), "|")
 }
