@@ -2,6 +2,7 @@
 pub mod Characters
 pub mod CharacterCodes
 pub mod Names
+pub mod PrintedNames
 pub mod Text
 pub mod Form
 pub mod Tags

@@ -11,20 +11,27 @@ pub mod edit;
 pub mod equal;
 pub mod fault;
 pub mod form;
+pub mod locate_fault;
 pub mod machine;
 pub mod memory;
 pub mod name;
+pub mod offer;
+pub mod printed_name;
 pub mod sequence;
 pub mod steps;
 #[cfg(test)]
 mod tests;
 pub mod token;
+pub mod way;
 
 pub use character::{is_char, is_name_char, is_name_start, is_space};
 pub use edit::{Edit, moved};
 pub use fault::{Fault, Faults, Kind, Span};
+pub use locate_fault::LocateFault;
 pub use machine::Machine;
 pub use memory::NoMemory;
 pub use name::{Name, Names};
+pub use offer::{Offer, OfferList, Offers};
 pub use sequence::{Bytes, Sequence};
 pub use token::{Token, TokenKind};
+pub use way::Way;

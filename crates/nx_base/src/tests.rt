@@ -7,6 +7,7 @@ use crate::equal::Equal;
 use crate::fault::{Fault, Faults, Kind, Span};
 use crate::memory::NoMemory;
 use crate::name::{Name, Names};
+use crate::offer::{Offer, OfferList};
 use crate::sequence::{Bytes, Sequence, TryCopy};
 use std::alloc::Global;
 use std::test::Fail;
@@ -50,6 +51,19 @@ fn lists_of_lists_are_copied(rt: HostRuntime) -> Result<(), Fail> {
     assert!(rt; !Some(last.copy()?).equals(&None));
     assert_eq!(rt; last.ns.as_slice(), "urn:x".as_bytes());
     assert_eq!(rt; last.local.as_slice(), "b".as_bytes());
+    Ok(())
+}
+
+#[test]
+fn offers_are_copied(rt: HostRuntime) -> Result<(), Fail> {
+    let mut offers = OfferList::new(rt.alloc());
+    offers.push(Offer::AnyElse)?;
+    offers.push(Offer::Value(bytes_of(rt.alloc(), "on")?))?;
+    let copied = offers.copy()?;
+    let Some(Offer::Value(literal)) = copied.get(1) else {
+        return Err(Fail::new("a value"));
+    };
+    assert_eq!(rt; literal.as_slice(), "on".as_bytes());
     Ok(())
 }
 
