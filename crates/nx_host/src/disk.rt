@@ -49,6 +49,13 @@ impl<'a, R> DiskFiles<'a, R> {
         DiskFiles { rt, faults: 0 }
     }
 
+    /// How many calls failed.
+    pub fn failures(&self) -> u64
+        ensures { result ≡ self.now }
+    {
+        self.faults
+    }
+
     /// Raises the count where the answer is `Failed`.
     fn counted<T>(&mut self, answer: Result<T, FileFault>) -> Result<T, FileFault>
         ensures answer { result ≡ answer }
@@ -190,6 +197,13 @@ impl<'a, R> StdOut<'a, R> {
     {
         StdOut { rt, faults: 0 }
     }
+
+    /// How many writes failed.
+    pub fn failures(&self) -> u64
+        ensures { result ≡ self.now }
+    {
+        self.faults
+    }
 }
 
 impl<R: Print> Out for StdOut<'_, R> {
@@ -207,6 +221,3 @@ impl<R: Print> Out for StdOut<'_, R> {
         }
     }
 }
-
-#[cfg(test)]
-mod tests;

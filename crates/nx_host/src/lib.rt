@@ -13,8 +13,6 @@ pub mod memory_out;
 pub mod out;
 mod replacement;
 pub mod streams;
-#[cfg(test)]
-mod tests;
 pub mod uri;
 pub mod utf8;
 

@@ -15,7 +15,7 @@ pub const READ_TURNS: u64 = 1 << 40;
 const PIECE: usize = 8192;
 
 /// All that is left to read. A read that is interrupted is tried again.
-pub(crate) fn read_all<R: Read>(alloc: Global, reader: &mut R) -> Result<Vec<u8>, FileFault>
+pub fn read_all<R: Read>(alloc: Global, reader: &mut R) -> Result<Vec<u8>, FileFault>
     ensures { IfOk result (λ read. IfSome (R.remaining reader.old) (λ left. read.items ≡ left)) }
 {
     let mut read = Vec::new(alloc);
@@ -55,51 +55,4 @@ pub(crate) fn write_whole<W: Write>(writer: &mut W, bytes: &[u8]) -> io::Result<
         }
     }
     Err(io::Error::from(ErrorKind::TimedOut))
-}
-
-#[cfg(test)]
-mod tests {
-    use super::{READ_TURNS, read_all};
-    use crate::files::FileFault;
-    use std::io;
-    use std::io::{Error, ErrorKind, Read};
-
-    // Gives `t` twice, is interrupted between, and then ends, or fails with this kind.
-    #[derive(Drop)]
-    struct Pieces {
-        calls: u64,
-        end: Option<ErrorKind>,
-    }
-
-    impl Read for Pieces {
-        fn read(&mut self, buf: &mut [u8]) -> io::Result<usize> {
-            self.calls = self.calls.saturating_add(1);
-            if self.calls == 2 {
-                return Err(Error::from(ErrorKind::Interrupted));
-            }
-            if self.calls <= 3 && !buf.is_empty() {
-                buf[0] = b't';
-                return Ok(1);
-            }
-            match self.end {
-                None => Ok(0),
-                Some(kind) => Err(Error::from(kind)),
-            }
-        }
-    }
-
-    #[test]
-    fn reads_to_the_end(rt: HostRuntime) {
-        for (end, fault) in [
-            (None, None),
-            (Some(ErrorKind::OutOfMemory), Some(FileFault::NoMemory)),
-            (Some(ErrorKind::NotFound), Some(FileFault::Failed)),
-        ] {
-            match read_all(rt.alloc(), &mut Pieces { calls: 0, end }) {
-                Ok(bytes) => assert!(rt; fault.is_none() && bytes.as_slice() == b"tt".as_slice()),
-                Err(answer) => assert!(rt; fault == Some(answer)),
-            }
-        }
-        assert_eq!(rt; READ_TURNS, 1_099_511_627_776);
-    }
 }

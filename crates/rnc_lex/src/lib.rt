@@ -14,8 +14,6 @@ pub mod lex;
 mod literal;
 mod name;
 mod symbol;
-#[cfg(test)]
-mod tests;
 mod text;
 pub mod token;
 

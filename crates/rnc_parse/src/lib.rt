@@ -27,8 +27,6 @@ mod scope;
 mod sign;
 mod stop;
 pub mod surface;
-#[cfg(test)]
-mod tests;
 
 pub use read::ReadFault;
 pub use surface::Surface;

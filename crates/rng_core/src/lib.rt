@@ -12,8 +12,6 @@ pub mod law;
 pub mod name_class;
 pub mod overlap;
 mod sorted_class;
-#[cfg(test)]
-mod tests;
 
 pub use grammar::{Def, Defs, Grammar, Pat};
 pub use name_class::NameClass;

@@ -28,4 +28,3 @@ mod Assembled
 mod Knowing
 mod InOrder
 mod Findings
-mod Orderly

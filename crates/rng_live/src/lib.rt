@@ -32,11 +32,7 @@ mod naming;
 pub mod prune;
 pub mod schema;
 pub mod sorting;
-#[cfg(test)]
-mod sound;
 mod takes;
-#[cfg(test)]
-mod tests;
 mod waiting;
 
 pub use fault::LiveFault;

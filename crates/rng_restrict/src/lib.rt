@@ -25,8 +25,6 @@ mod judge;
 mod numbers;
 mod path;
 mod reach;
-#[cfg(test)]
-mod tests;
 mod text;
 mod wildcard;
 

@@ -41,8 +41,6 @@ mod resolve;
 mod shape;
 pub mod simplify;
 mod stop;
-#[cfg(test)]
-mod tests;
 pub mod types;
 
 pub use fault::SchemaFault;

@@ -32,8 +32,6 @@ mod relation;
 mod sameness;
 pub mod spaces;
 mod table;
-#[cfg(test)]
-mod tests;
 pub mod word;
 
 pub use datatype::{Datatype, Except, Excepts, Param};
