@@ -1,2 +1,6 @@
+pub mod Borders
 pub mod Editing
+pub mod Feeds
+pub mod Gap
+pub mod Places
 pub mod Reading

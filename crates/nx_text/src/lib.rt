@@ -3,6 +3,11 @@
 //! The layers above see the list of its bytes alone, and tell one another of its edits by `Edit`.
 #![tactic(auto)]
 
+mod apart;
+mod gap_buffer;
+pub mod law;
+mod line_feeds;
+mod places;
 pub mod text;
 
 pub use text::{Text, TextFault};

@@ -1,16 +1,23 @@
 //! A text that is edited at its places.
 
-ghost use Rattle.std.specs.Prelude.{◌≡◌, ◌+◌, ◌<◌, ◌≤◌, ◌^◌, ◌↔◌, [], length, encode_utf8, slice_get, slice_range, IsTrue, IfOk, OnSome};
-ghost use Rattle.std.specs.Prelude.{IfSome, MatchOption};
+ghost use Rattle.std.specs.Prelude.{◌≡◌, ◌+◌, ◌<◌, ◌≤◌, ◌^◌, ◌↔◌, [], ◌++◌, length, encode_utf8, slice_get, slice_range};
+ghost use Rattle.std.specs.Prelude.{IsTrue, IfOk, OnSome, IfSome, MatchOption};
+ghost use Rattle.nx_text.specs.Borders.{IsNextBorder, IsPreviousBorder};
+ghost use Rattle.nx_text.specs.Places.{line_at, column_at};
 ghost use Rattle.std.specs.Str.{IsUtf8};
-ghost use Rattle.nx_base.specs.Text.{IsPlace};
-ghost use Rattle.nx_text.specs.Editing.{Inserts, Deletes};
+ghost use Rattle.nx_base.specs.Text.{IsPlace, edited};
+ghost use Rattle.nx_text.specs.Editing.{Inserts, Deletes, IsRange};
 ghost use Rattle.nx_text.specs.Reading.{StandsAt, HasNoCharAt};
 
+use crate::apart::{self, next_border, previous_border};
+use crate::gap_buffer::GapBuffer;
+use crate::line_feeds::{count_feeds, feeds_before, move_gaps, push_feeds, take_out};
+use crate::places::{column_in, has_feed};
 use nx_base::memory::NoMemory;
 use nx_base::sequence::Bytes;
 use std::alloc::{AllocError, Global};
 use std::marker::Model;
+use std::str;
 use thiserror::Error;
 
 /// Why a text refused an edit.
@@ -36,18 +43,33 @@ impl From<AllocError> for TextFault {
 }
 
 /// A text. To a contract it is the list of its bytes, which are UTF-8. Its places are byte offsets.
+///
+/// The bytes lie in one buffer with a gap, which moves to where the text is edited, and the line feeds are listed in
+/// another whose gap is at the same place. So an edit takes time as what it puts in or takes out, and as far as it is
+/// from the one before it.
 #[derive(Drop)]
 pub struct Text {
-    text: String,
+    bytes: GapBuffer<u8>,
+    feeds: GapBuffer<usize>,
 }
 
 impl Model for Text {
     ghost use Rattle.std.specs.Prelude.{List, ℕ};
-    ghost use Rattle.std.specs.String.{string_bytes};
+    ghost use Rattle.nx_text.specs.Feeds.{IsKept, joined};
 
     ghost Value = { List ℕ };
 
-    ghost view = { λ t. string_bytes t.text };
+    ghost view = { λ t. joined t.bytes };
+
+    ghost invariant = { λ t. IsKept t.bytes t.feeds };
+}
+
+/// Bytes that are UTF-8, as a text.
+fn as_text(bytes: &[u8]) -> &str
+    requires { IsUtf8 bytes.now }
+    ensures { result.now ≡ bytes.now }
+{
+    unsafe { str::from_utf8_unchecked(bytes) }
 }
 
 impl Text {
@@ -56,8 +78,17 @@ impl Text {
         ensures { result ≡ [] }
     {
         Text {
-            text: String::new(alloc),
+            bytes: GapBuffer::new(alloc),
+            feeds: GapBuffer::new(alloc),
         }
+    }
+
+    /// What stands in front of the gap, and what stands behind it.
+    fn sides(&self) -> (&str, &str)
+        ensures text { self.now ≡ result.0.now ++ result.1.now }
+        ensures fits { length result.0.now + length result.1.now < 2 ^ 64 }
+    {
+        (as_text(self.bytes.front()), as_text(self.bytes.back()))
     }
 
     /// How many bytes the text has.
@@ -65,14 +96,15 @@ impl Text {
         ensures bytes { result ≡ length self.now }
         ensures utf8 { IsUtf8 self.now }
     {
-        self.text.as_str().len()
+        self.bytes.len()
     }
 
     /// Whether the byte offset `at` is a place: at most the length, and not inside a character.
     pub fn is_place(&self, at: usize) -> bool
         ensures { IsTrue result ↔ IsPlace self.now at }
     {
-        self.text.as_str().is_char_boundary(at)
+        let (front, back) = self.sides();
+        apart::is_place(front, back, at)
     }
 
     /// Puts a text in at the place `at`. Refused exactly where that is no place, which is found before
@@ -84,7 +116,11 @@ impl Text {
             let len = self.len();
             return Err(TextFault::BadPosition { at, len });
         }
-        self.text.insert_str(at, added)?;
+        self.bytes.make_room(added.len(), 0)?;
+        self.feeds.make_room(count_feeds(added.as_bytes()), 0)?;
+        move_gaps(&mut self.bytes, &mut self.feeds, at);
+        self.bytes.push_all(added.as_bytes());
+        push_feeds(&mut self.feeds, at, added.as_bytes());
         Ok(())
     }
 
@@ -100,8 +136,19 @@ impl Text {
         if !self.is_place(to) {
             return Err(TextFault::BadPosition { at: to, len });
         }
-        self.text.replace_range(from..to, "").unwrap();
+        self.cut(from, to);
         Ok(())
+    }
+
+    /// Takes out what stands between two places. Where the gap lies between them it stays; otherwise it moves to the
+    /// nearer one.
+    fn cut(&mut self, from: usize, to: usize)
+        requires { IsRange self.old from to }
+        ensures { self.new ≡ edited self.old from to [] }
+    {
+        let middle = self.bytes.front_len().max(from).min(to);
+        move_gaps(&mut self.bytes, &mut self.feeds, middle);
+        take_out(&mut self.bytes, &mut self.feeds, from, to - middle);
     }
 
     /// A copy of the bytes from the place `from` to the place `to`.
@@ -112,9 +159,7 @@ impl Text {
         ensures bytes { IfOk result (λ copied. copied ≡ slice_range self.now from to) }
         ensures utf8 { IfOk result IsUtf8 }
     {
-        let alloc = *self.text.allocator();
-        let part = &self.text.as_str()[from..to];
-        Ok(Bytes::from_vec(Vec::from_slice(alloc, part.as_bytes())?))
+        Ok(Bytes::from_vec(self.bytes.copy_range(from, to)?))
     }
 
     /// The byte at the byte offset `at`; none exactly where that is at least the length.
@@ -122,7 +167,7 @@ impl Text {
         ensures byte { result ≡ slice_get self.now at }
         ensures next_fits { OnSome result (at + 1 < 2 ^ 64) }
     {
-        self.text.as_bytes().get(at).copied()
+        self.bytes.get(at)
     }
 
     /// The character that begins at the byte offset `at`; none exactly where that is the length, or no
@@ -131,50 +176,56 @@ impl Text {
         ensures char { MatchOption result (HasNoCharAt self.now at) (StandsAt self.now at) }
         ensures next_fits { IfSome result (λ c. at + length (encode_utf8 c) < 2 ^ 64) }
     {
-        if !self.is_place(at) {
+        let (front, back) = self.sides();
+        if !apart::is_place(front, back, at) {
             return None;
         }
-        self.text.as_str()[at..].chars().next()
+        apart::char_at(front, back, at)
     }
-}
 
-#[cfg(test)]
-mod tests {
-    use super::*;
-    use std::test::Fail;
+    /// The number of the line that the place lies in, counted from 1: one more than the line feeds in front of it.
+    pub fn line_of(&self, at: usize) -> usize
+        requires { IsPlace self.now at }
+        ensures { result ≡ line_at self.now at }
+    {
+        feeds_before(&self.bytes, &self.feeds, at) + 1
+    }
 
-    #[test]
-    fn edits_and_reads(rt: HostRuntime) -> Result<(), Fail> {
-        let mut text = Text::new(rt.alloc());
-        text.insert(0, "é")?;
-        text.insert(2, "xy")?;
-        text.delete(3, 4)?;
-        let whole = text.copy_range(0, 3).ok().ok_or("no memory")?;
-        assert_eq!(rt; whole.as_slice(), "éx".as_bytes());
-        assert_eq!(rt; text.len(), 3);
-        assert_eq!(rt;
-            (text.is_place(1), text.is_place(2), text.is_place(4)),
-            (false, true, false)
-        );
-        assert_eq!(rt; (text.byte_at(2), text.byte_at(3)), (Some(b'x'), None));
-        assert_eq!(rt;
-            (text.char_at(0), text.char_at(1), text.char_at(3)),
-            (Some('é'), None, None)
-        );
-        for (refused, at) in [
-            (text.insert(1, "x"), 1),
-            (text.delete(3, 2), 3),
-            (text.delete(0, 1), 1),
-        ] {
-            match refused {
-                Err(TextFault::BadPosition { at: place, len }) => assert_eq!(rt;
-                    (place, len),
-                    (at, 3)
-                ),
-                _ => panic!(rt; "an edit at {at}"),
-            }
+    /// The columns of a terminal that its line takes up to the place.
+    pub fn column_of(&mut self, at: usize) -> usize
+        requires { IsPlace self.old at }
+        ensures column { result ≡ column_at self.old at }
+        ensures text { self.new ≡ self.old }
+    {
+        let gap = self.bytes.front_len();
+        if at <= gap {
+            return column_in(as_text(self.bytes.front()), at);
         }
-        assert_eq!(rt; text.len(), 3);
-        Ok(())
+        if has_feed(self.bytes.back(), at - gap) {
+            return column_in(as_text(self.bytes.back()), at - gap);
+        }
+        // the line begins in front of the gap
+        move_gaps(&mut self.bytes, &mut self.feeds, at);
+        column_in(as_text(self.bytes.front()), at)
+    }
+
+    /// The nearest border of grapheme clusters behind the place; none exactly where that is the end.
+    pub fn next_grapheme(&mut self, at: usize) -> Option<usize>
+        requires { IsPlace self.old at }
+        ensures next { MatchOption result (at ≡ length self.old) (IsNextBorder self.old at) }
+        ensures text { self.new ≡ self.old }
+    {
+        let (front, back) = self.sides();
+        next_border(front, back, at)
+    }
+
+    /// The nearest border of grapheme clusters in front of the place; none exactly where that is the start.
+    pub fn prev_grapheme(&mut self, at: usize) -> Option<usize>
+        requires { IsPlace self.old at }
+        ensures previous { MatchOption result (at ≡ 0) (IsPreviousBorder self.old at) }
+        ensures text { self.new ≡ self.old }
+    {
+        let (front, back) = self.sides();
+        previous_border(front, back, at)
     }
 }

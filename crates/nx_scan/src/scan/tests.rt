@@ -202,7 +202,7 @@ fn is_cut<R: Abort, L: Ledger>(rt: &R, alloc: Global, tokens: Row, blank: Blank)
             bytes.as_bytes(),
             "the bytes of {bytes}"
         );
-        at += token.bytes.len();
+        at = at.saturating_add(token.bytes.len());
     }
     assert_eq!(rt; at, text.len());
     Ok(())

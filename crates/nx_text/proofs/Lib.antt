@@ -1,0 +1,10 @@
+pub mod Clusters
+pub mod Feeds
+pub mod Gaps
+pub mod Indices
+pub mod Lines
+pub mod Listed
+pub mod Searching
+pub mod Sides
+pub mod Steps
+pub mod TwoPieces

@@ -1,0 +1,230 @@
+//! A list with a gap in it, where items are put in and taken out without moving the others.
+
+ghost use Rattle.std.specs.Prelude.{◌≡◌, ◌+◌, ◌<◌, ◌≤◌, ◌^◌, [], ◌∷◌, ◌++◌, length, take, drop, slice_get, slice_range};
+ghost use Rattle.std.specs.Prelude.{OnOk, OnSome, IfOk};
+ghost use Rattle.nx_text.specs.Gap.{Parted};
+
+use std::alloc::{AllocError, Global};
+use std::marker::Model;
+
+/// A list with a gap in it, in one block of memory. To a contract it is the part in front of the gap, the part behind
+/// it, and how many items the gap has room for.
+#[derive(Drop)]
+pub(crate) struct GapBuffer<T> {
+    items: Vec<T>,
+    // what stands from here on up to `end` is the gap
+    start: usize,
+    end: usize,
+}
+
+impl<T> Model for GapBuffer<T> {
+    ghost use Rattle.std.specs.Prelude.{◌-◌, ◌≤◌, take, drop, vec_len};
+    ghost use Rattle.nx_text.specs.Gap.{Parted, parted_code};
+
+    ghost Value = { Parted T };
+
+    ghost coded = { parted_code T.code };
+
+    ghost view = { λ b. record {
+      front = take b.start b.items.items;
+      back = drop b.end b.items.items;
+      room = b.end - b.start;
+    } };
+
+    ghost invariant = { λ b. (b.start ≤ b.end) × (b.end ≤ vec_len b.items) };
+}
+
+/// A copy of one list and another behind it.
+fn copy_both<T: Copy>(alloc: Global, front: &[T], back: &[T]) -> Result<Vec<T>, AllocError>
+    ensures { IfOk result (λ copied. copied.items ≡ front.now ++ back.now) }
+{
+    let mut copied = Vec::from_slice(alloc, front)?;
+    copied.extend_from_slice(back)?;
+    Ok(copied)
+}
+
+impl<T: Copy> GapBuffer<T> {
+    /// The empty list.
+    pub(crate) fn new(alloc: Global) -> GapBuffer<T>
+        ensures front { result.front ≡ [] }
+        ensures back { result.back ≡ [] }
+    {
+        GapBuffer {
+            items: Vec::new(alloc),
+            start: 0,
+            end: 0,
+        }
+    }
+
+    /// The part in front of the gap.
+    pub(crate) fn front(&self) -> &[T]
+        ensures { result.now ≡ self.now.front }
+    {
+        &self.items[..self.start]
+    }
+
+    /// The part behind the gap.
+    pub(crate) fn back(&self) -> &[T]
+        ensures { result.now ≡ self.now.back }
+    {
+        &self.items[self.end..]
+    }
+
+    /// How many items there are.
+    pub(crate) fn len(&self) -> usize
+        ensures { result ≡ length self.now.front + length self.now.back }
+    {
+        self.items.len() - (self.end - self.start)
+    }
+
+    /// How many items there are in front of the gap.
+    pub(crate) fn front_len(&self) -> usize
+        ensures { result ≡ length self.now.front }
+    {
+        self.start
+    }
+
+    /// The item at an index.
+    pub(crate) fn get(&self, at: usize) -> Option<T>
+        ensures item { result ≡ slice_get (self.now.front ++ self.now.back) at }
+        ensures next_fits { OnSome result (at + 1 < 2 ^ 64) }
+    {
+        if at < self.start {
+            Some(self.items[at])
+        } else {
+            self.back().get(at - self.start).copied()
+        }
+    }
+
+    /// A copy of the items from one index to another.
+    pub(crate) fn copy_range(&self, from: usize, to: usize) -> Result<Vec<T>, AllocError>
+        requires ordered { from ≤ to }
+        requires inside { to ≤ length self.now.front + length self.now.back }
+        ensures { IfOk result (λ copied. copied.items ≡ slice_range (self.now.front ++ self.now.back) from to) }
+    {
+        let alloc = *self.items.allocator();
+        let gap = self.start;
+        if to <= gap {
+            return Ok(Vec::from_slice(alloc, &self.front()[from..to])?);
+        }
+        if from >= gap {
+            return Ok(Vec::from_slice(alloc, &self.back()[from - gap..to - gap])?);
+        }
+        Ok(copy_both(alloc, &self.front()[from..], &self.back()[..to - gap])?)
+    }
+
+    /// Makes the gap so wide that it has room for so many items more. Where it must be widened it takes at least as
+    /// much as the list has, so that putting in one item after another takes time as their number.
+    pub(crate) fn make_room(&mut self, more: usize, filler: T) -> Result<(), AllocError>
+        ensures front { self.new.front ≡ self.old.front }
+        ensures back { self.new.back ≡ self.old.back }
+        ensures room { OnOk result (more ≤ self.new.room) }
+    {
+        if more <= self.end - self.start {
+            return Ok(());
+        }
+        let len = self.items.len();
+        let wider = more.max(len);
+        let new_len = len.checked_add(wider).ok_or(AllocError)?;
+        self.items.resize(new_len, filler)?;
+        self.items.copy_within(self.end..len, self.end + wider);
+        self.end += wider;
+        Ok(())
+    }
+
+    /// Moves the gap to an index.
+    pub(crate) fn move_gap(&mut self, at: usize)
+        requires { at ≤ length self.old.front + length self.old.back }
+        ensures front { self.new.front ≡ take at (self.old.front ++ self.old.back) }
+        ensures back { self.new.back ≡ drop at (self.old.front ++ self.old.back) }
+        ensures room { self.new.room ≡ self.old.room }
+    {
+        if at < self.start {
+            let moved = self.start - at;
+            self.items.copy_within(at..self.start, self.end - moved);
+            self.start = at;
+            self.end -= moved;
+        } else {
+            let moved = at - self.start;
+            self.items
+                .copy_within(self.end..self.end + moved, self.start);
+            self.start = at;
+            self.end += moved;
+        }
+    }
+
+    /// Puts an item in at the start of the gap.
+    pub(crate) fn push(&mut self, item: T)
+        requires { 0 < self.old.room }
+        ensures front { self.new.front ≡ self.old.front ++ item ∷ [] }
+        ensures back { self.new.back ≡ self.old.back }
+        ensures room { self.new.room + 1 ≡ self.old.room }
+    {
+        self.items[self.start] = item;
+        self.start += 1;
+    }
+
+    /// Puts an item in at the end of the gap.
+    pub(crate) fn push_back(&mut self, item: T)
+        requires { 0 < self.old.room }
+        ensures front { self.new.front ≡ self.old.front }
+        ensures back { self.new.back ≡ item ∷ self.old.back }
+        ensures room { self.new.room + 1 ≡ self.old.room }
+    {
+        self.end -= 1;
+        self.items[self.end] = item;
+    }
+
+    /// Takes out the last item in front of the gap.
+    pub(crate) fn pop(&mut self) -> T
+        requires { 0 < length self.old.front }
+        ensures front { self.old.front ≡ self.new.front ++ result ∷ [] }
+        ensures back { self.new.back ≡ self.old.back }
+        ensures room { self.new.room ≡ self.old.room + 1 }
+    {
+        self.start -= 1;
+        self.items[self.start]
+    }
+
+    /// Takes out the first item behind the gap.
+    pub(crate) fn pop_back(&mut self) -> T
+        requires { 0 < length self.old.back }
+        ensures front { self.new.front ≡ self.old.front }
+        ensures back { self.old.back ≡ result ∷ self.new.back }
+        ensures room { self.new.room ≡ self.old.room + 1 }
+    {
+        self.end += 1;
+        self.items[self.end - 1]
+    }
+
+    /// Puts items in at the start of the gap.
+    pub(crate) fn push_all(&mut self, added: &[T])
+        requires { length added.now ≤ self.old.room }
+        ensures front { self.new.front ≡ self.old.front ++ added.now }
+        ensures back { self.new.back ≡ self.old.back }
+        ensures room { self.new.room + length added.now ≡ self.old.room }
+        ensures fits { length self.new.front < 2 ^ 64 }
+    {
+        let start = self.start + added.len();
+        self.items[self.start..start].copy_from_slice(added);
+        self.start = start;
+    }
+
+    /// Leaves so many items in front of the gap.
+    pub(crate) fn keep_front(&mut self, count: usize)
+        requires { count ≤ length self.old.front }
+        ensures front { self.new.front ≡ take count self.old.front }
+        ensures back { self.new.back ≡ self.old.back }
+    {
+        self.start = count;
+    }
+
+    /// Drops so many items behind the gap.
+    pub(crate) fn drop_back(&mut self, count: usize)
+        requires { count ≤ length self.old.back }
+        ensures front { self.new.front ≡ self.old.front }
+        ensures back { self.new.back ≡ drop count self.old.back }
+    {
+        self.end += count;
+    }
+}

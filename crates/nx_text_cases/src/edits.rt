@@ -1,0 +1,34 @@
+use nx_text::{Text, TextFault};
+use std::test::Fail;
+
+#[test]
+fn edits_and_reads(rt: HostRuntime) -> Result<(), Fail> {
+    let mut text = Text::new(rt.alloc());
+    text.insert(0, "é")?;
+    text.insert(2, "xy")?;
+    text.delete(3, 4)?;
+    let whole = text.copy_range(0, 3).ok().ok_or("no memory")?;
+    assert_eq!(rt; whole.as_slice(), "éx".as_bytes());
+    assert_eq!(rt; text.len(), 3);
+    assert_eq!(rt;
+        (text.is_place(1), text.is_place(2), text.is_place(4)),
+        (false, true, false)
+    );
+    assert_eq!(rt; (text.byte_at(2), text.byte_at(3)), (Some(b'x'), None));
+    assert_eq!(rt;
+        (text.char_at(0), text.char_at(1), text.char_at(3)),
+        (Some('é'), None, None)
+    );
+    for (refused, at) in [
+        (text.insert(1, "x"), 1),
+        (text.delete(3, 2), 3),
+        (text.delete(0, 1), 1),
+    ] {
+        match refused {
+            Err(TextFault::BadPosition { at: place, len }) => assert_eq!(rt; (place, len), (at, 3)),
+            _ => panic!(rt; "an edit at {at}"),
+        }
+    }
+    assert_eq!(rt; text.len(), 3);
+    Ok(())
+}
