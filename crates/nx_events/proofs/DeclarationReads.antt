@@ -56,7 +56,7 @@ pub bound : {A B : Type 0} (o : Option A) (f : A → Option B) (y : B) → optio
 bound None f y e = absurd (cc)
 bound (Some x) f y e = (x, refl, e)
 
-chosen : (t : Bool) {A : Type 0} (x y : A) → cond t (Some x) None ≡ Some y → (t ≡ true) × (x ≡ y)
+pub chosen : (t : Bool) {A : Type 0} (x y : A) → cond t (Some x) None ≡ Some y → (t ≡ true) × (x ≡ y)
 chosen true x y e = (refl, cc)
 chosen false x y e = absurd (cc)
 
@@ -69,7 +69,7 @@ space_on x xs h =
 pub space_off : (x : ℕ) (xs : List ℕ) → is_space x ≡ false → after_spaces (x ∷ xs) ≡ x ∷ xs
 space_off x xs h = ap (λ (t : Bool). drop (cond t (1 + prefix_len is_space xs) 0) (x ∷ xs)) h
 
-split_spaces : (xs : List ℕ) → (front : List ℕ) × AllPass is_space front × (xs ≡ front ++ after_spaces xs)
+pub split_spaces : (xs : List ℕ) → (front : List ℕ) × AllPass is_space front × (xs ≡ front ++ after_spaces xs)
 split_spaces [] = ([], tt, refl)
 split_spaces (x ∷ xs) =
     let rest = split_spaces xs in

@@ -38,3 +38,6 @@ pub mod Places
 pub mod Stacks
 pub mod KeptNames
 pub mod QualifiedNames
+pub mod OpenItems
+pub mod TagPlaces
+pub mod Prefixes

@@ -27,6 +27,9 @@ pub mod Spelling
 pub mod SpelledTags
 pub mod MarkupForm
 pub mod QualifiedNames
+-- tags as far as they are written
+pub mod OpenItems
+pub mod Prefixes
 -- laws
 pub mod OpenTags
 pub mod TextRuns
@@ -39,6 +42,7 @@ pub mod Moves
 pub mod Plain
 pub mod SeenNames
 pub mod Places
+pub mod TagPlaces
 -- ---- proofs of the laws that the machine hands on, which have to stand here
 pub mod ItemsLie
 pub mod ItemsMove

@@ -22,8 +22,9 @@ fn after_spaces(bytes: &[u8]) -> &[u8]
     &bytes[spaces_len(bytes)..]
 }
 
+/// What is left behind S+.
 #[tactic(auto, unfolding(crate::specs::XmlDeclaration::after_some_spaces))]
-fn after_some_spaces(bytes: &[u8]) -> Option<&[u8]>
+pub(crate) fn after_some_spaces(bytes: &[u8]) -> Option<&[u8]>
     ensures { option_copied result ≡ after_some_spaces bytes.now }
 {
     if begins_with_space(bytes) {
@@ -44,8 +45,9 @@ fn after_word<'a>(word: &[u8], bytes: &'a [u8]) -> Option<&'a [u8]>
     }
 }
 
+/// What is left behind Eq.
 #[tactic(auto, unfolding(crate::specs::XmlDeclaration::after_equals))]
-fn after_equals(bytes: &[u8]) -> Option<&[u8]>
+pub(crate) fn after_equals(bytes: &[u8]) -> Option<&[u8]>
     ensures { option_copied result ≡ after_equals bytes.now }
 {
     let rest = after_word(b"=", after_spaces(bytes))?;

@@ -5,6 +5,7 @@ ghost use Rattle.nx_events.specs.Faults.{faults_as_items};
 ghost use Rattle.nx_base.specs.declared.name.Name.{Name};
 ghost use Rattle.nx_events.specs.Elements.{flawed_as, declared_or_flaw, element_resolved, element_items, new_or_flaw, attribute_declared};
 ghost use Rattle.nx_events.specs.Elements.{declared_if_attribute, attribute_item, kept_name, attribute_items};
+ghost use Rattle.nx_events.specs.OpenItems.{kept_names, name_resolved, new_name};
 ghost use Rattle.nx_events.specs.SeenNames.{AreKept, new_of};
 
 use crate::flaw::{Flaw, Resolved};
@@ -184,20 +185,51 @@ fn push_attribute(
     Ok(())
 }
 
-/// Adds the items of the attributes of a tag.
+/// Adds the items of the attributes of a tag, and answers the names that they keep.
 pub(crate) fn push_attributes(
     alloc: Global,
     items: &mut Items,
     outer: &Bindings,
     own: &Bindings,
     attributes: &[Attribute],
-) -> Result<(), NoMemory>
-    ensures { OnOk result (items.new ≡ items.old ++ attribute_items (outer.now ++ own.now) [] attributes.now) }
+) -> Result<TagNames, NoMemory>
+    ensures items { OnOk result (items.new ≡ items.old ++ attribute_items (outer.now ++ own.now) [] attributes.now) }
+    ensures kept { IfOk result (λ kept. AreKept kept.names.keys (kept_names (outer.now ++ own.now) [] attributes.now)) }
 {
     let mut kept = TagNames::new(alloc);
     for it in attributes {
         let declared = declared_if_attribute(alloc, outer, own, it)?;
         push_attribute(alloc, items, &mut kept, it, declared)?;
     }
-    Ok(())
+    Ok(kept)
+}
+
+// The name that was resolved, if one was.
+fn name_resolved(resolved: Resolved) -> Option<Name>
+    ensures { result ≡ name_resolved resolved }
+{
+    match resolved {
+        Resolved::Named(name) => Some(name),
+        Resolved::Flawed(_) => None,
+    }
+}
+
+/// The name of an attribute behind those that kept these names. None where it is a declaration, isn't resolved or came before.
+#[tactic(auto, unfolding(crate::specs::OpenItems::new_name))]
+pub(crate) fn new_name(
+    alloc: Global,
+    outer: &Bindings,
+    own: &Bindings,
+    kept: &mut TagNames,
+    written: &[u8],
+) -> Result<Option<Name>, NoMemory>
+    ensures { (names : List Name) → AreKept kept.old.names.keys names → IfOk result
+        (λ name. name ≡ new_name (outer.now ++ own.now) names written.now) }
+{
+    if is_declaration(written) {
+        return Ok(None);
+    }
+    let declared = attribute_declared(alloc, outer, own, written)?;
+    let resolved = keep_new(alloc, kept, declared, written)?;
+    Ok(name_resolved(resolved))
 }

@@ -7,6 +7,8 @@ ghost use Rattle.nx_events.specs.Moves.{ItemsMoveWithTokens, StatesHoldNoPlace, 
 ghost use Rattle.nx_events.specs.Spelling.{TagsAreRead};
 ghost use Rattle.nx_events.specs.OpenTags.{StatesAreKnown};
 ghost use Rattle.nx_events.specs.QualifiedNames.{QNamesAreSpelled};
+ghost use Rattle.nx_events.specs.OpenItems.{StartTagsGoOn};
+ghost use Rattle.nx_events.specs.Prefixes.{PrefixesAreTold};
 ghost use Rattle.nx_events.specs.SpelledTags.{TagsAreSpelled};
 ghost use Rattle.nx_events.specs.StringsRead.{StringsAreRead};
 ghost use Rattle.nx_events.specs.TextRuns.{RunsGiveTheirChars, CharsComeFromRuns, EndTagsEndInnermostFirst};
@@ -146,4 +148,14 @@ pub fn instructions_are_judged()
 /// of that way.
 pub fn qnames_are_spelled()
     ensures { QNamesAreSpelled }
+{}
+
+/// A start tag gives the run before it, what it gives as far as it is written, and its end.
+pub fn start_tags_go_on()
+    ensures { StartTagsGoOn }
+{}
+
+/// Of each text that begins with `<` exactly one case of the prefixes of a tag is told.
+pub fn prefixes_are_told()
+    ensures { PrefixesAreTold }
 {}

@@ -20,6 +20,7 @@ pub mod flaw;
 mod front;
 mod markup;
 mod piece;
+mod place;
 mod plain;
 mod qname;
 mod reading;
@@ -40,6 +41,7 @@ mod name_places;
 mod namespace;
 mod nesting;
 mod other_token;
+pub mod prefix;
 pub mod reader;
 mod scope;
 mod stack;
@@ -47,11 +49,10 @@ mod stage;
 mod start_tag;
 pub mod state;
 mod tag_names;
-#[cfg(test)]
-mod tests;
 mod text_token;
 
 pub use equal::same;
 pub use item::{Event, Item, Items};
+pub use prefix::{TagPrefix, run_of, tag_prefix};
 pub use reader::{begin, copy, depth, finish, pass_token, pending, read, take};
 pub use state::EventState;

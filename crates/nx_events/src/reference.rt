@@ -11,8 +11,8 @@ use crate::utf8::{continuation_len, front_char, is_name_char, is_name_start};
 use nx_base::character_code::{char_of_code, code_of_digits};
 use nx_base::memory::NoMemory;
 
-// How many bytes the name characters at the front have.
-fn name_chars_len(bytes: &[u8]) -> usize
+/// How many bytes the name characters at the front have.
+pub(crate) fn name_chars_len(bytes: &[u8]) -> usize
     ensures value { result ≡ name_chars_len 0 bytes.now }
     ensures bound { result ≤ length bytes.now }
 {

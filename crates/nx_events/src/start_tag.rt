@@ -1,11 +1,11 @@
 //! Start tags and empty-element tags.
 
-ghost use Rattle.std.specs.Prelude.{◌≡◌, ◌+◌, ◌<◌, ◌≤◌, ◌^◌, ◌++◌, length, IfOk, OnOk, OnErr};
-ghost use Rattle.nx_events.specs.Faults.{faults_as_items};
-ghost use Rattle.nx_events.specs.CharacterFaults.{character_faults};
+ghost use Rattle.std.specs.Prelude.{◌≡◌, ◌+◌, ◌<◌, ◌≤◌, ◌^◌, ◌++◌, [], length, IfOk, OnOk, OnErr};
 ghost use Rattle.nx_events.specs.Elements.{element_items, element_resolved};
-ghost use Rattle.nx_events.specs.Tags.{start_name};
-ghost use Rattle.nx_events.specs.Runs.{run_back, run_items};
+ghost use Rattle.nx_events.specs.OpenItems.{open_items, kept_names};
+ghost use Rattle.nx_events.specs.Tags.{start_name, tag_attributes};
+ghost use Rattle.nx_events.specs.Runs.{run_back};
+ghost use Rattle.nx_events.specs.SeenNames.{AreKept};
 ghost use Rattle.nx_events.specs.Items.{token_span, is_behind, own_bindings, start_items, empty_items, opened, emptied};
 
 use crate::character_fault::push_character_faults;
@@ -17,33 +17,11 @@ use crate::scope::{Binding, Bindings};
 use crate::stage::is_inside;
 use crate::state::{EventState, OpenElement, push_run};
 use crate::tag::{copy_of, start_name, tag_attributes};
+use crate::tag_names::TagNames;
 use crate::token_fault::token_span;
 use nx_base::memory::NoMemory;
 use nx_base::token::Token;
 use std::alloc::Global;
-
-// Adds the run before a tag, and the faults of the tag's characters.
-fn push_before(
-    alloc: Global,
-    items: &mut Items,
-    state: &EventState,
-    token: &Token,
-) -> Result<(), NoMemory>
-    requires place { run_back state.now.run ≤ token.now.from }
-    requires room { token.now.from + length token.now.bytes < 2 ^ 64 }
-    ensures { OnOk result (items.new ≡ items.old ++ run_items token.now.from state.now.run
-        ++ faults_as_items (character_faults Reading.Value token.now.from token.now.bytes)) }
-{
-    push_run(items, token.from, &state.run)?;
-    push_character_faults(
-        alloc,
-        items,
-        Reading::Value,
-        token.from,
-        token.bytes.as_slice(),
-    )?;
-    Ok(())
-}
 
 // Adds the element of a tag that declares these pairs.
 fn push_tag_element(
@@ -64,6 +42,35 @@ fn push_tag_element(
     Ok(())
 }
 
+/// What a start tag declares, and the names that its attributes keep.
+#[derive(Drop)]
+pub(crate) struct Opening {
+    pub(crate) own: Bindings,
+    pub(crate) kept: TagNames,
+}
+
+/// Adds the items of a start tag as far as it is written, but for the run before it.
+pub(crate) fn push_open(
+    alloc: Global,
+    items: &mut Items,
+    state: &EventState,
+    token: &Token,
+) -> Result<Opening, NoMemory>
+    requires { token.now.from + length token.now.bytes < 2 ^ 64 }
+    ensures items { OnOk result (items.new ≡ open_items items.old state.now token.now) }
+    ensures own { IfOk result (λ opening. opening.own ≡ own_bindings token.now) }
+    ensures kept { IfOk result (λ opening. AreKept opening.kept.names.keys
+        (kept_names (state.now.scope ++ own_bindings token.now) [] (tag_attributes token.now.from token.now.bytes))) }
+{
+    let bytes = token.bytes.as_slice();
+    push_character_faults(alloc, items, Reading::Value, token.from, bytes)?;
+    let attributes = tag_attributes(alloc, token.from, bytes)?;
+    let own = declarations(alloc, items, attributes.as_slice())?;
+    push_tag_element(alloc, items, state, token, &own)?;
+    let kept = push_attributes(alloc, items, &state.scope, &own, attributes.as_slice())?;
+    Ok(Opening { own, kept })
+}
+
 // Adds the items of a start tag, and answers the pairs that it declares.
 #[tactic(auto, unfolding(crate::specs::Items::start_items))]
 pub(crate) fn push_start(
@@ -77,13 +84,10 @@ pub(crate) fn push_start(
     ensures items { OnOk result (items.new ≡ items.old ++ start_items state.now token.now) }
     ensures pairs { IfOk result (λ own. own ≡ own_bindings token.now) }
 {
-    push_before(alloc, items, state, token)?;
-    let attributes = tag_attributes(alloc, token.from, token.bytes.as_slice())?;
-    let own = declarations(alloc, items, attributes.as_slice())?;
-    push_tag_element(alloc, items, state, token, &own)?;
-    push_attributes(alloc, items, &state.scope, &own, attributes.as_slice())?;
+    push_run(items, token.from, &state.run)?;
+    let opening = push_open(alloc, items, state, token)?;
     items.push(Item::Event(Event::TagEnd, token_span(token)))?;
-    Ok(own)
+    Ok(opening.own)
 }
 
 // The state inside of an element that declares these pairs.
