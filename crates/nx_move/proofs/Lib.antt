@@ -1,0 +1,4 @@
+pub mod Cutting
+pub mod Counting
+pub mod Keeping
+pub mod Leading

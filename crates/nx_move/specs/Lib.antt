@@ -1,0 +1,4 @@
+pub mod Tags
+pub mod Balance
+pub mod Ways
+pub mod Walks

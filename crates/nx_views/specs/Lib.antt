@@ -1,0 +1,4 @@
+pub mod States
+pub mod Refreshed
+pub mod Panes
+pub mod Turns
