@@ -1,249 +1,230 @@
--- What is kept stays right when a token is taken.
-use Rattle.std.proofs.Common.{◌≡◌, ℕ, zero, suc, ◌+◌, ◌-◌, ◌<◌, ◌≤◌, ◌⊎◌, inl, inr, List, [], ◌∷◌, ◌++◌, length, map, Option, Some, None, refl, sym, ap, subst, ◌∙◌, arith, append_assoc}
-use Rattle.std.specs.Prelude.{IsUtf8}
-use Rattle.std.proofs.lemmas.List.{append-nil}
-use Rattle.std.proofs.lemmas.Str.{IsCharBoundary-start, IsUtf8-between}
-use Rattle.nx_base.specs.Rules.{Rules, RulesLaws, LaterLaws, Lexeme, lexeme_of, IsLexeme}
-use Rattle.nx_base.specs.Running.{CutsTo, after_all, faults_along, machine_faults}
-use Rattle.nx_base.specs.Shifting.{placed}
+-- Marks stay right when a token is taken, or a row is joined.
+use Rattle.std.proofs.Common.{◌≡◌, ℕ, ◌+◌, ◌-◌, ◌<◌, ◌≤◌, Bool, true, false, ◌&&◌, nat_le, List, [], ◌∷◌, ◌++◌, length, refl, sym, ap, subst, ◌∙◌, arith, append_assoc}
+use Rattle.std.specs.Prelude.{max}
+use Rattle.std.proofs.lemmas.Bool.Decides.{nat_tests}
 use Rattle.nx_base.specs.Text.{IsPlace}
-use Rattle.nx_base.specs.Tokens.{cut, end_of, tokens_from, tokens_of, tokens_within}
+use Rattle.nx_base.specs.Tokens.{cut}
 use Rattle.nx_base.specs.declared.fault.Fault.{Fault}
-use Rattle.nx_base.specs.declared.token.Token.{Token}
-use Rattle.nx_scan.specs.Borders.{IsTokenOf}
-use Rattle.nx_scan.proofs.Every.{cut-is_token}
-use Rattle.nx_scan.proofs.Joined.{tokens-go_on}
-use Rattle.nx_scan.proofs.OwnBytes.{cut-own}
-use Rattle.nx_marks.specs.Frontier.{MovesOver}
-use Rattle.nx_marks.specs.Right.{StateIs, IsRight, StaysRight}
-use Rattle.nx_marks.specs.declared.marks.Kept.{Kept}
+use Rattle.nx_base.specs.Shifting.{placed}
+use Rattle.nx_base.specs.Rules.{Rules, RulesLaws, Lexeme, lexeme_of}
+use Rattle.nx_base.specs.Running.{CutsTo, after_all, faults_along}
+use Rattle.nx_marks.specs.Tags.{tag_of, tags_in}
+use Rattle.nx_marks.specs.Ruling.{is_due, Sparse}
+use Rattle.nx_marks.specs.Chain.{FirstMeans, Segment, Link, Chain, AreWhole, reach, Kept, frontier_of}
+use Rattle.nx_marks.specs.Right.{tags_behind, IsRight}
+use Rattle.nx_marks.specs.Taking.{begun, longer, took}
+use Rattle.nx_marks.specs.declared.mark.Mark.{Mark}
+use Rattle.nx_marks.proofs.Places.{size, cuts-size}
+use Rattle.nx_marks.proofs.Edits.{linked, whole-link}
 
--- ---- tokens one behind another
+cuts-more : (t : List ℕ) (p q : ℕ) (ks : List Lexeme) (k : Lexeme) → CutsTo t p ks q → IsPlace t q → q < length t → k ≡ lexeme_of (cut t q) → CutsTo t p (ks ++ k ∷ []) (q + length k.bytes)
+cuts-more t p q [] k h place within is =
+    let P : ℕ → Type 0 = λ n. CutsTo t n (k ∷ []) (q + length k.bytes) in subst P (sym h) (place, (within, (is, refl)))
+cuts-more t p q (j ∷ ks) k h place within is = (h.0, (h.1.0, (h.1.1.0, cuts-more t (p + length j.bytes) q ks k h.1.1.1 place within is)))
 
-pub reaches : (text : List ℕ) (from to : ℕ) (tokens : List Lexeme) → CutsTo text from tokens to → from ≤ to
-reaches text from to [] cuts = omega arith
-reaches text from to (k ∷ ks) cuts = let more = reaches text (from + length k.bytes) to ks cuts.1.1.1 in omega arith
+tags-more : (ks : List Lexeme) (k : Lexeme) → tags_in (ks ++ k ∷ []) ≡ tags_in ks + tag_of k.kind
+tags-more [] k = omega arith
+tags-more (j ∷ ks) k = let e = tags-more ks k in omega arith
 
-pub cuts-append : (text : List ℕ) (from via to : ℕ) (ks ls : List Lexeme) → CutsTo text from ks via → CutsTo text via ls to → CutsTo text from (ks ++ ls) to
-cuts-append text from via to [] ls front back = let P : ℕ → Type 0 = λ x. CutsTo text x ls to in subst P (sym front) back
-cuts-append text from via to (k ∷ ks) ls front back =
-    (front.0, (front.1.0, (front.1.1.0, cuts-append text (from + length k.bytes) via to ks ls front.1.1.1 back)))
-
--- a token of at least one byte that ends at a place
-pub record IsNext (text : List ℕ) (at : ℕ) (token : Token) : Type 0 where
-  pub from : token.from ≡ at
-  pub some : 0 < length token.bytes
-  pub fits : at + length token.bytes ≤ length text
-  pub border : IsPlace text (at + length token.bytes)
-  pub utf8 : IsUtf8 token.bytes
-  pub kind : IsLexeme (lexeme_of token)
-
-pub next : (text : List ℕ) (at : ℕ) (token : Token) → IsUtf8 text → IsPlace text at → at < length text → token ≡ cut text at → IsNext text at token
-next text at token utf8 place within is =
-    let P : Token → Type 0 = λ k. IsNext text at k in
-    let here = cut-is_token text at utf8 place within in
-    let same : end_of (cut text at) ≡ at + length (cut text at).bytes = ap (λ n. n + length (cut text at).bytes) here.from in
-    let Q : ℕ → Type 0 = λ n. IsPlace text n in
-    let border = subst Q same here.border in
-    subst P (sym is) (record {
-      from = here.from;
-      some = here.some;
-      fits = border.0;
-      border = border;
-      utf8 = subst IsUtf8 (sym here.bytes) (IsUtf8-between text at (end_of (cut text at)) utf8 (omega arith) place here.border);
-      kind = (_, cut-own text at utf8 place within);
-    })
-
--- each token of a text has a byte or more
-pub no_more_than_bytes : (text : List ℕ) (from to : ℕ) (tokens : List Lexeme) → IsUtf8 text → CutsTo text from tokens to → length tokens ≤ to - from
-no_more_than_bytes text from to [] utf8 cuts = omega arith
-no_more_than_bytes text from to (k ∷ ks) utf8 cuts =
-    let here = next text from (cut text from) utf8 cuts.0 cuts.1.0 refl in
-    let bytes : length k.bytes ≡ length (cut text from).bytes = ap (λ (x : Lexeme). length x.bytes) cuts.1.1.0 in
-    let more = no_more_than_bytes text (from + length k.bytes) to ks utf8 cuts.1.1.1 in
-    let far = reaches text (from + length k.bytes) to ks cuts.1.1.1 in
-    omega (arith, here.some, bytes)
-
-pub one_token : (text : List ℕ) (at : ℕ) (token : Token) → IsPlace text at → at < length text → token ≡ cut text at → MovesOver text at 1 (at + length token.bytes)
-one_token text at token place within is = record {
-  tokens = lexeme_of token ∷ [];
-  cuts = (place, (within, (ap lexeme_of is, refl)));
-  counted = omega arith;
-}
-
-pub no_token : (text : List ℕ) (at : ℕ) → MovesOver text at 0 at
-no_token text at = record { tokens = []; cuts = refl; counted = omega arith }
-
-pub over_reaches : (text : List ℕ) (from n to : ℕ) → MovesOver text from n to → from ≤ to
-over_reaches text from n to over = reaches text from to over.tokens over.cuts
-
-pub over_grows : (text : List ℕ) (from to : ℕ) → IsUtf8 text → MovesOver text from 1 to → from < to
-over_grows text from to utf8 over =
-    let bytes = no_more_than_bytes text from to over.tokens utf8 over.cuts in
-    let one = over.counted in
-    omega arith
-
--- tokens without end are taken by no text
-pub over_all : (text : List ℕ) (from n to most : ℕ) → IsUtf8 text → MovesOver text from n to → to ≤ length text → length text ≤ most → (n ≡ most) ⊎ (to ≡ length text) → to ≡ length text
-over_all text from n to most utf8 over within short (inl all) =
-    let bytes = no_more_than_bytes text from to over.tokens utf8 over.cuts in
-    let counted = over.counted in
-    let far = reaches text from to over.tokens over.cuts in
-    omega arith
-over_all text from n to most utf8 over within short (inr end) = end
-
-pub smaller : (len old new : ℕ) → old < new → new ≤ len → len - new < len - old
-smaller len old new grows within = omega arith
-
-length-both : (ks ls : List Lexeme) → length (ks ++ ls) ≡ length ks + length ls
-length-both [] ls = omega arith
-length-both (k ∷ ks) ls = let more = length-both ks ls in omega arith
-
-pub moves_on : (text : List ℕ) (from m via n to : ℕ) → MovesOver text from m via → MovesOver text via n to → MovesOver text from (m + n) to
-moves_on text from m via n to front back = record {
-  tokens = front.tokens ++ back.tokens;
-  cuts = cuts-append text from via to front.tokens back.tokens front.cuts back.cuts;
-  counted = let both = length-both front.tokens back.tokens in let one = front.counted in let two = back.counted in omega arith;
-}
-
--- tokens that reach the end are all tokens of the text from there on
-pub whole : (text : List ℕ) (at : ℕ) (tokens : List Lexeme) → IsUtf8 text → CutsTo text at tokens (length text) → map lexeme_of (tokens_from text at) ≡ tokens
-unfolding tokens_within
-whole text at [] utf8 cuts = ap (map lexeme_of) (none (length text - at) (omega arith))
-  where
-    none : (n : ℕ) → n ≡ 0 → tokens_within n text at ≡ []
-    none zero e = refl
-    none (suc n) e = absurd (omega arith)
-whole text at (k ∷ ks) utf8 cuts =
-    let here = cut-is_token text at utf8 cuts.0 cuts.1.0 in
-    let bytes : length k.bytes ≡ length (cut text at).bytes = ap (λ (x : Lexeme). length x.bytes) cuts.1.1.0 in
-    let ends : end_of (cut text at) ≡ at + length k.bytes = ap (λ n. n + length (cut text at).bytes) here.from ∙ ap (λ n. at + n) (sym bytes) in
-    ap (map lexeme_of) (tokens-go_on text at utf8 cuts.0 cuts.1.0 ∙ ap (λ n. cut text at ∷ tokens_from text n) ends)
-    ∙ ap (λ ts. lexeme_of (cut text at) ∷ ts) (whole text (at + length k.bytes) ks utf8 cuts.1.1.1) ∙ ap (λ j. j ∷ ks) (sym cuts.1.1.0)
-
--- ---- a machine's run over one token more
-
-module _ {M : Type 0} (rules : Rules M) where
-  pub after-more : (m : M) (ks : List Lexeme) (k : Lexeme) → after_all rules m (ks ++ k ∷ []) ≡ rules.after (after_all rules m ks) k
+module _ {M : Type 0} (r : Rules M) where
+  pub after-more : (m : M) (ks : List Lexeme) (k : Lexeme) → after_all r m (ks ++ k ∷ []) ≡ r.after (after_all r m ks) k
   after-more m [] k = refl
-  after-more m (j ∷ ks) k = after-more (rules.after m j) ks k
+  after-more m (j ∷ ks) k = after-more (r.after m j) ks k
 
-  pub faults-more : (text : List ℕ) (from to : ℕ) (m : M) (ks : List Lexeme) (k : Lexeme) → CutsTo text from ks to →
-      faults_along rules from m (ks ++ k ∷ []) ≡ faults_along rules from m ks ++ placed (to - rules.back (after_all rules m ks)) (rules.gives (after_all rules m ks) k)
-  faults-more text from to m [] k cuts = rw cuts (append-nil (placed (to - rules.back m) (rules.gives m k)))
-  faults-more text from to m (j ∷ ks) k cuts =
-      ap (λ fs. placed (from - rules.back m) (rules.gives m j) ++ fs) (faults-more text (from + length j.bytes) to (rules.after m j) ks k cuts.1.1.1)
-      ∙ sym (append_assoc (placed (from - rules.back m) (rules.gives m j)) (faults_along rules (from + length j.bytes) (rules.after m j) ks) _)
+  append_none : (fs : List Fault) → fs ++ [] ≡ fs
+  append_none [] = refl
+  append_none (f ∷ fs) = ap (λ xs. f ∷ xs) (append_none fs)
 
-  pub back-within : RulesLaws rules → (text : List ℕ) (from to : ℕ) (m : M) (ks : List Lexeme) → CutsTo text from ks to → rules.back m ≤ from → rules.back (after_all rules m ks) ≤ to
-  back-within laws text from to m [] cuts within = omega arith
-  back-within laws text from to m (k ∷ ks) cuts within =
-      let one = laws.after_back m k in
-      back-within laws text (from + length k.bytes) to (rules.after m k) ks cuts.1.1.1 (omega arith)
+  pub faults-more : (t : List ℕ) (p : ℕ) (m : M) (ks : List Lexeme) (k : Lexeme) →
+      faults_along r p m (ks ++ k ∷ []) ≡ faults_along r p m ks ++ placed (p + size ks - r.back (after_all r m ks)) (r.gives (after_all r m ks) k)
+  faults-more t p m [] k =
+      let e : p ≡ p + 0 = omega arith in
+      append_none (placed (p - r.back m) (r.gives m k)) ∙ ap (λ n. placed (n - r.back m) (r.gives m k)) e
+  faults-more t p m (j ∷ ks) k =
+      let e : p + length j.bytes + size ks ≡ p + (length j.bytes + size ks) = omega arith in
+      ap (λ fs. placed (p - r.back m) (r.gives m j) ++ fs) (faults-more t (p + length j.bytes) (r.after m j) ks k)
+      ∙ sym (append_assoc (placed (p - r.back m) (r.gives m j)) (faults_along r (p + length j.bytes) (r.after m j) ks) _)
+      ∙ ap (λ n. placed (p - r.back m) (r.gives m j) ++ faults_along r (p + length j.bytes) (r.after m j) ks ++ placed (n - r.back (after_all r (r.after m j) ks)) (r.gives (after_all r (r.after m j) ks) k)) e
 
-module _ {S M : Type 0} (is0 : S → Type 0) (means0 : S → M) (r0 : Rules M) (is1 : S → Type 0) (means1 : S → M) (r1 : Rules M) where
-  state_of : (ks : List Lexeme) (kept_state : Option S) (s : S) → kept_state ≡ Some s → StateIs is0 means0 r0 ks kept_state → is0 s × (means0 s ≡ after_all r0 r0.first ks)
-  state_of ks kept_state s e h = let P : Option S → Type 0 = λ x. StateIs is0 means0 r0 ks x in subst P e h
+  -- no mark was due behind the last of the tokens
+  sparse-more : (m : M) (n : ℕ) (ks : List Lexeme) (k : Lexeme) → Sparse r m n ks → (0 < length ks → is_due r (after_all r m ks) (n + tags_in ks) ≡ false) → Sparse r m n (ks ++ k ∷ [])
+  sparse-more m n [] k h d = (λ lt. absurd (omega arith), tt)
+  sparse-more m n (j ∷ []) k h d =
+      let e : n + (tag_of j.kind + 0) ≡ n + tag_of j.kind = omega arith in
+      let P : ℕ → Type 0 = λ q. is_due r (r.after m j) q ≡ false in
+      let some : 0 < length (j ∷ []) = omega arith in
+      (λ lt. subst P e (d some), (λ lt. absurd (omega arith), tt))
+  sparse-more m n (j ∷ i ∷ ks) k h d =
+      let e : n + (tag_of j.kind + tags_in (i ∷ ks)) ≡ n + tag_of j.kind + tags_in (i ∷ ks) = omega arith in
+      let P : ℕ → Type 0 = λ q. is_due r (after_all r (r.after m j) (i ∷ ks)) q ≡ false in
+      let some : 0 < length (i ∷ ks) = omega arith in
+      let all : 0 < length (j ∷ i ∷ ks) = omega arith in
+      (λ lt. h.0 some, sparse-more (r.after m j) (n + tag_of j.kind) (i ∷ ks) k h.1 (λ lt. subst P e (d all)))
 
-  -- a run that is pending at the frontier began in the text
-  pub ready : RulesLaws r0 → (text : List ℕ) (k : Kept S) (s : S) → IsRight is0 means0 r0 text k → k.state ≡ Some s → r0.back (means0 s) ≤ k.at
-  ready laws text k s h e =
-      let within = back-within r0 laws text 0 k.at r0.first h.tokens h.cuts (let f = laws.first_back in omega arith) in
-      rw ((state_of h.tokens k.state s e h.state).1) within
+module _ {S M : Type 0} (is_state : S → Type 0) (means : S → M) (r : Rules M) (t : List ℕ) where
+  -- marks behind some others
+  pub chain-tail : (p q : ℕ) (xs ys : List (Mark S)) → p + reach xs ≡ q → Chain is_state means r t p (xs ++ ys) → Chain is_state means r t q ys
+  chain-tail p q [] ys e h =
+      let there : p ≡ q = omega arith in
+      let P : ℕ → Type 0 = λ n. Chain is_state means r t n ys in subst P there h
+  chain-tail p q (x ∷ xs) ys e h = chain-tail (p + x.len) q xs ys (omega arith) h.1.1
 
-  pub own : (text : List ℕ) (k : Kept S) (s : S) → IsRight is0 means0 r0 text k → k.state ≡ Some s → is0 s
-  own text k s h e = (state_of h.tokens k.state s e h.state).0
+  link-with : (p : ℕ) (b : Bool) (x : Mark S) (xs ys : List (Mark S)) → ((m : M) → FirstMeans means m xs → FirstMeans means m ys) → Link means r t p b x xs → Link means r t p b x ys
+  link-with p true x xs ys f h = (h.0, (h.1.0, f (after_all r (means x.state) h.0) h.1.1))
+  link-with p false x xs ys f h = h
 
-  pub advanced : (text : List ℕ) (k : Kept S) (s s' : S) (token : Token) (fs : List Fault) → IsUtf8 text → IsRight is0 means0 r0 text k → k.state ≡ Some s → k.at < length text → token ≡ cut text k.at → r1 ≡ r0 → is1 s' →
-      means1 s' ≡ r0.after (means0 s) (lexeme_of token) → fs ≡ k.faults ++ placed (token.from - r0.back (means0 s)) (r0.gives (means0 s) (lexeme_of token)) →
-      IsRight is1 means1 r1 text (record { at = k.at + length token.bytes; state = Some s'; faults = fs })
-  advanced text k s s' token fs utf8 h e within is same i m f =
-      let n = next text k.at token utf8 h.place within is in
-      let w = state_of h.tokens k.state s e h.state in
-      let P : Rules M → Type 0 = λ r. IsRight is1 means1 r text (record { at = k.at + length token.bytes; state = Some s'; faults = fs }) in
-      let one : CutsTo text k.at (lexeme_of token ∷ []) (k.at + length token.bytes) = (h.place, (within, (ap lexeme_of is, refl))) in
-      subst P (sym same) (record {
-        place = n.border;
-        tokens = h.tokens ++ lexeme_of token ∷ [];
-        cuts = cuts-append text 0 k.at (k.at + length token.bytes) h.tokens (lexeme_of token ∷ []) h.cuts one;
-        state = (i, m ∙ ap (λ x. r0.after x (lexeme_of token)) w.1 ∙ sym (after-more r0 r0.first h.tokens (lexeme_of token)));
-        faults =
-            f
-            ∙ ap (λ x. x ++ placed (token.from - r0.back (means0 s)) (r0.gives (means0 s) (lexeme_of token))) h.faults
-            ∙ ap (λ x. faults_along r0 0 r0.first h.tokens ++ placed (token.from - r0.back x) (r0.gives x (lexeme_of token))) w.1
-            ∙ ap (λ x. faults_along r0 0 r0.first h.tokens ++ placed (x - r0.back (after_all r0 r0.first h.tokens)) (r0.gives (after_all r0 r0.first h.tokens) (lexeme_of token))) n.from
-            ∙ sym (faults-more r0 text 0 k.at r0.first h.tokens (lexeme_of token) h.cuts);
-      })
+  pub first-with : (xs : List (Mark S)) (y z : Mark S) (ys zs : List (Mark S)) (m : M) → means z.state ≡ means y.state → FirstMeans means m (xs ++ y ∷ ys) → FirstMeans means m (xs ++ z ∷ zs)
+  first-with [] y z ys zs m e h = e ∙ h
+  first-with (x ∷ xs) y z ys zs m e h = h
 
-  -- a refused step leaves what is kept right for the later machine
-  pub refused : (text : List ℕ) (k : Kept S) (s s' : S) (fs : List Fault) → IsRight is0 means0 r0 text k → k.state ≡ Some s → r1 ≡ r0 → is1 s' → means1 s' ≡ means0 s → fs ≡ k.faults →
-      IsRight is1 means1 r1 text (record { at = k.at; state = Some s'; faults = fs })
-  refused text k s s' fs h e same i m f =
-      let w = state_of h.tokens k.state s e h.state in
-      let P : Rules M → Type 0 = λ r. IsRight is1 means1 r text (record { at = k.at; state = Some s'; faults = fs }) in
-      subst P (sym same) (record { place = h.place; tokens = h.tokens; cuts = h.cuts; state = (i, m ∙ w.1); faults = f ∙ h.faults })
+  -- other marks may follow, where the first of them means the same
+  pub chain-with : (p q : ℕ) (xs : List (Mark S)) (y z : Mark S) (ys zs : List (Mark S)) → p + reach xs ≡ q → means z.state ≡ means y.state →
+      Chain is_state means r t p (xs ++ y ∷ ys) → Chain is_state means r t q (z ∷ zs) → Chain is_state means r t p (xs ++ z ∷ zs)
+  chain-with p q [] y z ys zs e same h g =
+      let there : q ≡ p = omega arith in
+      let P : ℕ → Type 0 = λ n. Chain is_state means r t n (z ∷ zs) in subst P there g
+  chain-with p q (x ∷ xs) y z ys zs e same h g =
+      (h.0, (link-with p x.whole x (xs ++ y ∷ ys) (xs ++ z ∷ zs) (λ m. first-with xs y z ys zs m same) h.1.0, chain-with (p + x.len) q xs y z ys zs (omega arith) same h.1.1 g))
 
--- ---- the faults of the whole text
+  pub whole-append : (xs ys : List (Mark S)) → AreWhole xs → AreWhole ys → AreWhole (xs ++ ys)
+  whole-append [] ys h g = g
+  whole-append (x ∷ xs) ys h g = (h.0, whole-append xs ys h.1 g)
 
-module _ {S M : Type 0} (is : S → Type 0) (means : S → M) (r : Rules M) where
-  -- what the state at the frontier means
-  pub record MeansLast (ks : List Lexeme) (m : M) : Type 0 where
-    pub last : m ≡ after_all r r.first ks
+  assoc : (xs : List (Mark S)) (y z : Mark S) (zs : List (Mark S)) → (xs ++ y ∷ []) ++ z ∷ zs ≡ xs ++ y ∷ z ∷ zs
+  assoc xs y z zs = append_assoc xs (y ∷ []) (z ∷ zs)
 
-  pub all_listed : (text : List ℕ) (k : Kept S) (m : M) (fs : List Fault) → IsUtf8 text → (h : IsRight is means r text k) → m ≡ after_all r r.first h.tokens → k.at ≡ length text →
-      fs ≡ k.faults ++ placed (length text - r.back m) (r.ends m) → fs ≡ machine_faults r text
-  all_listed text k m fs utf8 h last all f =
-      let P : ℕ → Type 0 = λ n. CutsTo text 0 h.tokens n in
-      let ts : map lexeme_of (tokens_of text) ≡ h.tokens = whole text 0 h.tokens utf8 (subst P all h.cuts) in
-      f
-      ∙ ap (λ x. x ++ placed (length text - r.back m) (r.ends m)) h.faults
-      ∙ ap (λ x. faults_along r 0 r.first h.tokens ++ placed (length text - r.back x) (r.ends x)) last
-      ∙ ap (λ ks. faults_along r 0 r.first ks ++ placed (length text - r.back (after_all r r.first ks)) (r.ends (after_all r r.first ks))) (sym ts)
+  pub open-link : (p : ℕ) (b : Bool) (x : Mark S) (xs : List (Mark S)) → b ≡ false → Link means r t p b x xs
+  open-link p true x xs e = absurd (cc)
+  open-link p false x xs e = tt
 
-  pub listed_behind : (text : List ℕ) (k : Kept S) (s : S) (fs : List Fault) (len : ℕ) → IsUtf8 text → length text ≡ len → IsRight is means r text k → k.state ≡ Some s → k.at ≡ len →
-      fs ≡ k.faults ++ placed (len - r.back (means s)) (r.ends (means s)) → fs ≡ machine_faults r text
-  listed_behind text k s fs len utf8 long h e all f =
-      let w = state_of is means r is means r h.tokens k.state s e h.state in
-      all_listed text k (means s) fs utf8 h w.1 (all ∙ sym long) (f ∙ ap (λ n. k.faults ++ placed (n - r.back (means s)) (r.ends (means s))) (sym long))
+  -- the state at the frontier may be another, and the first mark aside nearer
+  pub other-here : (p q : ℕ) (x y : Mark S) (xs : List (Mark S)) → x.whole ≡ false → y.whole ≡ false → is_state y.state → p + x.len ≡ q + y.len →
+      Chain is_state means r t p (x ∷ xs) → Chain is_state means r t q (y ∷ xs)
+  other-here p q x y xs e f own same h =
+      let P : ℕ → Type 0 = λ n. Chain is_state means r t n xs in
+      (own, (open-link q y.whole y xs f, subst P same h.1.1))
 
-  no_tokens : (ks : List Lexeme) (kept_state : Option S) → kept_state ≡ None → StateIs is means r ks kept_state → ks ≡ []
-  no_tokens ks kept_state e h = let P : Option S → Type 0 = λ x. StateIs is means r ks x in subst P e h
+  pub tags-snoc : (xs : List (Mark S)) (x : Mark S) → tags_behind (xs ++ x ∷ []) ≡ x.tags
+  tags-snoc [] x = refl
+  tags-snoc (y ∷ []) x = refl
+  tags-snoc (y ∷ z ∷ xs) x = tags-snoc (z ∷ xs) x
 
-  -- nothing was taken, so the first state is the one there
-  pub listed_first : (text : List ℕ) (k : Kept S) (m : M) (fs : List Fault) (len : ℕ) → IsUtf8 text → length text ≡ len → IsRight is means r text k → k.state ≡ None → k.at ≡ len → m ≡ r.first →
-      fs ≡ k.faults ++ placed (len - r.back m) (r.ends m) → fs ≡ machine_faults r text
-  listed_first text k m fs len utf8 long h e all first f =
-      all_listed text k m fs utf8 h (first ∙ ap (after_all r r.first) (sym (no_tokens h.tokens k.state e h.state))) (all ∙ sym long)
-      (f ∙ ap (λ n. k.faults ++ placed (n - r.back m) (r.ends m)) (sym long))
+  some-snoc : (xs : List (Mark S)) (x : Mark S) → 0 < length (xs ++ x ∷ [])
+  some-snoc [] x = omega arith
+  some-snoc (y ∷ xs) x = omega arith
 
-  -- by the rules of a later machine, which are the same
-  pub listed_first_later : (later : Rules M) (text : List ℕ) (k : Kept S) (m : M) (fs : List Fault) (len : ℕ) → later ≡ r → IsUtf8 text → length text ≡ len → IsRight is means r text k → k.state ≡ None → k.at ≡ len → m ≡ later.first →
-      fs ≡ k.faults ++ placed (len - later.back m) (later.ends m) → fs ≡ machine_faults r text
-  listed_first_later later text k m fs len same utf8 long h e all first f =
-      listed_first text k m fs len utf8 long h e all (first ∙ ap (λ (x : Rules M). x.first) same) (f ∙ ap (λ (x : Rules M). k.faults ++ placed (len - x.back m) (x.ends m)) same)
+  not-due : (m : M) → is_due r m 0 ≡ false
+  not-due m = by (r.may_mark m)
+    where
+      none : nat_le (max (r.depth m) 16) 0 ≡ false
+      none = grind (arith, nat_tests)
 
-state_stays : {Self S M : Type 0} (later : Self → Self → Type 0) (is_state : Self → S → Type 0) (means : Self → S → M) (rules : Self → Rules M) →
-    LaterLaws later is_state means rules → (earlier now : Self) → later earlier now → (tokens : List Lexeme) (kept_state : Option S) →
-    StateIs (is_state earlier) (means earlier) (rules earlier) tokens kept_state → StateIs (is_state now) (means now) (rules earlier) tokens kept_state
-state_stays later is_state means rules laws earlier now is_later tokens None state = state
-state_stays later is_state means rules laws earlier now is_later tokens (Some s) state =
-    (laws.state earlier now s is_later state.0, laws.meaning earlier now s is_later state.0 ∙ state.1)
+      by : (b : Bool) → (b && nat_le (max (r.depth m) 16) 0) ≡ false
+      by true = none
+      by false = refl
 
--- nothing was taken
-pub nothing_taken : {S M : Type 0} (is : S → Type 0) (means : S → M) (r : Rules M) (text : List ℕ) (kept_state : Option S) (fs : List Fault) → IsUtf8 text → StateIs is means r [] kept_state → fs ≡ [] →
-    IsRight is means r text (record { at = 0; state = kept_state; faults = fs })
-nothing_taken is means r text kept_state fs utf8 state none =
-    record { place = IsCharBoundary-start text utf8; tokens = []; cuts = refl; state = state; faults = none }
+  -- the frontier's mark goes to the front
+  pub begun_right : (k : Kept S) (s : S) → is_state s → means s ≡ means k.here.state → k.marked ≡ true → IsRight is_state means r t k → IsRight is_state means r t (begun k s)
+  begun_right k s own same e h =
+      let mark : Mark S = record { state = k.here.state; len = 0; tags = 0; faults = []; whole = true } in
+      let here : Mark S = record { state = s; len = k.here.len; tags = k.here.tags; faults = k.here.faults; whole = k.here.whole } in
+      let at : ℕ = 0 + reach k.front in
+      let tail = chain-tail 0 at k.front (k.here ∷ k.aside) refl h.holds.chain in
+      let P : List (Mark S) → Type 0 = λ l. FirstMeans means r.first l in
+      let Q : List (Mark S) → Type 0 = λ l. Chain is_state means r t 0 l in
+      let list = assoc k.front mark here k.aside in
+      let on : Chain is_state means r t (at + 0) (here ∷ k.aside) = other-here at (at + 0) k.here here k.aside h.holds.ends h.holds.ends own (omega arith) tail in
+      let cut_here : at ≡ at + 0 = omega arith in
+      record {
+        holds = record {
+          first = subst P (sym list) (first-with k.front k.here mark k.aside (here ∷ k.aside) r.first refl h.holds.first);
+          chain = subst Q (sym list) (chain-with 0 at k.front k.here mark k.aside (here ∷ k.aside) refl refl h.holds.chain
+              (tail.0, (([], (record { back = h.rule.mark e; cuts = cut_here; tags_are = refl; faults_are = refl; sparse = tt }, same)), on)));
+          whole = whole-append k.front (mark ∷ []) h.holds.whole (refl, tt);
+          ends = h.holds.ends;
+        };
+        rule = record {
+          rule = λ _. ap (is_due r (means s)) (tags-snoc k.front mark) ∙ not-due (means s);
+          some = λ _. some-snoc k.front mark;
+          mark = λ x. absurd (cc);
+        };
+      }
 
--- a later machine has the same rules, and its states mean the same
-pub stays_right : {Self S M : Type 0} (later : Self → Self → Type 0) (is_state : Self → S → Type 0) (means : Self → S → M) (rules : Self → Rules M) →
-    LaterLaws later is_state means rules → StaysRight later is_state means rules
-stays_right {S = S} {M = M} later is_state means rules laws = λ earlier now text kept is_later right.
-    let P : Rules M → Type 0 = λ r. IsRight (is_state now) (means now) r text kept in
-    subst P (sym (laws.rule earlier now is_later)) (record {
-      place = right.place;
-      tokens = right.tokens;
-      cuts = right.cuts;
-      state = state_stays later is_state means rules laws earlier now is_later right.tokens kept.state right.state;
-      faults = right.faults;
-    })
+  pub reach-snoc : (xs : List (Mark S)) (x : Mark S) → reach (xs ++ x ∷ []) ≡ reach xs + x.len
+  reach-snoc [] x = omega arith
+  reach-snoc (y ∷ xs) x = let e = reach-snoc xs x in omega arith
+
+  whole-front : (xs ys : List (Mark S)) → AreWhole (xs ++ ys) → AreWhole xs
+  whole-front [] ys h = tt
+  whole-front (x ∷ xs) ys h = (h.0, whole-front xs ys h.1)
+
+  pub whole-last : (xs : List (Mark S)) (x : Mark S) → AreWhole (xs ++ x ∷ []) → x.whole ≡ true
+  whole-last [] x h = h.0
+  whole-last (y ∷ xs) x h = whole-last xs x h.1
+
+  no-tokens : (ks : List Lexeme) → (ks ≡ [] → ⊥) → 0 < length ks
+  no-tokens [] h = absurd (h refl)
+  no-tokens (k ∷ ks) h = omega arith
+
+  -- the token at the frontier is taken
+  pub took_right : RulesLaws r → (k : Kept S) (before : List (Mark S)) (x : Mark S) (token : Lexeme) (s : S) → IsPlace t (frontier_of k) → frontier_of k < length t → token ≡ lexeme_of (cut t (frontier_of k)) →
+      k.front ≡ before ++ x ∷ [] → k.marked ≡ false → length token.bytes ≤ k.here.len →
+      is_state s → means s ≡ r.after (means k.here.state) token → IsRight is_state means r t k → IsRight is_state means r t (took means r k before x token s)
+  took_right laws k before x token s place within is front_is unmarked fits own same h =
+      let more : List Fault = placed (x.len - r.back (means k.here.state)) (r.gives (means k.here.state) token) in
+      let y : Mark S = longer x token more in
+      let here : Mark S = record { state = s; len = k.here.len - length token.bytes; tags = k.here.tags; faults = k.here.faults; whole = k.here.whole } in
+      let list = assoc before y here k.aside in
+      let was = assoc before x k.here k.aside in
+      let P : List (Mark S) → Type 0 = λ l. FirstMeans means r.first l in
+      let Q : List (Mark S) → Type 0 = λ l. Chain is_state means r t 0 l in
+      let W : List (Mark S) → Type 0 = λ l. AreWhole l in
+      let all : k.front ++ k.here ∷ k.aside ≡ before ++ x ∷ k.here ∷ k.aside = ap (λ l. l ++ k.here ∷ k.aside) front_is ∙ was in
+      let wholes = subst W front_is h.holds.whole in
+      let chain = subst Q all h.holds.chain in
+      let at : ℕ = 0 + reach before in
+      let tail = chain-tail 0 at before (x ∷ k.here ∷ k.aside) refl chain in
+      let whole = whole-last before x wholes in
+      let w = whole-link means r t at x.whole x (k.here ∷ k.aside) whole tail.1.0 in
+      let end : frontier_of k ≡ at + x.len = ap reach front_is ∙ reach-snoc before x ∙ (let e : reach before + x.len ≡ 0 + reach before + x.len = omega arith in e) in
+      let R : ℕ → Type 0 = λ n. IsPlace t n in
+      let T : ℕ → Type 0 = λ n. token ≡ lexeme_of (cut t n) in
+      let ahead : at + x.len + length token.bytes ≡ at + (x.len + length token.bytes) = omega arith in
+      let C : ℕ → Type 0 = λ n. CutsTo t at (w.tokens ++ token ∷ []) n in
+      let sizes : 0 + size w.tokens ≡ x.len = (let e = cuts-size t at (at + x.len) w.tokens w.segment.cuts in omega arith) in
+      let due : is_due r (after_all r (means x.state) w.tokens) (0 + tags_in w.tokens) ≡ false =
+      (let e : tags_behind k.front ≡ 0 + tags_in w.tokens = ap tags_behind front_is ∙ tags-snoc before x ∙ w.segment.tags_are ∙ (let z : tags_in w.tokens ≡ 0 + tags_in w.tokens = omega arith in z) in
+      let D : M → ℕ → Type 0 = λ m n. is_due r m n ≡ false in
+      subst (λ (n : ℕ). D (after_all r (means x.state) w.tokens) n) e (subst (λ (m : M). D m (tags_behind k.front)) w.leads (h.rule.rule unmarked))) in
+      let segment : Segment r t at (means x.state) (x.len + length token.bytes) (x.tags + tag_of token.kind) (x.faults ++ more) (w.tokens ++ token ∷ []) = record {
+        back = w.segment.back;
+        cuts = subst C ahead (cuts-more t at (at + x.len) w.tokens token w.segment.cuts (subst R end place) (omega arith) (subst T end is));
+        tags_are = ap (λ n. n + tag_of token.kind) w.segment.tags_are ∙ sym (tags-more w.tokens token);
+        faults_are =
+            ap (λ fs. fs ++ more) w.segment.faults_are
+            ∙ ap (λ m. faults_along r 0 (means x.state) w.tokens ++ placed (x.len - r.back m) (r.gives m token)) w.leads
+            ∙ ap (λ n. faults_along r 0 (means x.state) w.tokens ++ placed (n - r.back (after_all r (means x.state) w.tokens)) (r.gives (after_all r (means x.state) w.tokens) token)) (sym sizes)
+            ∙ sym (faults-more r t 0 (means x.state) w.tokens token);
+        sparse = sparse-more r (means x.state) 0 w.tokens token w.segment.sparse (λ _. due);
+      } in
+      let leads : means s ≡ after_all r (means x.state) (w.tokens ++ token ∷ []) = same ∙ ap (λ m. r.after m token) w.leads ∙ sym (after-more r (means x.state) w.tokens token) in
+      let on : Chain is_state means r t (at + (x.len + length token.bytes)) (here ∷ k.aside) =
+      other-here (at + x.len) (at + (x.len + length token.bytes)) k.here here k.aside h.holds.ends h.holds.ends own (omega arith) tail.1.1 in
+      record {
+        holds = record {
+          first = subst P (sym list) (first-with before x y (k.here ∷ k.aside) (here ∷ k.aside) r.first refl (subst P all h.holds.first));
+          chain = subst Q (sym list) (chain-with 0 at before x y (k.here ∷ k.aside) (here ∷ k.aside) refl refl chain
+              (tail.0, (linked means r t at x.whole y (here ∷ k.aside) (record { tokens = w.tokens ++ token ∷ []; segment = segment; leads = leads }), on)));
+          whole = whole-append before (y ∷ []) (whole-front before (x ∷ []) wholes) (whole, tt);
+          ends = h.holds.ends;
+        };
+        rule = record {
+          rule = λ no. ap (is_due r (means s)) (tags-snoc before y) ∙ no;
+          some = λ _. some-snoc before y;
+          mark = λ yes. laws.mark_back (means s) (and-left (r.may_mark (means s)) (nat_le (max (r.depth (means s)) 16) (x.tags + tag_of token.kind)) yes);
+        };
+      }
+    where
+      and-left : (a b : Bool) → (a && b) ≡ true → a ≡ true
+      and-left true b h = refl
+      and-left false b h = h

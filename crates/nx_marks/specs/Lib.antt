@@ -1,2 +1,13 @@
-pub mod Right
+pub mod Before
+pub mod Bound
+pub mod Chain
+pub mod Editing
 pub mod Frontier
+pub mod Right
+pub mod Ruling
+pub mod Tags
+pub mod Taking
+pub mod Room
+pub mod Starting
+pub mod Walking
+pub mod Rejoining

@@ -1,30 +1,39 @@
--- When what is kept is right for a text.
-use Rattle.std.specs.Prelude.{◌≡◌, ℕ, List, [], Option, Some, None, length, IsUtf8}
-use Rattle.nx_base.specs.Rules.{Lexeme, Rules}
-use Rattle.nx_base.specs.Running.{CutsTo, after_all, faults_along}
-use Rattle.nx_base.specs.Text.{IsPlace}
-use Rattle.nx_marks.specs.declared.marks.Kept.{Kept}
+-- What is kept is right for a machine and a text.
+use Rattle.std.specs.Prelude.{◌≡◌, ℕ, ◌<◌, ◌^◌, true, false, List, [], ◌∷◌, length, IsUtf8}
+use Rattle.nx_base.specs.Rules.{Rules}
+use Rattle.nx_marks.specs.Chain.{Kept, MarksHold}
+use Rattle.nx_marks.specs.Ruling.{is_due}
+use Rattle.nx_marks.specs.declared.mark.Mark.{Mark}
 
--- a state behind these tokens; there may be none before the first
-abbrev pub StateIs : {S M : Type 0} → (S → Type 0) → (S → M) → Rules M → List Lexeme → Option S → Type 0
-StateIs is_state means rules tokens None = tokens ≡ []
-StateIs is_state means rules tokens (Some state) = is_state state × (means state ≡ after_all rules rules.first tokens)
+-- how many tags lie behind the last of these marks
+abbrev pub tags_behind : {S : Type 0} → List (Mark S) → ℕ
+tags_behind [] = 0
+tags_behind (x ∷ []) = x.tags
+tags_behind (x ∷ y ∷ ys) = tags_behind (y ∷ ys)
 
--- the tokens of the text reach the frontier, which is a border of them; the state is one behind them, and the faults are theirs
-pub record IsRight {S M : Type 0} (is_state : S → Type 0) (means : S → M) (rules : Rules M) (text : List ℕ) (kept : Kept S) : Type 0 where
-  pub place : IsPlace text kept.at
-  pub tokens : List Lexeme
-  pub cuts : CutsTo text 0 tokens kept.at
-  pub state : StateIs is_state means rules tokens kept.state
-  pub faults : kept.faults ≡ faults_along rules 0 rules.first tokens
+-- the frontier is a mark where one is due; inside of segments none was (that is told with each segment)
+pub record MarkRule {S M : Type 0} (means : S → M) (r : Rules M) (k : Kept S) : Type 0 where
+  pub rule : k.marked ≡ false → is_due r (means k.here.state) (tags_behind k.front) ≡ false
+  pub some : k.marked ≡ false → 0 < length k.front
+  pub mark : k.marked ≡ true → r.back (means k.here.state) ≡ 0
 
--- so for some text of this length
-pub record IsRightForLength {S M : Type 0} (is_state : S → Type 0) (means : S → M) (rules : Rules M) (len : ℕ)
-    (kept : Kept S) : Type 0 where
+pub record IsRight {S M : Type 0} (is_state : S → Type 0) (means : S → M) (r : Rules M) (t : List ℕ) (k : Kept S) : Type 0 where
+  pub holds : MarksHold is_state means r t k
+  pub rule : MarkRule means r k
+
+-- for some text
+pub record IsRightForSome {S M : Type 0} (is_state : S → Type 0) (means : S → M) (r : Rules M) (k : Kept S) : Type 0 where
+  pub text : List ℕ
+  pub utf8 : IsUtf8 text
+  pub fits : length text < 2 ^ 64
+  pub right : IsRight is_state means r text k
+
+-- for some text of this length
+pub record IsRightForLength {S M : Type 0} (is_state : S → Type 0) (means : S → M) (r : Rules M) (len : ℕ) (k : Kept S) : Type 0 where
   pub text : List ℕ
   pub utf8 : IsUtf8 text
   pub long : length text ≡ len
-  pub right : IsRight is_state means rules text kept
+  pub right : IsRight is_state means r text k
 
 -- what is right for a machine stays so for every later one
 abbrev pub StaysRight : {Self S M : Type 0} → (Self → Self → Type 0) → (Self → S → Type 0) → (Self → S → M) → (Self → Rules M) → Type 0

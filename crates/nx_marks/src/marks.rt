@@ -1,32 +1,29 @@
 //! How far a text is read, and what the machine said of it.
 
-ghost use Rattle.std.specs.Prelude.{◌≡◌, ◌⊎◌, ℕ, ◌+◌, ◌-◌, ◌≤◌, ◌<◌, List, length, IfOk, OnOk, OnErr, IsUtf8, IsSome};
+ghost use Rattle.std.specs.Prelude.{◌≡◌, ◌⊎◌, ℕ, ◌+◌, ◌-◌, ◌^◌, ◌≤◌, ◌<◌, List, [], length, IfOk, OnOk, OnErr, IsUtf8, false};
 ghost use Rattle.nx_base.specs.Running.{machine_faults};
 ghost use Rattle.nx_base.specs.Text.{IsPlace, edited};
-ghost use Rattle.nx_base.specs.Tokens.{cut};
+ghost use Rattle.nx_base.specs.Tokens.{cut, token_count};
+ghost use Rattle.nx_marks.specs.Bound.{WillJoin, JoinsIn};
+ghost use Rattle.nx_marks.specs.Chain.{AreWhole, frontier_of};
+ghost use Rattle.nx_marks.specs.Editing.{edit_kept};
 ghost use Rattle.nx_marks.specs.Frontier.{FrontierAfterEdit, MovesOver};
-ghost use Rattle.nx_marks.specs.Right.{IsRight, IsRightForLength};
+ghost use Rattle.nx_marks.specs.Right.{IsRight, IsRightForLength, IsRightForSome};
+ghost use Rattle.nx_marks.specs.Before.{IsMarkBefore};
+ghost use Rattle.nx_marks.specs.Walking.{Fits};
 
+use crate::kept::{Kept, begin_here, step};
+use crate::rows::rejoin;
 use nx_base::edit::Edit;
 use nx_base::fault::Faults;
 use nx_base::machine::Machine;
 use nx_base::memory::NoMemory;
-use nx_base::sequence::TryCopy;
 use nx_base::steps::Steps;
 use nx_base::token::Token;
 use nx_scan::scan::scan_token;
 use nx_text::text::Text;
 use std::alloc::Global;
 use std::sync::ledger::Ledger;
-
-/// The frontier as a byte offset, the state there, and the faults of the tokens before it. At 0 there
-/// may be no state, so that an edit takes no memory.
-#[derive(Drop)]
-pub struct Kept<S> {
-    pub at: usize,
-    pub state: Option<S>,
-    pub faults: Faults,
-}
 
 /// What is kept of a machine's run over a text. It belongs to one text and one machine and holds
 /// neither. Whoever changes the text says so by `edit`.
@@ -37,52 +34,29 @@ pub struct Marks<A: Machine> {
     pub taken: u64,
 }
 
-/// Sees that there is a state.
-fn begin<A: Machine>(
-    alloc: Global,
-    machine: &mut A,
-    kept: &mut Kept<A::State>,
-) -> Result<(), NoMemory>
-    ensures later { A.later machine.old machine.new }
-    ensures right { (text : List ℕ)
-        → IsRight (A.is_state machine.old) (A.means machine.old) (A.rules machine.old) text kept.old
-        → IsRight (A.is_state machine.new) (A.means machine.new) (A.rules machine.new) text kept.new }
-    ensures some { OnOk result (IsSome kept.new.state) }
-    ensures at { kept.new.at ≡ kept.old.at }
-{
-    if kept.state.is_none() {
-        let state = machine.start(alloc)?;
-        kept.state = Some(state);
-    }
-    Ok(())
-}
-
-/// Takes the token at the frontier.
-fn advance<A: Machine>(
+/// Takes the token at the frontier. Marks aside that it passes are dropped.
+fn take<A: Machine>(
     alloc: Global,
     machine: &mut A,
     text: &Text,
     kept: &mut Kept<A::State>,
-    token: &Token,
+    token: Token,
 ) -> Result<(), NoMemory>
     requires right { IsRight (A.is_state machine.old) (A.means machine.old) (A.rules machine.old) text.now kept.old }
-    requires some { IsSome kept.old.state }
-    requires rest { kept.old.at < length text.now }
-    requires token { token.now ≡ cut text.now kept.old.at }
+    requires rest { frontier_of kept.old < length text.now }
+    requires token { token ≡ cut text.now (frontier_of kept.old) }
     ensures later { A.later machine.old machine.new }
     ensures right { IsRight (A.is_state machine.new) (A.means machine.new) (A.rules machine.new) text.now kept.new }
-    ensures on { OnOk result (MovesOver text.now kept.old.at 1 kept.new.at) }
-    ensures off { OnErr result (kept.new.at ≡ kept.old.at) }
+    ensures on { OnOk result (frontier_of kept.new ≡ frontier_of kept.old + length token.bytes) }
+    ensures near { OnOk result ((n : ℕ) → WillJoin (A.means machine.old) (A.rules machine.old) text.now n kept.old → 0 < kept.old.here.len
+        → (0 < n) × WillJoin (A.means machine.new) (A.rules machine.new) text.now (n - 1) kept.new) }
+    ensures off { OnErr result (frontier_of kept.new ≡ frontier_of kept.old) }
 {
     let _len = text.len();
-    let Some(mut state) = kept.state.take() else {
-        unreachable!()
-    };
-    // The state is put back before a refusal goes on.
-    let stepped = machine.step(alloc, &mut state, token, &mut kept.faults);
-    kept.state = Some(state);
-    stepped?;
-    kept.at += token.bytes.len();
+    begin_here(alloc, machine, text, kept)?;
+    let count = token.bytes.len();
+    kept.let_go(count);
+    step(alloc, machine, text, kept, token)?;
     Ok(())
 }
 
@@ -92,40 +66,36 @@ impl<A: Machine> Marks<A> {
         ensures later { A.later machine.old machine.new }
         ensures right { IfOk result (λ marks. (text : List ℕ) → IsUtf8 text
             → IsRight (A.is_state machine.new) (A.means machine.new) (A.rules machine.new) text marks.kept) }
-        ensures frontier { IfOk result (λ marks. marks.kept.at ≡ 0) }
+        ensures frontier { IfOk result (λ marks. frontier_of marks.kept ≡ 0) }
         ensures taken { IfOk result (λ marks. marks.taken ≡ 0) }
     {
         let first = machine.start(alloc)?;
         Ok(Marks {
             alloc,
-            kept: Kept {
-                at: 0,
-                state: Some(first),
-                faults: Faults::new(alloc),
-            },
+            kept: Kept::start(alloc, first),
             taken: 0,
         })
     }
 
     /// Tells an edit that was made on the text. It takes no memory.
+    ///
+    /// Where the frontier is at or behind the edit's first place, it goes back to the last mark before that place, or to 0. The
+    /// marks of the old text that the edit leaves go aside.
     pub fn edit(&mut self, edit: &Edit)
         ensures right { (a : A) (text added : List ℕ) → IsUtf8 text → IsUtf8 added → IsPlace text edit.now.from
             → IsPlace text edit.now.to → edit.now.from ≤ edit.now.to → edit.now.added ≡ length added
+            → length text < 2 ^ 64 → length (edited text edit.now.from edit.now.to added) < 2 ^ 64
             → IsRight (A.is_state a) (A.means a) (A.rules a) text self.old.kept
             → IsRight (A.is_state a) (A.means a) (A.rules a) (edited text edit.now.from edit.now.to added) self.new.kept }
-        ensures frontier { FrontierAfterEdit edit.now.from self.old.kept.at self.new.kept.at }
+        ensures frontier { FrontierAfterEdit edit.now.from (frontier_of self.old.kept) (frontier_of self.new.kept) }
+        ensures marks { edit.now.from ≤ edit.now.to → Fits edit.now.from edit.now.to edit.now.added self.old.kept → AreWhole self.old.kept.front
+            → self.old.kept.here.whole ≡ false → self.new.kept ≡ edit_kept edit.now.from edit.now.to edit.now.added self.old.kept }
         ensures taken { self.new.taken ≡ self.old.taken }
     {
-        if self.kept.at < edit.from {
-            return;
-        }
-        self.kept.at = 0;
-        self.kept.state = None;
-        let len = self.kept.faults.len();
-        self.kept.faults.cut(0, len);
+        self.kept.edit(edit);
     }
 
-    /// Takes the token at the frontier.
+    /// Takes the token at the frontier, and joins the marks aside that lie behind it.
     fn go_on<L: Ledger>(
         &mut self,
         machine: &mut A,
@@ -133,23 +103,29 @@ impl<A: Machine> Marks<A> {
         steps: &mut Steps<L>,
     ) -> Result<(), NoMemory>
         requires right { IsRight (A.is_state machine.old) (A.means machine.old) (A.rules machine.old) text.now self.old.kept }
-        requires rest { self.old.kept.at < length text.now }
+        requires rest { frontier_of self.old.kept < length text.now }
         ensures later { A.later machine.old machine.new }
         ensures right { IsRight (A.is_state machine.new) (A.means machine.new) (A.rules machine.new) text.now self.new.kept }
-        ensures on { OnOk result (MovesOver text.now self.old.kept.at 1 self.new.kept.at) }
-        ensures off { OnErr result (self.new.kept.at ≡ self.old.kept.at) }
+        ensures on { OnOk result (MovesOver text.now (frontier_of self.old.kept) 1 (frontier_of self.new.kept)) }
+        ensures near { OnOk result ((n : ℕ) → JoinsIn (A.means machine.old) (A.rules machine.old) text.now n self.old.kept
+            → (0 < n) × JoinsIn (A.means machine.new) (A.rules machine.new) text.now (n - 1) self.new.kept) }
+        ensures settled { OnOk result ((0 < self.new.kept.here.len) ⊎ (self.new.kept.aside ≡ [])) }
+        ensures off { OnErr result (frontier_of self.new.kept ≡ frontier_of self.old.kept) }
         ensures taken { self.new.taken ≡ self.old.taken }
         ensures step { steps.new ≡ steps.old + 1 }
     {
-        let Some(token) = scan_token(self.alloc, text, self.kept.at, steps)? else {
+        let _len = text.len();
+        let at = self.kept.frontier();
+        let Some(token) = scan_token(self.alloc, text, at, steps)? else {
             return Ok(());
         };
-        begin(self.alloc, machine, &mut self.kept)?;
-        advance(self.alloc, machine, text, &mut self.kept, &token)?;
+        take(self.alloc, machine, text, &mut self.kept, token)?;
+        rejoin(machine, &mut self.kept);
         Ok(())
     }
 
-    /// Takes `n` tokens, or all that are left where there are fewer.
+    /// Takes `n` tokens, or all that are left where there are fewer. Where the frontier reaches a mark aside in a state that means
+    /// the same, the row of that mark is valid again, and the frontier goes on to its end without tokens.
     pub fn slice<L: Ledger>(
         &mut self,
         machine: &mut A,
@@ -162,20 +138,23 @@ impl<A: Machine> Marks<A> {
         ensures right { IsRight (A.is_state machine.new) (A.means machine.new) (A.rules machine.new) text.now self.new.kept }
         ensures steps { steps.new ≡ steps.old + self.new.taken }
         ensures most { self.new.taken ≤ n }
-        ensures frontier { self.old.kept.at ≤ self.new.kept.at }
-        ensures on { OnOk result (MovesOver text.now self.old.kept.at self.new.taken self.new.kept.at) }
-        ensures enough { OnOk result ((self.new.taken ≡ n) ⊎ (self.new.kept.at ≡ length text.now)) }
+        ensures frontier { frontier_of self.old.kept ≤ frontier_of self.new.kept }
+        ensures on { OnOk result (MovesOver text.now (frontier_of self.old.kept) self.new.taken (frontier_of self.new.kept)) }
+        ensures enough { OnOk result ((self.new.taken ≡ n) ⊎ (frontier_of self.new.kept ≡ length text.now)) }
+        ensures bound { OnOk result ((count : ℕ) → WillJoin (A.means machine.old) (A.rules machine.old) text.now count self.old.kept → self.new.taken ≤ count) }
+        ensures settled { OnOk result ((0 < self.new.kept.here.len) ⊎ (self.new.kept.aside ≡ [])) }
     {
         let len = text.len();
         self.taken = 0;
-        while self.kept.at < len && self.taken < n {
+        rejoin(machine, &mut self.kept);
+        while self.kept.frontier() < len && self.taken < n {
             self.taken += 1;
             self.go_on(machine, text, steps)?;
         }
         Ok(())
     }
 
-    /// Takes all tokens that are left.
+    /// Takes all tokens that are left, or joins marks aside that lead to the end.
     pub fn catch_up<L: Ledger>(
         &mut self,
         machine: &mut A,
@@ -186,9 +165,12 @@ impl<A: Machine> Marks<A> {
         ensures later { A.later machine.old machine.new }
         ensures right { IsRight (A.is_state machine.new) (A.means machine.new) (A.rules machine.new) text.now self.new.kept }
         ensures steps { steps.new ≡ steps.old + self.new.taken }
-        ensures frontier { self.old.kept.at ≤ self.new.kept.at }
-        ensures on { OnOk result (MovesOver text.now self.old.kept.at self.new.taken self.new.kept.at) }
-        ensures all { OnOk result (self.new.kept.at ≡ length text.now) }
+        ensures frontier { frontier_of self.old.kept ≤ frontier_of self.new.kept }
+        ensures on { OnOk result (MovesOver text.now (frontier_of self.old.kept) self.new.taken (frontier_of self.new.kept)) }
+        ensures all { OnOk result (frontier_of self.new.kept ≡ length text.now) }
+        ensures none_aside { OnOk result (self.new.kept.aside ≡ []) }
+        ensures bound { OnOk result ((count : ℕ) → WillJoin (A.means machine.old) (A.rules machine.old) text.now count self.old.kept
+            → self.new.taken ≤ token_count text.now (frontier_of self.old.kept) (frontier_of self.old.kept + self.old.kept.here.len)) }
     {
         // A text has fewer bytes, so fewer tokens, than the greatest number.
         let _len = text.len();
@@ -199,31 +181,33 @@ impl<A: Machine> Marks<A> {
     /// The faults of the whole text, whose length is `len` bytes: those of its tokens and those of its end.
     pub fn faults(&self, machine: &mut A, len: usize) -> Result<Faults, NoMemory>
         requires right { IsRightForLength (A.is_state machine.old) (A.means machine.old) (A.rules machine.old) len self.now.kept }
-        requires all { self.now.kept.at ≡ len }
+        requires all { frontier_of self.now.kept ≡ len }
         ensures later { A.later machine.old machine.new }
         ensures faults { IfOk result (λ faults. (text : List ℕ) → IsUtf8 text → length text ≡ len
             → IsRight (A.is_state machine.old) (A.means machine.old) (A.rules machine.old) text self.now.kept
             → faults ≡ machine_faults (A.rules machine.old) text) }
     {
-        let mut faults = self.kept.faults.copy()?;
-        match &self.kept.state {
-            Some(state) => {
-                machine.at_end(self.alloc, state, len, &mut faults)?;
-                Ok(faults)
-            }
-            None => {
-                let first = machine.start(self.alloc)?;
-                machine.at_end(self.alloc, &first, len, &mut faults)?;
-                Ok(faults)
-            }
-        }
+        let mut faults = self.kept.faults(self.alloc)?;
+        machine.at_end(self.alloc, self.kept.state(), len, &mut faults)?;
+        Ok(faults)
+    }
+
+    /// The last mark at or before both a place and the frontier, or the start: its byte offset, and a copy of its state.
+    pub fn mark_before(&self, machine: &A, at: usize) -> Result<(usize, A::State), NoMemory>
+        requires { IsRightForSome (A.is_state machine.now) (A.means machine.now) (A.rules machine.now) self.now.kept }
+        ensures { IfOk result (λ found. (text : List ℕ) → IsUtf8 text → IsRight (A.is_state machine.now) (A.means machine.now) (A.rules machine.now) text self.now.kept
+            → IsMarkBefore (A.is_state machine.now) (A.means machine.now) (A.rules machine.now) text at self.now.kept found.0 found.1) }
+    {
+        let (place, mark) = self.kept.mark_before(at);
+        let state = machine.copy(self.alloc, &mark.state)?;
+        Ok((place, state))
     }
 
     /// The byte offset up to which tokens were taken.
     pub fn frontier(&self) -> usize
-        ensures { result ≡ self.now.kept.at }
+        ensures { result ≡ frontier_of self.now.kept }
     {
-        self.kept.at
+        self.kept.frontier()
     }
 
     /// How many tokens the last `slice` or `catch_up` took, and 0 before the first.

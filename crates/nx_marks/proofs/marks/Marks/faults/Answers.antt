@@ -1,29 +1,40 @@
-use Rattle.std.proofs.Common.{◌≡◌, ◌+◌, ◌-◌, ◌≤◌, arith, ap, ◌∙◌, ◌++◌}
+use Rattle.std.proofs.Common.{◌-◌, ◌++◌, ap, sym, subst, ◌∙◌, arith}
 use Rattle.nx_base.specs.Shifting.{placed}
-use Rattle.nx_marks.proofs.Taking.{ready, listed_behind, listed_first_later}
+use Rattle.nx_marks.specs.Chain.{faults_in}
+use Rattle.nx_marks.proofs.Listing.{faults_fit}
+use Rattle.nx_marks.proofs.Reading.{all_faults}
+use Rattle.nx_marks.proofs.Stepping.{own_states, back_within}
 use Rattle.nx_marks.proofs.marks.Marks.faults.Goals as goal
+
+pub faults-requires-clause-fit : goal.faults-requires-clause-fit
+faults-requires-clause-fit g c =
+    let m = g.A.Machine in
+    let a = c.args.machine.now in
+    faults_fit (m.is_state a) (m.means a) (m.rules a) c.requires.right.text (g.met.A.Machine.rule_laws a) c.args.self.now.kept c.requires.right.right
+
+pub at_end-requires-clause-state : goal.at_end-requires-clause-state
+at_end-requires-clause-state g c =
+    let m = g.A.Machine in
+    let a = c.args.machine.now in
+    let P : _ → Type 0 = λ s. m.is_state a s in
+    subst P (sym c.state.ensures) (own_states (m.is_state a) (m.means a) (m.rules a) c.requires.right.text c.args.self.now.kept c.requires.right.right).here
 
 pub at_end-requires-clause-place : goal.at_end-requires-clause-place
 at_end-requires-clause-place g c =
     let m = g.A.Machine in
-    let k = c.requires.right in
-    let within = ready (m.is_state c.args.machine.now) (m.means c.args.machine.now) (m.rules c.args.machine.now) (m.is_state c.args.machine.now) (m.means c.args.machine.now) (m.rules c.args.machine.now)
-    (g.met.A.Machine.rule_laws c.args.machine.now) k.text c.args.self.now.kept c.in-Some.state k.right c.in-Some.is in
-    omega (arith, within, c.requires.all)
+    let a = c.args.machine.now in
+    let b = back_within (m.is_state a) (m.means a) (m.rules a) (g.met.A.Machine.rule_laws a) c.requires.right.text c.requires.right.utf8 c.args.self.now.kept c.requires.right.right in
+    let same = ap (λ s. (m.rules a).back (m.means a s)) c.state.ensures in
+    omega (arith, c.requires.all)
 
-pub returns-in_ok-at_end-in-Some-clause-faults : goal.returns-in_ok-at_end-in-Some-clause-faults
-returns-in_ok-at_end-in-Some-clause-faults g c = λ text utf8 long right.
+pub returns-clause-faults : goal.returns-clause-faults
+returns-clause-faults g c = λ text utf8 long right.
     let m = g.A.Machine in
-    let r = m.rules c.args.machine.now in
-    let means = m.means c.args.machine.now in
-    listed_behind (m.is_state c.args.machine.now) means r text c.args.self.now.kept c.in-Some.state _ c.args.len utf8 long right c.in-Some.is c.requires.all
-    (c.in_ok-at_end-in-Some.ensures.faults ∙ ap (λ fs. fs ++ placed (c.args.len - r.back (means c.in-Some.state)) (r.ends (means c.in-Some.state))) c.in_ok-faults.ensures)
-
-pub returns-in_ok-at_end-in-None-clause-faults : goal.returns-in_ok-at_end-in-None-clause-faults
-returns-in_ok-at_end-in-None-clause-faults g c = λ text utf8 long right.
-    let m = g.A.Machine in
-    let later = m.rules c.start.new.self in
-    let first = m.means c.start.new.self c.in_ok-first-in-None.first in
-    listed_first_later (m.is_state c.args.machine.now) (m.means c.args.machine.now) (m.rules c.args.machine.now) later text c.args.self.now.kept first _ c.args.len
-    (g.met.A.Machine.laws.rule _ _ c.start.ensures.later) utf8 long right c.in-None.is c.requires.all c.in_ok-first-in-None.ensures.first
-    (c.in_ok-at_end-in-None.ensures.faults ∙ ap (λ fs. fs ++ placed (c.args.len - later.back first) (later.ends first)) c.in_ok-faults.ensures)
+    let a = c.args.machine.now in
+    let r = m.rules a in
+    let k = c.args.self.now.kept in
+    c.in_ok-at_end.ensures.faults
+    ∙ ap (λ fs. fs ++ placed (c.args.len - r.back (m.means a c.state.result.now)) (r.ends (m.means a c.state.result.now))) c.in_ok-faults.ensures
+    ∙ ap (λ s. faults_in 0 k.front ++ placed (c.args.len - r.back (m.means a s)) (r.ends (m.means a s))) c.state.ensures
+    ∙ ap (λ n. faults_in 0 k.front ++ placed (n - r.back (m.means a k.here.state)) (r.ends (m.means a k.here.state))) (sym long)
+    ∙ all_faults (m.is_state a) (m.means a) r text (g.met.A.Machine.rule_laws a) utf8 k right (c.requires.all ∙ sym long)

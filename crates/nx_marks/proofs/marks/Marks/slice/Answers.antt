@@ -1,21 +1,59 @@
-use Rattle.std.proofs.Common.{◌≡◌, ◌+◌, ◌∙◌, ap, subst, sym, arith, ℕ}
+use Rattle.std.proofs.Common.{◌≡◌, ℕ, ◌-◌, inr, subst, sym, arith}
+use Rattle.nx_marks.specs.Bound.{JoinsIn}
+use Rattle.nx_marks.specs.Chain.{frontier_of}
 use Rattle.nx_marks.specs.Frontier.{MovesOver}
-use Rattle.nx_marks.proofs.Taking.{moves_on, no_token, over_grows, over_reaches, smaller}
+use Rattle.nx_marks.proofs.Moving.{moves_on, over_between, over_grows, over_reaches, smaller, within, rejoined}
 use Rattle.nx_marks.proofs.marks.Marks.slice.Goals as goal
+
+pub loop-self-init : goal.loop-self-init
+loop-self-init g c =
+    let m = g.A.Machine in
+    let a = c.args.machine.now in
+    let t = c.args.text.now in
+    let utf8 = c.len-len.ensures.utf8 in
+    let k = c.args.self.now.kept in
+    let j = c.rejoin.new.kept in
+    let right = c.rejoin.ensures.right t utf8 c.requires.right in
+    record {
+      later = g.met.A.Machine.laws.same _;
+      right = right;
+      over = over_between (m.is_state a) (m.means a) (m.rules a) (g.met.A.Machine.rule_laws a) t utf8 k j c.requires.right right c.rejoin.ensures.further;
+      most = omega arith;
+      counted = omega arith;
+      bound = λ count w.
+          (let none : count ≡ count - 0 = omega arith in
+          let P : ℕ → Type 0 = λ n. JoinsIn (m.means a) (m.rules a) t n j in
+          (omega arith, subst P none (rejoined (m.is_state a) (m.means a) (m.rules a) (g.met.A.Machine.rule_laws a) t utf8 k j count c.rejoin.ensures c.requires.right w)));
+      settled = c.rejoin.ensures.settled;
+    }
 
 pub loop-self-smaller : goal.loop-self-smaller
 loop-self-smaller g c =
-    smaller _ c.loop-self.self.kept.at c.go_on.new.self.kept.at (over_grows c.args.text.now _ _ c.len-len.ensures.utf8 c.in_ok-go_on.ensures.on) c.go_on.ensures.right.place.0
+    let m = g.A.Machine in
+    let b = c.go_on.new.machine in
+    smaller _ (frontier_of c.loop-self.self.kept) (frontier_of c.go_on.new.self.kept) (over_grows c.args.text.now _ _ c.len-len.ensures.utf8 c.in_ok-go_on.ensures.on)
+    (within (m.is_state b) (m.means b) (m.rules b) (g.met.A.Machine.rule_laws b) c.args.text.now c.len-len.ensures.utf8 c.go_on.new.self.kept c.go_on.ensures.right)
 
 pub loop-self-preserved : goal.loop-self-preserved
 loop-self-preserved g c =
-    let P : ℕ → Type 0 = λ n. MovesOver c.args.text.now c.args.self.now.kept.at n c.go_on.new.self.kept.at in
+    let m = g.A.Machine in
+    let b = c.go_on.new.machine in
+    let P : ℕ → Type 0 = λ n. MovesOver c.args.text.now (frontier_of c.args.self.now.kept) n (frontier_of c.go_on.new.self.kept) in
     record {
       later = g.met.A.Machine.laws.chain _ _ _ c.loop-self.invariant.later c.go_on.ensures.later;
       right = c.go_on.ensures.right;
-      over = subst P (sym c.go_on.ensures.taken) (moves_on c.args.text.now _ c.loop-self.self.taken c.loop-self.self.kept.at 1 _ c.loop-self.invariant.over c.in_ok-go_on.ensures.on);
+      over = subst P (sym c.go_on.ensures.taken) (moves_on c.args.text.now _ c.loop-self.self.taken (frontier_of c.loop-self.self.kept) 1 _ c.loop-self.invariant.over c.in_ok-go_on.ensures.on);
       most = omega arith;
       counted = omega arith;
+      bound = λ count w.
+          (let before = c.loop-self.invariant.bound count w in
+          let on = c.in_ok-go_on.ensures.near (count - c.loop-self.self.taken) before.1 in
+          let le = before.0 in
+          let some = on.0 in
+          let same : count - c.loop-self.self.taken - 1 ≡ count - c.go_on.new.self.taken = omega (arith, c.go_on.ensures.taken) in
+          let Q : ℕ → Type 0 = λ n. JoinsIn (m.means b) (m.rules b) c.args.text.now n c.go_on.new.self.kept in
+          (omega (arith, c.go_on.ensures.taken), subst Q same on.1));
+      settled = c.in_ok-go_on.ensures.settled;
     }
 
 pub returns-in_err-go_on-clause-frontier : goal.returns-in_err-go_on-clause-frontier
@@ -26,3 +64,13 @@ returns-in_err-go_on-clause-frontier g c =
 
 pub returns-else-self-n-clause-frontier : goal.returns-else-self-n-clause-frontier
 returns-else-self-n-clause-frontier g c = over_reaches c.args.text.now _ _ _ c.loop-self.invariant.over
+
+pub returns-after-loop-self-clause-frontier : goal.returns-after-loop-self-clause-frontier
+returns-after-loop-self-clause-frontier g c = over_reaches c.args.text.now _ _ _ c.loop-self.invariant.over
+
+pub returns-after-loop-self-clause-enough : goal.returns-after-loop-self-clause-enough
+returns-after-loop-self-clause-enough g c =
+    let m = g.A.Machine in
+    let b = c.loop-self.machine in
+    let far = within (m.is_state b) (m.means b) (m.rules b) (g.met.A.Machine.rule_laws b) c.args.text.now c.len-len.ensures.utf8 c.loop-self.self.kept c.loop-self.invariant.right in
+    inr (omega (arith, c.len-len.ensures.bytes, c.frontier.ensures, c.loop-self-test.false))

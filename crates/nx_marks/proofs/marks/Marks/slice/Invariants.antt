@@ -1,23 +1,27 @@
-use Rattle.std.proofs.Common.{◌≡◌, ℕ, ◌+◌, ◌-◌, ◌≤◌, List, length}
+use Rattle.std.proofs.Common.{◌≡◌, ◌⊎◌, ℕ, ◌+◌, ◌-◌, ◌<◌, ◌≤◌, List, [], length}
 use Rattle.nx_base.specs.Rules.{Rules}
+use Rattle.nx_marks.specs.Bound.{WillJoin, JoinsIn}
+use Rattle.nx_marks.specs.Chain.{Kept, frontier_of}
 use Rattle.nx_marks.specs.Frontier.{MovesOver}
 use Rattle.nx_marks.specs.Right.{IsRight}
-use Rattle.nx_marks.specs.declared.marks.Kept.{Kept}
 use Rattle.nx_marks.proofs.marks.Marks.slice.Given as goal
 
--- what is kept is right for the later machine, and so many tokens lie between the old frontier and this one
+-- what is kept is right for the later machine, so many tokens lie between the old frontier and this one, and fewer are left up
+-- to a row that reaches the end
 pub record GoesOn {Self S M : Type 0} (later_than : Self → Self → Type 0) (is_state : Self → S → Type 0) (means : Self → S → M) (rules : Self → Rules M)
-    (first now : Self) (text : List ℕ) (kept : Kept S) (start taken n steps_first steps : ℕ) : Type 0 where
+    (first now : Self) (text : List ℕ) (old kept : Kept S) (taken n steps_first steps : ℕ) : Type 0 where
   pub later : later_than first now
   pub right : IsRight (is_state now) (means now) (rules now) text kept
-  pub over : MovesOver text start taken kept.at
+  pub over : MovesOver text (frontier_of old) taken (frontier_of kept)
   pub most : taken ≤ n
   pub counted : steps ≡ steps_first + taken
+  pub bound : (count : ℕ) → WillJoin (means first) (rules first) text count old → (taken ≤ count) × JoinsIn (means now) (rules now) text (count - taken) kept
+  pub settled : (0 < kept.here.len) ⊎ (kept.aside ≡ [])
 
 abbrev pub invariant-loop-self : goal.invariant-loop-self
 invariant-loop-self g l =
     let m = g.A.Machine in
-    GoesOn m.later m.is_state m.means m.rules l.fn.machine l.machine l.text l.self.kept l.fn.self.kept.at l.self.taken l.n l.fn.steps l.steps
+    GoesOn m.later m.is_state m.means m.rules l.fn.machine l.machine l.text l.fn.self.kept l.self.kept l.self.taken l.n l.fn.steps l.steps
 
 abbrev pub decreases-loop-self : goal.decreases-loop-self
-decreases-loop-self g l = length l.text - l.self.kept.at
+decreases-loop-self g l = length l.text - frontier_of l.self.kept

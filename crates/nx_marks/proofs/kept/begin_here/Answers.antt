@@ -1,0 +1,35 @@
+use Rattle.std.proofs.Common.{rules, ◌≡◌, true, ap, subst, sym, ◌∙◌}
+use Rattle.nx_marks.specs.Bound.{WillJoin}
+use Rattle.nx_marks.specs.Chain.{Kept, frontier_of}
+use Rattle.nx_marks.specs.Right.{IsRight}
+use Rattle.nx_marks.proofs.Stepping.{own_states, begun_at}
+use Rattle.nx_marks.proofs.Taking.{begun_right}
+use Rattle.nx_marks.proofs.Bounding.{begun_near}
+use Rattle.nx_marks.proofs.kept.begin_here.Goals as goal
+
+pub copy-requires : goal.copy-requires
+copy-requires g c =
+    let m = g.A.Machine in
+    let a = c.args.machine.now in
+    let P : Kept _ → Type 0 = λ k. m.is_state a k.here.state in
+    subst P (sym c.kept.view_is) (own_states (m.is_state a) (m.means a) (m.rules a) c.args.text.now c.args.kept.now c.requires).here
+
+pub returns-clause-right : goal.returns-clause-right
+returns-clause-right g c =
+    let m = g.A.Machine in
+    let a = c.args.machine.now in
+    let marked : c.args.kept.now.marked ≡ true = search rules in
+    let P : Kept _ → Type 0 = λ k. IsRight (m.is_state a) (m.means a) (m.rules a) c.args.text.now k in
+    let meaning = c.in_ok-state.ensures.meaning ∙ ap (λ (k : Kept _). m.means a k.here.state) c.kept.view_is in
+    subst P (sym c.in_ok-begin.ensures.ok) (begun_right (m.is_state a) (m.means a) (m.rules a) c.args.text.now c.args.kept.now c.in_ok-state.state c.in_ok-state.ensures.state meaning marked c.requires)
+
+pub returns-clause-frontier : goal.returns-clause-frontier
+returns-clause-frontier g c = ap (λ (k : Kept _). frontier_of k) c.in_ok-begin.ensures.ok ∙ begun_at c.args.kept.now c.in_ok-state.state
+
+pub returns-clause-near : goal.returns-clause-near
+returns-clause-near g c = λ n w.
+    let m = g.A.Machine in
+    let a = c.args.machine.now in
+    let P : Kept _ → Type 0 = λ k. WillJoin (m.means a) (m.rules a) c.args.text.now n k in
+    let meaning = c.in_ok-state.ensures.meaning ∙ ap (λ (k : Kept _). m.means a k.here.state) c.kept.view_is in
+    subst P (sym c.in_ok-begin.ensures.ok) (begun_near (m.is_state a) (m.means a) (m.rules a) c.args.text.now c.args.kept.now c.in_ok-state.state n meaning w)

@@ -1,0 +1,99 @@
+use Rattle.std.proofs.Common.{◌≡◌, ◌+◌, ◌<◌, length, ap, subst, sym, ◌∙◌, arith}
+use Rattle.nx_base.specs.Tokens.{cut}
+use Rattle.nx_marks.specs.Bound.{WillJoin}
+use Rattle.nx_marks.specs.Chain.{Kept, frontier_of}
+use Rattle.nx_marks.proofs.Moving.{passed, on_err}
+use Rattle.nx_marks.proofs.Stepping.{all_within}
+use Rattle.nx_marks.proofs.marks.take.Goals as goal
+
+pub let_go-requires : goal.let_go-requires
+let_go-requires g c =
+    let m = g.A.Machine in
+    let a = c.args.machine.now in
+    let e = all_within (m.is_state a) (m.means a) (m.rules a) c.args.text.now c.begin_here.new.kept c.begin_here.ensures.right in
+    omega (arith, c.len-len.ensures.bytes)
+
+pub step-requires-clause-right : goal.step-requires-clause-right
+step-requires-clause-right g c =
+    let m = g.A.Machine in
+    let a = c.args.machine.now in
+    let k = c.begin_here.new.kept in
+    let is : c.args.token ≡ cut c.args.text.now (frontier_of k) = c.requires.token ∙ ap (cut c.args.text.now) (sym c.begin_here.ensures.frontier) in
+    let p = passed (m.is_state a) (m.means a) (m.rules a) (g.met.A.Machine.rule_laws a) c.args.text.now c.len-len.ensures.utf8 k c.let_go.new.self c.len-count.result c.args.token c.begin_here.ensures.right is
+    (omega (arith, c.requires.rest, c.begin_here.ensures.frontier)) c.len-count.ensures c.let_go.ensures in
+    p.right
+
+pub step-requires-clause-unmarked : goal.step-requires-clause-unmarked
+step-requires-clause-unmarked g c =
+    let m = g.A.Machine in
+    let a = c.args.machine.now in
+    let k = c.begin_here.new.kept in
+    let is : c.args.token ≡ cut c.args.text.now (frontier_of k) = c.requires.token ∙ ap (cut c.args.text.now) (sym c.begin_here.ensures.frontier) in
+    let p = passed (m.is_state a) (m.means a) (m.rules a) (g.met.A.Machine.rule_laws a) c.args.text.now c.len-len.ensures.utf8 k c.let_go.new.self c.len-count.result c.args.token c.begin_here.ensures.right is
+    (omega (arith, c.requires.rest, c.begin_here.ensures.frontier)) c.len-count.ensures c.let_go.ensures in
+    p.marked ∙ c.in_ok-begin_here.ensures.unmarked
+
+pub step-requires-clause-rest : goal.step-requires-clause-rest
+step-requires-clause-rest g c =
+    let m = g.A.Machine in
+    let a = c.args.machine.now in
+    let k = c.begin_here.new.kept in
+    let is : c.args.token ≡ cut c.args.text.now (frontier_of k) = c.requires.token ∙ ap (cut c.args.text.now) (sym c.begin_here.ensures.frontier) in
+    let p = passed (m.is_state a) (m.means a) (m.rules a) (g.met.A.Machine.rule_laws a) c.args.text.now c.len-len.ensures.utf8 k c.let_go.new.self c.len-count.result c.args.token c.begin_here.ensures.right is
+    (omega (arith, c.requires.rest, c.begin_here.ensures.frontier)) c.len-count.ensures c.let_go.ensures in
+    (let e = p.at in omega (arith, c.requires.rest, c.begin_here.ensures.frontier))
+
+pub step-requires-clause-token : goal.step-requires-clause-token
+step-requires-clause-token g c =
+    let m = g.A.Machine in
+    let a = c.args.machine.now in
+    let k = c.begin_here.new.kept in
+    let is : c.args.token ≡ cut c.args.text.now (frontier_of k) = c.requires.token ∙ ap (cut c.args.text.now) (sym c.begin_here.ensures.frontier) in
+    let p = passed (m.is_state a) (m.means a) (m.rules a) (g.met.A.Machine.rule_laws a) c.args.text.now c.len-len.ensures.utf8 k c.let_go.new.self c.len-count.result c.args.token c.begin_here.ensures.right is
+    (omega (arith, c.requires.rest, c.begin_here.ensures.frontier)) c.len-count.ensures c.let_go.ensures in
+    is ∙ ap (cut c.args.text.now) (sym p.at)
+
+pub step-requires-clause-far : goal.step-requires-clause-far
+step-requires-clause-far g c =
+    let m = g.A.Machine in
+    let a = c.args.machine.now in
+    let k = c.begin_here.new.kept in
+    let is : c.args.token ≡ cut c.args.text.now (frontier_of k) = c.requires.token ∙ ap (cut c.args.text.now) (sym c.begin_here.ensures.frontier) in
+    let p = passed (m.is_state a) (m.means a) (m.rules a) (g.met.A.Machine.rule_laws a) c.args.text.now c.len-len.ensures.utf8 k c.let_go.new.self c.len-count.result c.args.token c.begin_here.ensures.right is
+    (omega (arith, c.requires.rest, c.begin_here.ensures.frontier)) c.len-count.ensures c.let_go.ensures in
+    p.far
+
+pub returns-clause-on : goal.returns-clause-on
+returns-clause-on g c =
+    let m = g.A.Machine in
+    let a = c.args.machine.now in
+    let k = c.begin_here.new.kept in
+    let is : c.args.token ≡ cut c.args.text.now (frontier_of k) = c.requires.token ∙ ap (cut c.args.text.now) (sym c.begin_here.ensures.frontier) in
+    let p = passed (m.is_state a) (m.means a) (m.rules a) (g.met.A.Machine.rule_laws a) c.args.text.now c.len-len.ensures.utf8 k c.let_go.new.self c.len-count.result c.args.token c.begin_here.ensures.right is
+    (omega (arith, c.requires.rest, c.begin_here.ensures.frontier)) c.len-count.ensures c.let_go.ensures in
+    c.in_ok-step.ensures.on ∙ ap (λ n. n + length c.args.token.bytes) (p.at ∙ c.begin_here.ensures.frontier)
+
+pub returns-clause-near : goal.returns-clause-near
+returns-clause-near g c = λ n w some.
+    (let W : Kept _ → Type 0 = λ i. WillJoin (g.A.Machine.means c.args.machine.now) (g.A.Machine.rules c.args.machine.now) c.args.text.now n i in
+    let m = g.A.Machine in
+    let a = c.args.machine.now in
+    let k = c.begin_here.new.kept in
+    let is : c.args.token ≡ cut c.args.text.now (frontier_of k) = c.requires.token ∙ ap (cut c.args.text.now) (sym c.begin_here.ensures.frontier) in
+    let p = passed (m.is_state a) (m.means a) (m.rules a) (g.met.A.Machine.rule_laws a) c.args.text.now c.len-len.ensures.utf8 k c.let_go.new.self c.len-count.result c.args.token c.begin_here.ensures.right is
+    (omega (arith, c.requires.rest, c.begin_here.ensures.frontier)) c.len-count.ensures c.let_go.ensures in
+    let first = c.begin_here.ensures.near n w in
+    let gap : 0 < k.here.len = omega (arith, some, c.begin_here.ensures.gap) in
+    let same = p.waits n first gap in
+    let far : 0 < c.let_go.new.self.here.len = (let e = ap (λ (i : Kept _). i.here.len) same in omega arith) in
+    c.in_ok-step.ensures.near n (subst W (sym same) first) far)
+
+pub returns-in_err-step-clause-off : goal.returns-in_err-step-clause-off
+returns-in_err-step-clause-off g c =
+    let m = g.A.Machine in
+    let a = c.args.machine.now in
+    let k = c.begin_here.new.kept in
+    let is : c.args.token ≡ cut c.args.text.now (frontier_of k) = c.requires.token ∙ ap (cut c.args.text.now) (sym c.begin_here.ensures.frontier) in
+    let p = passed (m.is_state a) (m.means a) (m.rules a) (g.met.A.Machine.rule_laws a) c.args.text.now c.len-len.ensures.utf8 k c.let_go.new.self c.len-count.result c.args.token c.begin_here.ensures.right is
+    (omega (arith, c.requires.rest, c.begin_here.ensures.frontier)) c.len-count.ensures c.let_go.ensures in
+    on_err _ (c.in_err-step.ensures.off ∙ p.at ∙ c.begin_here.ensures.frontier)

@@ -1,0 +1,11 @@
+use Rattle.std.proofs.Common.{length}
+use Rattle.nx_marks.proofs.Rejoining.{Rejoining}
+use Rattle.nx_marks.proofs.rows.rejoin.Given as goal
+
+abbrev pub invariant-loop-kept : goal.invariant-loop-kept
+invariant-loop-kept g l =
+    let m = g.A.Machine in
+    Rejoining (m.is_state l.machine) (m.means l.machine) (m.rules l.machine) l.fn.kept l.kept
+
+abbrev pub decreases-loop-kept : goal.decreases-loop-kept
+decreases-loop-kept g l = length l.kept.aside
