@@ -8,7 +8,8 @@ use Rattle.rng_core.specs.Patterns.{Language}
 use Rattle.rng_kept.specs.Moves.{take, skip_to, any_value, any_string, missing_attributes, missing_content}
 use Rattle.rng_kept.specs.Standing.{IsKnown}
 use Rattle.nx_events.specs.declared.flaw.Flaw.{Flaw}
-use Rattle.nx_recover.specs.Details.{name_text, names_text}
+use Rattle.nx_base.specs.PrintedNames.{name_text}
+use Rattle.nx_recover.specs.Details.{names_text}
 use Rattle.nx_recover.specs.Frames.{Frame, moved, Can, AreRequiredNames}
 
 pub data Outcome : Type 0 where

@@ -12,7 +12,8 @@ use Rattle.rng_live.specs.Calls.{begin_known}
 use Rattle.nx_events.specs.declared.flaw.Flaw.{Flaw}
 use Rattle.nx_events.specs.declared.item.Event.{Event}
 use Rattle.nx_events.specs.declared.item.Event.TheVariants.{Enter, EnterLost, Att, TagEnd, Chars, Leave}
-use Rattle.nx_recover.specs.Details.{name_text, names_text}
+use Rattle.nx_base.specs.PrintedNames.{name_text}
+use Rattle.nx_recover.specs.Details.{names_text}
 use Rattle.nx_recover.specs.Outcomes.{flaw}
 use Rattle.nx_recover.specs.Required.{required_names}
 use Rattle.nx_recover.specs.declared.levels.Open.{Open}

@@ -1,34 +1,14 @@
 //! Names in the details of faults.
 
 ghost use Rattle.std.specs.Prelude.{◌≡◌, ◌++◌, IfOk, OnOk, codes, take};
-ghost use Rattle.nx_recover.specs.Details.{braced, name_text, further_text, names_text};
+ghost use Rattle.nx_base.specs.PrintedNames.{name_text};
+ghost use Rattle.nx_recover.specs.Details.{further_text, names_text};
 
 use nx_base::memory::NoMemory;
 use nx_base::name::Name;
+use nx_base::printed_name::push_name;
 use nx_base::sequence::{Bytes, Sequence};
 use std::alloc::Global;
-
-// Adds a namespace in braces, where there is one.
-fn push_namespace(text: &mut Vec<u8>, ns: &[u8]) -> Result<(), NoMemory>
-    ensures { OnOk result (text.new.items ≡ text.old.items ++ braced ns.now) }
-{
-    if ns.is_empty() {
-        return Ok(());
-    }
-    text.push(b'{')?;
-    text.extend_from_slice(ns)?;
-    text.push(b'}')?;
-    Ok(())
-}
-
-// Adds a name as it prints.
-fn push_name(text: &mut Vec<u8>, name: &Name) -> Result<(), NoMemory>
-    ensures { OnOk result (text.new.items ≡ text.old.items ++ name_text name.now) }
-{
-    push_namespace(text, name.ns.as_slice())?;
-    text.extend_from_slice(name.local.as_slice())?;
-    Ok(())
-}
 
 // Adds a name behind a space.
 fn push_further(text: &mut Vec<u8>, name: &Name) -> Result<(), NoMemory>
@@ -47,15 +27,6 @@ fn push_others(text: &mut Vec<u8>, names: &[Name]) -> Result<(), NoMemory>
         push_further(text, name)?;
     }
     Ok(())
-}
-
-/// A name as it prints.
-pub(crate) fn name_text(alloc: Global, name: &Name) -> Result<Bytes, NoMemory>
-    ensures { IfOk result (λ text. text ≡ name_text name.now) }
-{
-    let mut text = Vec::new(alloc);
-    push_name(&mut text, name)?;
-    Ok(Sequence::from_vec(text))
 }
 
 /// Names, separated by a space.

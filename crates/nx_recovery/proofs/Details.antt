@@ -30,7 +30,8 @@ use Rattle.rng_kept.specs.Moves.{Adds, adds_attributes, missing_attributes}
 use Rattle.rng_kept.specs.Residuals.{Residual}
 use Rattle.rng_kept.specs.Standing.{first_residual}
 use Rattle.rng_residual.proofs.Missing.{missing_parts_go_on}
-use Rattle.nx_recover.specs.Details.{braced, name_text, further_text, names_text}
+use Rattle.nx_base.specs.PrintedNames.{braced, name_text}
+use Rattle.nx_recover.specs.Details.{further_text, names_text}
 use Rattle.nx_recover.specs.Faults.{flaw_at, Along, at_end, by_event, by_fault}
 use Rattle.nx_recover.specs.Frames.{Frame, AreRequiredNames}
 use Rattle.nx_recover.specs.Nesting as nesting

@@ -23,7 +23,8 @@ use Rattle.rng_residual.proofs.Required.{required_is_exact}
 use Rattle.nx_events.specs.Texts.{EventIsText}
 use Rattle.nx_events.specs.declared.item.Event.{Event}
 use Rattle.nx_events.specs.declared.item.Event.TheVariants.{Enter, EnterLost, Att, TagEnd, Chars, Leave}
-use Rattle.nx_recover.specs.Details.{name_text, names_text}
+use Rattle.nx_base.specs.PrintedNames.{name_text}
+use Rattle.nx_recover.specs.Details.{names_text}
 use Rattle.nx_recover.specs.Frames.{Frame, moved, Can, known_frame, AreRequiredNames}
 use Rattle.nx_recover.specs.Required.{required_names}
 use Rattle.nx_recover.specs.Outcomes as rows
