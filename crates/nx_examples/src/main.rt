@@ -10,6 +10,7 @@ use nx_base::steps::Steps;
 use nx_host::disk::{DiskFiles, StdOut};
 use nx_run::run::run;
 use nx_run::status::Status;
+use nx_views::view::View;
 use rng_core::grammar::Grammar;
 use rng_live::prune::prune;
 use rng_restrict::check::check;
@@ -76,8 +77,16 @@ fn run_here<L: Ledger>(rt: &HostRuntime, words: &[Bytes], blank: Blank) -> Statu
 {
     let mut files = DiskFiles::new(rt);
     let mut out = StdOut::new(rt);
+    let mut views: Vec<Box<dyn View>> = Vec::new(rt.alloc());
     let mut steps = Steps::<L>::new(blank);
-    run(rt.alloc(), words, &mut files, &mut out, &mut steps)
+    run(
+        rt.alloc(),
+        words,
+        &mut files,
+        &mut out,
+        &mut views,
+        &mut steps,
+    )
 }
 
 /// Prints what becomes of the schema.

@@ -1,6 +1,7 @@
 -- A script that is being played: what was played and written so far, and how it goes on.
-use Rattle.std.proofs.Common.{◌≡◌, ℕ, ◌+◌, ◌<◌, ◌≤◌, ◌||◌, cond, Bool, true, false, List, [], ◌∷◌, ◌++◌, length, Option, Some, None, Result, Ok, Err, refl, sym, ap, ◌∙◌, subst, arith, append_assoc, length-append, inl, inr}
+use Rattle.std.proofs.Common.{◌≡◌, ℕ, suc, ◌+◌, ◌<◌, ◌≤◌, ◌||◌, cond, ◌==◌, Bool, true, false, List, [], ◌∷◌, ◌++◌, length, Option, Some, None, Result, Ok, Err, refl, sym, ap, ◌∙◌, subst, arith, append_assoc, length-append, inl, inr}
 use Rattle.std.specs.List.{AllByRecursion, list_any}
+use Rattle.std.proofs.lemmas.Bool.Decides.{Decides-eqb}
 use Rattle.std.proofs.lemmas.List.Folds.{list_any-append}
 use Rattle.std.proofs.lemmas.List.{append-nil}
 use Rattle.nx_host.specs.Count.{Rose}
@@ -15,6 +16,7 @@ use Rattle.nx_run.specs.declared.status.Status.TheVariants.{Done, Refused, Memor
 use Rattle.nx_script.specs.Replies.{ReplyIsText}
 use Rattle.nx_session.specs.Editor.{EditorState, World, world, new_editor}
 use Rattle.nx_session.specs.Step.{LineStep}
+use Rattle.nx_session.specs.Viewing.{ViewsAreText}
 use Rattle.nx_run.specs.Codes.{stop_status}
 use Rattle.nx_run.specs.Output.{OutState}
 use Rattle.nx_run.specs.Surroundings.{Surroundings, begun_in}
@@ -67,7 +69,7 @@ appends-more (Some a) (Some b) (Some c) x y h k = k ∙ ap (λ z. z ++ y) h ∙ 
 
 -- an editor in its surroundings
 abbrev pub placed : EditorState → Surroundings → World
-placed editor now = world editor now.files now.steps
+placed editor now = world editor now.files now.views now.steps
 
 all-push : (answers : List Reply) (answer : Reply) → AllByRecursion ReplyIsText answers → ReplyIsText answer → AllByRecursion ReplyIsText (answers ++ answer ∷ [])
 all-push [] answer h k = (k, tt)
@@ -79,7 +81,8 @@ pub record IsPlaying (script : List ℕ) (old now : Surroundings) (before after 
   pub answers : List Reply
   pub lines : lines_of script ≡ front ++ lines_of rest
   pub played : Plays (begun_in old) front answers (placed editor now)
-  pub are_text : AllByRecursion ReplyIsText answers
+  pub are_text : ViewsAreText old.views → AllByRecursion ReplyIsText answers
+  pub views_text : ViewsAreText old.views → ViewsAreText now.views
   pub counted : number ≡ length answers
   pub written : Appends before.bytes (texts_from 1 answers) after.bytes
   pub no_fault : after.faults ≡ before.faults
@@ -88,14 +91,15 @@ pub record IsPlaying (script : List ℕ) (old now : Surroundings) (before after 
   pub within : number + length rest ≤ length script
 
 -- nothing was played yet
-pub play-begun : (script : List ℕ) (files : Surroundings) (out : OutState) (editor : EditorState) → editor ≡ new_editor →
+pub play-begun : (script : List ℕ) (files : Surroundings) (out : OutState) (editor : EditorState) → editor ≡ new_editor None →
     IsPlaying script files files out out editor 0 script false false
 play-begun script files out editor begun = record {
   front = [];
   answers = [];
   lines = refl;
   played = ap (λ e. placed e files) begun;
-  are_text = tt;
+  are_text = λ h. tt;
+  views_text = λ h. h;
   counted = refl;
   written = appends-nil out.bytes;
   no_fault = refl;
@@ -109,16 +113,17 @@ pub play-more : (script : List ℕ) (old now next : Surroundings) (before after 
     (memory refusal memory' refusal' : Bool) (answer : Reply) →
     IsPlaying script old now before after editor number rest memory refusal →
     lines_of rest ≡ line ∷ lines_of following → length following < length rest →
-    LineStep (placed editor now) line answer (placed new next) → ReplyIsText answer →
+    LineStep (placed editor now) line answer (placed new next) → (ViewsAreText now.views → ReplyIsText answer) → (ViewsAreText now.views → ViewsAreText next.views) →
     Appends after.bytes (reply_text (number + 1) answer) last.bytes → last.faults ≡ after.faults →
     memory' ≡ (memory || wants_memory answer) → refusal' ≡ (refusal || is_refusal answer) →
     IsPlaying script old next before last new (number + 1) following memory' refusal'
-play-more script old now next before after last editor new number rest line following memory refusal memory' refusal' answer h cut shorter step text wrote quiet m r = record {
+play-more script old now next before after last editor new number rest line following memory refusal memory' refusal' answer h cut shorter step text views wrote quiet m r = record {
   front = h.front ++ line ∷ [];
   answers = h.answers ++ answer ∷ [];
   lines = h.lines ∙ ap (λ x. h.front ++ x) cut ∙ sym (append_assoc h.front (line ∷ []) (lines_of following));
   played = plays-push (begun_in old) h.front h.answers (placed editor now) (placed new next) line answer h.played step;
-  are_text = all-push h.answers answer h.are_text text;
+  are_text = λ k. all-push h.answers answer (h.are_text k) (text (h.views_text k));
+  views_text = λ k. views (h.views_text k);
   counted = omega (arith, h.counted, length-append h.answers (answer ∷ []));
   written =
       let numbered : number + 1 ≡ 1 + length h.answers = omega (arith, h.counted) in
@@ -150,12 +155,32 @@ play-ended script old now before after editor number rest memory refusal status 
       ∙ ap (λ b. cond (list_any wants_memory h.answers) Memory (cond b Refused Done)) h.refusal_is;
 }
 
+-- nothing is left
+pub no-rest : (rest : List ℕ) → (length rest == 0) ≡ true → rest ≡ []
+no-rest [] h = refl
+no-rest (byte ∷ bytes) h = absurd (let none : suc (length bytes) ≡ 0 = (Decides-eqb (suc (length bytes)) 0).0 h in omega arith)
+
+-- so the play is whole, whatever the status
+pub play-done : (script : List ℕ) (old now : Surroundings) (before after : OutState) (editor : EditorState) (number : ℕ) (rest : List ℕ)
+    (memory refusal : Bool) (status : Status) → IsPlaying script old now before after editor number rest memory refusal → rest ≡ [] →
+    status ≡ cond memory Memory (cond refusal Refused Done) → IsPlayOf script old now before after status
+play-done script old now before after editor number rest memory refusal status h none ended =
+    let Q : Status → Type 0 = λ s. IsPlayOf script old now before after s in
+    subst Q (sym ended) (by_tally memory refusal
+    (play-ended script old now before after editor number rest memory refusal (cond memory Memory (cond refusal Refused Done)) h none refl))
+  where
+    by_tally : (m r : Bool) → IsWhole script old now before.bytes after.bytes (cond m Memory (cond r Refused Done)) →
+        IsPlayOf script old now before after (cond m Memory (cond r Refused Done))
+    by_tally true r w = (inl w, h.no_fault)
+    by_tally false true w = (w, h.no_fault)
+    by_tally false false w = (w, h.no_fault)
+
 -- one more line was played, and only a part of its reply's text was written
 pub play-stopped : (script : List ℕ) (old now next : Surroundings) (before after last : OutState) (editor new : EditorState) (number : ℕ) (rest line following : List ℕ)
     (memory refusal : Bool) (answer : Reply) →
     IsPlaying script old now before after editor number rest memory refusal →
     lines_of rest ≡ line ∷ lines_of following →
-    LineStep (placed editor now) line answer (placed new next) → ReplyIsText answer →
+    LineStep (placed editor now) line answer (placed new next) → (ViewsAreText now.views → ReplyIsText answer) →
     AppendsPrefix after.bytes (reply_text (number + 1) answer) last.bytes →
     IsCutOff script old next before.bytes last.bytes
 play-stopped script old now next before after last editor new number rest line following memory refusal answer h cut step text wrote = record {
@@ -167,7 +192,7 @@ play-stopped script old now next before after last editor new number rest line f
   lines = h.lines ∙ ap (λ x. h.front ++ x) cut ∙ sym (append_assoc h.front (line ∷ []) (lines_of following));
   played = plays-push (begun_in old) h.front h.answers (placed editor now) (placed new next) line answer h.played step;
   left = refl;
-  are_text = all-push h.answers answer h.are_text text;
+  are_text = λ k. all-push h.answers answer (h.are_text k) (text (h.views_text k));
   part = wrote.0;
   missing = wrote.1;
   parted =

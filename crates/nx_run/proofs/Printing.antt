@@ -14,6 +14,7 @@ use Rattle.nx_run.specs.declared.script.ScriptRefusal.{ScriptRefusal}
 use Rattle.nx_run.specs.declared.script.ScriptRefusal.TheVariants.{BadUri, Absent, NotUtf8, Failed}
 use Rattle.nx_run.specs.declared.status.Status.{Status}
 use Rattle.nx_run.specs.declared.status.Status.TheVariants.{Done, Refused, Words, Script, Output, Memory}
+use Rattle.nx_session.specs.Viewing.{ViewsAreText}
 use Rattle.nx_run.specs.Output.{OutState}
 use Rattle.nx_run.specs.Surroundings.{Surroundings}
 use Rattle.nx_run.specs.Words.{usage_line}
@@ -45,12 +46,12 @@ behind (Some old) (Some new) front text h e f t =
     (old ++ text, ap (λ (x : List ℕ). Some x) h, IsUtf8-append old text (subst IsUtf8 (sym same) f) t)
 
 pub runs_print_text : (words : List (List ℕ)) (old new : Surroundings) (before after : OutState) (status : Status) (front : List ℕ) →
-    IsRunOf words old new before after status → IsToTheEnd status → before.bytes ≡ Some front → IsUtf8 front → WritesText after.bytes
-runs_print_text words old new before after Done front h whole e f =
-    behind before.bytes after.bytes front (texts_from 1 h.play.0.answers) h.play.0.written e f (texts_are_text 1 h.play.0.answers h.play.0.are_text)
-runs_print_text words old new before after Refused front h whole e f =
-    behind before.bytes after.bytes front (texts_from 1 h.play.0.answers) h.play.0.written e f (texts_are_text 1 h.play.0.answers h.play.0.are_text)
-runs_print_text words old new before after Words front h whole e f = behind before.bytes after.bytes front usage_line h.said.0 e f (word_text usage_line refl)
-runs_print_text words old new before after Script front h whole e f = behind before.bytes after.bytes front (refusal_line h.cause) h.said.0 e f (refusal_is_text h.cause)
-runs_print_text words old new before after Output front h whole e f = absurd whole
-runs_print_text words old new before after Memory front h whole e f = absurd whole
+    IsRunOf words old new before after status → IsToTheEnd status → ViewsAreText old.views → before.bytes ≡ Some front → IsUtf8 front → WritesText after.bytes
+runs_print_text words old new before after Done front h whole views e f =
+    behind before.bytes after.bytes front (texts_from 1 h.play.0.answers) h.play.0.written e f (texts_are_text 1 h.play.0.answers (h.play.0.are_text views))
+runs_print_text words old new before after Refused front h whole views e f =
+    behind before.bytes after.bytes front (texts_from 1 h.play.0.answers) h.play.0.written e f (texts_are_text 1 h.play.0.answers (h.play.0.are_text views))
+runs_print_text words old new before after Words front h whole views e f = behind before.bytes after.bytes front usage_line h.said.0 e f (word_text usage_line refl)
+runs_print_text words old new before after Script front h whole views e f = behind before.bytes after.bytes front (refusal_line h.cause) h.said.0 e f (refusal_is_text h.cause)
+runs_print_text words old new before after Output front h whole views e f = absurd whole
+runs_print_text words old new before after Memory front h whole views e f = absurd whole

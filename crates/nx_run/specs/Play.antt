@@ -13,6 +13,7 @@ use Rattle.nx_run.specs.declared.status.Status.TheVariants.{Done, Refused, Words
 use Rattle.nx_script.specs.Replies.{ReplyIsText}
 use Rattle.nx_session.specs.Editor.{World}
 use Rattle.nx_session.specs.Step.{LineStep}
+use Rattle.nx_session.specs.Viewing.{ViewsAreText}
 use Rattle.nx_run.specs.Output.{OutState}
 use Rattle.nx_run.specs.Surroundings.{Surroundings, begun_in, around}
 
@@ -51,7 +52,7 @@ pub record IsWhole (script : List ℕ) (old new : Surroundings) (before after : 
   pub end_world : World
   pub played : Plays (begun_in old) (lines_of script) answers end_world
   pub left : new ≡ around end_world
-  pub are_text : AllByRecursion ReplyIsText answers
+  pub are_text : ViewsAreText old.views → AllByRecursion ReplyIsText answers
   pub written : Appends before (texts_from 1 answers) after
   pub ended : status ≡ status_of answers
 
@@ -66,7 +67,7 @@ pub record IsCutOff (script : List ℕ) (old new : Surroundings) (before after :
   pub lines : lines_of script ≡ front ++ rest
   pub played : Plays (begun_in old) front (answers ++ last ∷ []) end_world
   pub left : new ≡ around end_world
-  pub are_text : AllByRecursion ReplyIsText (answers ++ last ∷ [])
+  pub are_text : ViewsAreText old.views → AllByRecursion ReplyIsText (answers ++ last ∷ [])
   pub part : List ℕ
   pub missing : List ℕ
   pub parted : reply_text (length answers + 1) last ≡ part ++ missing

@@ -1,4 +1,4 @@
--- A whole run of the program: its words, the files, an output and the count of tokens before and after it, and its status.
+-- A whole run of the program: its words, the files, the views, an output and the count of tokens before and after it, and its status.
 use Rattle.std.specs.Prelude.{◌≡◌, ℕ, ◌⊎◌, List, Some, IsUtf8}
 use Rattle.nx_host.specs.Count.{Rose}
 use Rattle.nx_host.specs.Out.{Appends, AppendsPrefix}
@@ -6,6 +6,7 @@ use Rattle.nx_run.specs.declared.script.ScriptRefusal.{ScriptRefusal}
 use Rattle.nx_run.specs.declared.status.Status.{Status}
 use Rattle.nx_run.specs.declared.status.Status.TheVariants.{Done, Refused, Words, Script, Output, Memory}
 use Rattle.nx_run.specs.Output.{OutState}
+use Rattle.nx_session.specs.Viewing.{ViewsAreText}
 use Rattle.nx_run.specs.Surroundings.{Surroundings}
 use Rattle.nx_run.specs.Words.{NamesScript, usage_line}
 use Rattle.nx_run.specs.Script.{IsScript, HoldsOfScript, refusal_line}
@@ -35,6 +36,7 @@ pub record IsUnread (words : List (List ℕ)) (old new : Surroundings) (says : L
   pub named : NamesScript words word
   pub cause : ScriptRefusal
   pub holds : HoldsOfScript cause word old.files new.files
+  pub same_views : new.views ≡ old.views
   pub no_steps : new.steps ≡ old.steps
   pub said : says (refusal_line cause)
 
@@ -85,8 +87,8 @@ IsToTheEnd Script = Unit {0}
 IsToTheEnd Output = ⊥
 IsToTheEnd Memory = ⊥
 
--- what such a run writes is UTF-8
+-- what such a run writes is UTF-8, where the details are that the views show before it
 abbrev pub RunsPrintText : Type 0
 RunsPrintText = (words : List (List ℕ)) (old new : Surroundings) (before after : OutState) (status : Status) (front : List ℕ) →
-    IsRunOf words old new before after status → IsToTheEnd status → before.bytes ≡ Some front → IsUtf8 front →
+    IsRunOf words old new before after status → IsToTheEnd status → ViewsAreText old.views → before.bytes ≡ Some front → IsUtf8 front →
     (whole : List ℕ) × (after.bytes ≡ Some whole) × IsUtf8 whole

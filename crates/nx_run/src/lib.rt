@@ -10,8 +10,6 @@ mod play;
 pub mod run;
 mod script;
 pub mod status;
-#[cfg(test)]
-mod tests;
 mod words;
 
 pub use status::Status;

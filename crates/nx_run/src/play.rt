@@ -1,9 +1,10 @@
 //! A script played line by line.
 
-ghost use Rattle.std.specs.Prelude.{◌≡◌, ◌||◌, if◌then◌else◌};
+ghost use Rattle.std.specs.Prelude.{◌≡◌, ◌||◌, map, if◌then◌else◌};
 ghost use Rattle.nx_script.specs.Replies.{ReplyIsText};
 ghost use Rattle.nx_session.specs.Editor.{files_state, world};
 ghost use Rattle.nx_session.specs.Step.{LineStep};
+ghost use Rattle.nx_session.specs.Viewing.{ViewsAreText};
 ghost use Rattle.nx_run.specs.Output.{out_state};
 ghost use Rattle.nx_run.specs.Surroundings.{surroundings};
 ghost use Rattle.nx_run.specs.Play.{IsPlayOf, wants_memory, is_refusal};
@@ -17,6 +18,7 @@ use nx_script::read::{ScriptFault, read_line};
 use nx_script::reply::{Refusal, Reply};
 use nx_script::write::write_reply;
 use nx_session::session::Session;
+use nx_views::view::View;
 use std::alloc::Global;
 use std::sync::ledger::Ledger;
 
@@ -54,14 +56,16 @@ fn answer<F: Files, L: Ledger>(
     session: &mut Session,
     line: &str,
     files: &mut F,
+    views: &mut Vec<Box<dyn View>>,
     steps: &mut Steps<L>,
 ) -> Reply
-    ensures step { LineStep (world session.old (files_state (F.told files.old) (F.faults files.old)) steps.old) line.now result
-        (world session.new (files_state (F.told files.new) (F.faults files.new)) steps.new) }
-    ensures text { ReplyIsText result }
+    ensures step { LineStep (world session.old (files_state (F.told files.old) (F.faults files.old)) (map (λ b. state b) views.old.items) steps.old) line.now result
+        (world session.new (files_state (F.told files.new) (F.faults files.new)) (map (λ b. state b) views.new.items) steps.new) }
+    ensures text { ViewsAreText (map (λ b. state b) views.old.items) → ReplyIsText result }
+    ensures views { ViewsAreText (map (λ b. state b) views.old.items) → ViewsAreText (map (λ b. state b) views.new.items) }
 {
     match read_line(alloc, line) {
-        Ok(command) => session.apply(&command, files, steps),
+        Ok(command) => session.apply(&command, files, views, steps),
         Err(ScriptFault::BadCommand) => Reply::Refused(Refusal::BadCommand),
         Err(ScriptFault::NoMemory) => Reply::Refused(Refusal::NoMemory),
     }
@@ -73,13 +77,14 @@ pub fn play<F: Files, O: Out, L: Ledger>(
     script: &str,
     files: &mut F,
     out: &mut O,
+    views: &mut Vec<Box<dyn View>>,
     steps: &mut Steps<L>,
 ) -> Status
-    ensures { IsPlayOf script.now (surroundings (files_state (F.told files.old) (F.faults files.old)) steps.old)
-        (surroundings (files_state (F.told files.new) (F.faults files.new)) steps.new)
+    ensures { IsPlayOf script.now (surroundings (files_state (F.told files.old) (F.faults files.old)) (map (λ b. state b) views.old.items) steps.old)
+        (surroundings (files_state (F.told files.new) (F.faults files.new)) (map (λ b. state b) views.new.items) steps.new)
         (out_state (O.told out.old) (O.faults out.old)) (out_state (O.told out.new) (O.faults out.new)) result }
 {
-    let Ok(mut session) = Session::new(alloc) else {
+    let Ok(mut session) = Session::new(alloc, None) else {
         return Status::Memory;
     };
     let mut tally = Tally {
@@ -91,7 +96,7 @@ pub fn play<F: Files, O: Out, L: Ledger>(
     while !rest.is_empty() {
         let (line, following) = split_line(rest);
         number += 1;
-        let reply = answer(alloc, &mut session, line, files, steps);
+        let reply = answer(alloc, &mut session, line, files, views, steps);
         tally.note(&reply);
         let written = write_reply(alloc, out, number, &reply);
         drop(reply);

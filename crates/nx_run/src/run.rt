@@ -1,6 +1,6 @@
 //! The run of a script, from the program's words to the bytes written.
 
-ghost use Rattle.std.specs.Prelude.{◌≡◌, List, ℕ};
+ghost use Rattle.std.specs.Prelude.{◌≡◌, List, ℕ, map};
 ghost use Rattle.nx_session.specs.Editor.{files_state};
 ghost use Rattle.nx_run.specs.Output.{out_state};
 ghost use Rattle.nx_run.specs.Surroundings.{surroundings};
@@ -17,27 +17,30 @@ use nx_base::steps::Steps;
 use nx_host::files::Files;
 use nx_host::out::Out;
 use nx_host::utf8::text_of;
+use nx_views::view::View;
 use std::alloc::Global;
 use std::sync::ledger::Ledger;
 
 /// Runs the script that the words name, and writes what it asks for. The words are those behind the
-/// program's name. The steps rise by the tokens that were cut.
+/// program's name. Each listing of faults is shown to the views. The steps rise by the tokens that were cut.
 pub fn run<F: Files, O: Out, L: Ledger>(
     alloc: Global,
     words: &[Bytes],
     files: &mut F,
     out: &mut O,
+    views: &mut Vec<Box<dyn View>>,
     steps: &mut Steps<L>,
 ) -> Status
-    ensures { IsRunOf words.now (surroundings (files_state (F.told files.old) (F.faults files.old)) steps.old)
-        (surroundings (files_state (F.told files.new) (F.faults files.new)) steps.new)
+    requires { Unit {0} }
+    ensures { IsRunOf words.now (surroundings (files_state (F.told files.old) (F.faults files.old)) (map (λ b. state b) views.old.items) steps.old)
+        (surroundings (files_state (F.told files.new) (F.faults files.new)) (map (λ b. state b) views.new.items) steps.new)
         (out_state (O.told out.old) (O.faults out.old)) (out_state (O.told out.new) (O.faults out.new)) result }
 {
     let Some(word) = script_word(words) else {
         return write_line(alloc, USAGE, Status::Words, out);
     };
     match fetch_script(alloc, word, files) {
-        Ok(script) => play(alloc, text_of(&script), files, out, steps),
+        Ok(script) => play(alloc, text_of(&script), files, out, views, steps),
         Err(FetchFault::Refused(cause)) => refuse(alloc, cause, out),
         Err(FetchFault::NoMemory) => Status::Memory,
     }

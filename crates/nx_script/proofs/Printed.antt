@@ -1,5 +1,5 @@
 -- What is printed is text.
-use Rattle.std.proofs.Common.{◌≡◌, ℕ, zero, suc, ◌+◌, ◌/◌, ◌%◌, ◌<◌, ◌≤◌, true, false, ◌||◌, eqb, ltb, List, [], ◌∷◌, ◌++◌, length, get_or, take, codes, refl, sym, ap, subst, ◌∙◌, arith, inl, inr}
+use Rattle.std.proofs.Common.{◌≡◌, ℕ, zero, suc, ◌+◌, ◌/◌, ◌%◌, ◌<◌, ◌≤◌, true, false, ◌||◌, eqb, ltb, List, [], ◌∷◌, ◌++◌, length, get_or, take, codes, Option, Some, None, refl, sym, ap, subst, ◌∙◌, arith, inl, inr}
 use lib.Utf8.{scalar, scalars, encode, encodes}
 use Rattle.std.specs.Fmt.{digits, digits_onto, digit_glyph, decimal}
 use Rattle.std.specs.List.{AllByRecursion, flat_map, list_all}
@@ -17,14 +17,22 @@ use Rattle.nx_base.specs.declared.fault.Kind.{Kind}
 use Rattle.nx_base.specs.declared.fault.Kind.TheVariants as kinds
 use Rattle.nx_script.specs.Causes.{cause_name}
 use Rattle.nx_script.specs.Escapes.{is_escaped, escape, printed, printed_text, printed_character}
-use Rattle.nx_script.specs.FaultLines.{place_text, detail_text, fault_line, errors_text}
+use Rattle.nx_base.specs.PrintedNames.{braced, name_text}
+use Rattle.nx_base.specs.declared.locate_fault.LocateFault.{LocateFault}
+use Rattle.nx_base.specs.declared.locate_fault.LocateFault.TheVariants as rules
+use Rattle.nx_base.specs.declared.offer.Offer.{Offer}
+use Rattle.nx_base.specs.declared.offer.Offer.TheVariants as offer
+use Rattle.nx_base.specs.declared.offer.Offers.{Offers}
+use Rattle.nx_base.specs.declared.offer.Offers.TheVariants as offered
+use Rattle.nx_script.specs.FaultLines.{place_text, detail_text, fault_line, fault_lines, errors_text, view_text}
+use Rattle.nx_script.specs.OfferLines.{offer_text, offer_line, offers_text}
 use Rattle.nx_script.specs.Kinds.{kind_name}
-use Rattle.nx_script.specs.Printing.{frontier_text, taken_text, refusal_text, refused_text, reply_text}
-use Rattle.nx_script.specs.Replies.{RefusalIsText, ReplyIsText}
+use Rattle.nx_script.specs.Printing.{frontier_text, taken_text, located_text, caret_text, position_text, rules_text, refusal_text, refused_text, reply_text}
+use Rattle.nx_script.specs.Replies.{RulesFaultIsText, RefusalIsText, FaultsAreText, LocatedIsText, OfferIsText, OffersAreText, ReplyIsText}
 use Rattle.nx_script.specs.declared.reply.Reply.{Reply}
-use Rattle.nx_script.specs.declared.reply.Reply.TheVariants.{Silent, Printed, Errors, Frontier, Taken, Refused}
+use Rattle.nx_script.specs.declared.reply.Reply.TheVariants.{Silent, Printed, Errors, Frontier, Taken, Located, Offered, Caret, Stay, Position, Shown, Refused}
 use Rattle.nx_script.specs.declared.reply.Refusal.{Refusal}
-use Rattle.nx_script.specs.declared.reply.Refusal.TheVariants.{BadCommand, BadPosition, BadUri, Absent, NotUtf8, Unreadable, Failed, NoMemory}
+use Rattle.nx_script.specs.declared.reply.Refusal.TheVariants.{BadCommand, BadPosition, BadUri, Absent, NotUtf8, Unreadable, BadRules, NoView, Failed, NoMemory}
 
 -- ---- bytes below 128
 
@@ -212,7 +220,62 @@ errors_are_text faults h =
     (IsUtf8-append (codes "errors: " ++ count) (codes "\n") (IsUtf8-append (codes "errors: ") count (word_text (codes "errors: ") refl) (decimal_text (length faults))) (word_text (codes "\n") refl))
     (lines_are_text faults h)
 
+view_is_text : (index : ℕ) (faults : List Fault) → FaultsAreText faults → IsUtf8 (view_text index faults)
+view_is_text index faults h =
+    let front = codes "view " ++ decimal index ++ codes ": " in
+    let count = decimal (length faults) in
+    IsUtf8-append (front ++ count ++ codes "\n") (fault_lines faults)
+    (IsUtf8-append (front ++ count) (codes "\n")
+    (IsUtf8-append front count
+    (IsUtf8-append (codes "view " ++ decimal index) (codes ": ") (IsUtf8-append (codes "view ") (decimal index) (word_text (codes "view ") refl) (decimal_text index)) (word_text (codes ": ") refl))
+    (decimal_text (length faults)))
+    (word_text (codes "\n") refl))
+    (lines_are_text faults h)
+
+-- ---- offers
+
+braced_is_text : (ns : List ℕ) → IsUtf8 ns → IsUtf8 (braced ns)
+braced_is_text [] h = IsUtf8-nil
+braced_is_text (b ∷ bytes) h =
+    IsUtf8-append (codes "{") ((b ∷ bytes) ++ codes "}") (word_text (codes "{") refl) (IsUtf8-append (b ∷ bytes) (codes "}") h (word_text (codes "}") refl))
+
+-- a word of the program's own, and a text as it prints
+about_is_text : (word told : List ℕ) → IsUtf8 word → IsUtf8 told → IsUtf8 (word ++ printed_text told)
+about_is_text word told w h = IsUtf8-append word (printed_text told) w (printed_is_text told h)
+
+offer_is_text : (this : Offer) → OfferIsText this → IsUtf8 (offer_text this)
+offer_is_text (offer.Name name) h =
+    about_is_text (codes "name ") (name_text name) (word_text (codes "name ") refl) (IsUtf8-append (braced name.ns) name.local (braced_is_text name.ns h.0) h.1)
+offer_is_text (offer.AnyIn ns) h = about_is_text (codes "any-in ") ns (word_text (codes "any-in ") refl) h
+offer_is_text offer.AnyElse h = word_text (codes "any-else") refl
+offer_is_text (offer.Value literal) h = about_is_text (codes "value ") literal (word_text (codes "value ") refl) h
+offer_is_text (offer.End written) h = about_is_text (codes "end ") written (word_text (codes "end ") refl) h
+
+offer_lines_are_text : (offers : List Offer) → AllByRecursion OfferIsText offers → IsUtf8 (flat_map offer_line offers)
+offer_lines_are_text [] h = IsUtf8-nil
+offer_lines_are_text (this ∷ offers) h =
+    IsUtf8-append (offer_line this) (flat_map offer_line offers)
+    (IsUtf8-append (offer_text this) (codes "\n") (offer_is_text this h.0) (word_text (codes "\n") refl))
+    (offer_lines_are_text offers h.1)
+
+offers_are_text : (offers : Offers) → OffersAreText offers → IsUtf8 (offers_text offers)
+offers_are_text offered.Nowhere h = word_text (codes "offers: none\n") refl
+offers_are_text (offered.List offers) h =
+    let count = decimal (length offers) in
+    IsUtf8-append (codes "offers: " ++ count ++ codes "\n") (flat_map offer_line offers)
+    (IsUtf8-append (codes "offers: " ++ count) (codes "\n") (IsUtf8-append (codes "offers: ") count (word_text (codes "offers: ") refl) (decimal_text (length offers))) (word_text (codes "\n") refl))
+    (offer_lines_are_text offers h)
+
 -- ---- refusals
+
+rules_are_text : (why : LocateFault) → RulesFaultIsText why → IsUtf8 (rules_text why)
+rules_are_text (rules.RulesAbsent uri) h = IsUtf8-append (codes "BadRules Absent ") uri (word_text (codes "BadRules Absent ") refl) h
+rules_are_text (rules.RulesNotUtf8 uri at) h = IsUtf8-append (codes "BadRules NotUtf8 ") uri (word_text (codes "BadRules NotUtf8 ") refl) h
+rules_are_text (rules.BadRules uri) h = IsUtf8-append (codes "BadRules Malformed ") uri (word_text (codes "BadRules Malformed ") refl) h
+rules_are_text (rules.RulesLoop uri) h = IsUtf8-append (codes "BadRules Loop ") uri (word_text (codes "BadRules Loop ") refl) h
+rules_are_text (rules.BadUri text) h = absurd h
+rules_are_text rules.Failed h = absurd h
+rules_are_text rules.NoMemory h = absurd h
 
 refusal_is_text : (refusal : Refusal) → RefusalIsText refusal → IsUtf8 (refusal_text refusal)
 refusal_is_text BadCommand h = word_text (codes "BadCommand") refl
@@ -227,6 +290,8 @@ refusal_is_text (NotUtf8 uri at) h =
     (IsUtf8-append (codes "NotUtf8 " ++ uri) (codes " ") (IsUtf8-append (codes "NotUtf8 ") uri (word_text (codes "NotUtf8 ") refl) h) (word_text (codes " ") refl))
     (decimal_text at)
 refusal_is_text (Unreadable why) h = IsUtf8-append (codes "Unreadable ") (cause_name why) (word_text (codes "Unreadable ") refl) (cause_text why)
+refusal_is_text (BadRules why) h = rules_are_text why h
+refusal_is_text (NoView index) h = IsUtf8-append (codes "NoView ") (decimal index) (word_text (codes "NoView ") refl) (decimal_text index)
 refusal_is_text Failed h = word_text (codes "Failed") refl
 refusal_is_text NoMemory h = word_text (codes "NoMemory") refl
 
@@ -253,12 +318,37 @@ taken_is_text taken =
     IsUtf8-append (codes "taken " ++ decimal taken) (codes "\n")
     (IsUtf8-append (codes "taken ") (decimal taken) (word_text (codes "taken ") refl) (decimal_text taken)) (word_text (codes "\n") refl)
 
+located_is_text : (uri : Option (List ℕ)) → LocatedIsText uri → IsUtf8 (located_text uri)
+located_is_text (Some uri) h =
+    IsUtf8-append (codes "schema " ++ uri) (codes "\n") (IsUtf8-append (codes "schema ") uri (word_text (codes "schema ") refl) h) (word_text (codes "\n") refl)
+located_is_text None h = word_text (codes "schema none\n") refl
+
+caret_is_text : (at : ℕ) → IsUtf8 (caret_text at)
+caret_is_text at =
+    IsUtf8-append (codes "caret " ++ decimal at) (codes "\n")
+    (IsUtf8-append (codes "caret ") (decimal at) (word_text (codes "caret ") refl) (decimal_text at)) (word_text (codes "\n") refl)
+
+position_is_text : (line column : ℕ) → IsUtf8 (position_text line column)
+position_is_text line column =
+    let front = codes "line " ++ decimal line ++ codes " column " in
+    IsUtf8-append (front ++ decimal column) (codes "\n")
+    (IsUtf8-append front (decimal column)
+    (IsUtf8-append (codes "line " ++ decimal line) (codes " column ") (IsUtf8-append (codes "line ") (decimal line) (word_text (codes "line ") refl) (decimal_text line)) (word_text (codes " column ") refl))
+    (decimal_text column))
+    (word_text (codes "\n") refl)
+
 pub reply_is_text : (line : ℕ) (answer : Reply) → ReplyIsText answer → IsUtf8 (reply_text line answer)
 reply_is_text line Silent h = IsUtf8-nil
 reply_is_text line (Printed text) h = IsUtf8-append text (codes "\n") h (word_text (codes "\n") refl)
 reply_is_text line (Errors faults) h = errors_are_text faults h
 reply_is_text line (Frontier at len) h = frontier_is_text at len
 reply_is_text line (Taken taken) h = taken_is_text taken
+reply_is_text line (Located uri) h = located_is_text uri h
+reply_is_text line (Offered offers) h = offers_are_text offers h
+reply_is_text line (Caret at) h = caret_is_text at
+reply_is_text line Stay h = word_text (codes "stay\n") refl
+reply_is_text line (Position row column) h = position_is_text row column
+reply_is_text line (Shown index faults) h = view_is_text index faults h
 reply_is_text line (Refused refusal) h = refused_is_text line refusal h
 
 -- ---- loops that print

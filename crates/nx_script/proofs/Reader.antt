@@ -1,22 +1,23 @@
 -- What is read from a line is its command, and a command's line is read.
-use Rattle.std.proofs.Common.{◌≡◌, ℕ, Bool, true, false, not, ◌&&◌, eqb, List, [], ◌∷◌, ◌++◌, length, take, drop, cond, codes, Option, Some, None, Result, Ok, Err, IfOk, refl, sym, ap, subst, ◌∙◌, arith, inl, inr, append_assoc}
+use Rattle.std.proofs.Common.{◌≡◌, ℕ, ◌≤◌, Bool, true, false, not, ◌&&◌, ◌||◌, eqb, ltb, List, [], ◌∷◌, ◌++◌, length, take, drop, cond, codes, Option, Some, None, Result, Ok, Err, IfOk, refl, sym, ap, subst, ◌∙◌, arith, inl, inr, append_assoc}
 use Rattle.std.specs.List.{prefix_len, position_or_len, list_all}
 use Rattle.std.specs.Str.{IsUtf8, bytes_eq}
 use Rattle.std.proofs.lemmas.List.{append-nil, take_all, take_at, drop_at, take-append-drop}
 use Rattle.std.proofs.lemmas.Option.{same_Some, cond_some}
-use Rattle.std.proofs.lemmas.Bool.{eqb-true, eq-eqb, and_parts, not-true}
+use Rattle.std.proofs.lemmas.Bool.{eqb-true, eq-eqb, and_parts, or_parts, le-ltb, ltb-false, not-true}
 use Rattle.std.proofs.lemmas.Slice.Eq.{bytes_eq-Decides}
+use Rattle.nx_base.specs.declared.way.Way.{Way}
 use Rattle.nx_script.specs.declared.command.Command.{Command}
-use Rattle.nx_script.specs.declared.command.Command.TheVariants.{Nothing, OpenFile, Save, Insert, Delete, Print, Errors, Slice, Stats, SchemaFile, SchemaNone}
+use Rattle.nx_script.specs.declared.command.Command.TheVariants.{Nothing, OpenFile, Save, Insert, Delete, Print, Errors, Slice, Stats, SchemaFile, SchemaNone, Goto, Move, Next, Previous, Position, View, Close, Make}
 use Rattle.nx_script.specs.declared.read.ScriptFault.{ScriptFault}
 use Rattle.nx_script.specs.declared.read.ScriptFault.TheVariants.{BadCommand, NoMemory}
-use Rattle.nx_script.specs.Grammar.{IsBlanks, IsNothingLine, IsOpenLine, IsSaveLine, IsInsertLine, IsDeleteLine, IsPrintLine, IsErrorsLine, IsSliceLine, IsStatsLine, IsSchemaFileLine, IsSchemaNoneLine, IsLine, ReadsLine}
+use Rattle.nx_script.specs.Grammar.{IsBlanks, IsNothingLine, IsOpenLine, IsSaveLine, IsInsertLine, IsDeleteLine, IsPrintLine, IsErrorsLine, IsSliceLine, IsStatsLine, IsOfWords, IsSchemaFileLine, IsSchemaNoneLine, IsGotoLine, IsMoveLine, IsNextLine, IsPreviousLine, IsPositionLine, IsViewLine, IsCloseLine, IsMakeLine, IsOfNumber, way_word, IsLine, ReadsLine}
 use Rattle.nx_script.specs.Commands.{HasUtf8Texts}
-use Rattle.nx_script.specs.Reading.{Finds, ◌>>=◌, is_blank, after_blanks, number_at, text_at, word_at, ended, none_or_file, open_of, save_of, insert_of, delete_of, print_of, errors_of, slice_of, stats_of, schema_file_of, schema_of, command_of, command_at, line_command}
+use Rattle.nx_script.specs.Reading.{Finds, ◌>>=◌, is_blank, after_blanks, number_at, text_at, word_at, way_at, ended, numbered, ended_or, open_of, save_of, insert_of, delete_of, print_of, errors_of, slice_of, stats_of, schema_file_of, schema_of, goto_of, move_of, next_of, previous_of, position_of, view_of, close_of, most_seed, most_pieces, make_of, command_of, command_at, line_command}
 use Rattle.nx_script.proofs.Blanks.{chosen, found_step, Pass-from_test, FirstFails, prefix_len_is, front_passes, IsBlanks-pass, pass-IsBlanks, test-IsBlank, after_blanks_is, after_blanks_leaves, Ends, tail_ends}
 use Rattle.nx_script.proofs.Numbers.{number_at_is, number_at_takes}
 use Rattle.nx_script.proofs.Texts.{text_at_is, text_at_takes, word_utf8}
-use Rattle.nx_script.proofs.Words.{word_at_is, word_at_takes, word_at_text}
+use Rattle.nx_script.proofs.Words.{word_at_is, word_at_takes, word_at_text, way_at_is, way_at_takes}
 
 -- ---- the end of a line
 
@@ -105,11 +106,17 @@ errors_is : (line : List ℕ) → IsErrorsLine line → line_command line ≡ So
 unfolding command_of errors_of
 errors_is line (blanks, rest, e, b, last) = verb_read line (codes "errors") rest blanks refl e b (tail_ends [] rest last) ∙ ended_is Errors rest last
 
+-- a command of a number alone
+numbered_is : (command : ℕ → Command) (line verb : List ℕ) (value : ℕ) → is_verb verb ≡ true
+    → ((rest : List ℕ) → command_of verb rest ≡ numbered command rest) → IsOfNumber verb value line → line_command line ≡ Some (command value)
+numbered_is command line verb value plain its (number, n, (blanks, rest, e, b, (gap, end, e1, g, last))) =
+    verb_read line verb rest blanks plain e b (tail_ends (number ∷ []) rest (gap, end, e1, g, last))
+    ∙ its rest
+    ∙ rw (e1, number_at_is gap number end value g n (tail_ends [] end last)) (ended_is (command value) end last)
+
 slice_is : (line : List ℕ) (count : ℕ) → IsSliceLine count line → line_command line ≡ Some (Slice count)
 unfolding command_of slice_of
-slice_is line count (number, n, (blanks, rest, e, b, (gap, end, e1, g, last))) =
-    verb_read line (codes "slice") rest blanks refl e b (tail_ends (number ∷ []) rest (gap, end, e1, g, last))
-    ∙ rw (e1, number_at_is gap number end count g n (tail_ends [] end last)) (ended_is (Slice count) end last)
+slice_is line count h = numbered_is Slice line (codes "slice") count refl (λ rest. refl) h
 
 stats_is : (line : List ℕ) → IsStatsLine line → line_command line ≡ Some Stats
 unfolding command_of stats_of
@@ -127,6 +134,48 @@ schema_none_is line (blanks, rest, e, b, (gap, end, e1, g, last)) =
     verb_read line (codes "schema") rest blanks refl e b (tail_ends (codes "none" ∷ []) rest (gap, end, e1, g, last))
     ∙ rw (e1, word_at_is (codes "none") gap end refl g) (ended_is SchemaNone end last)
 
+goto_is : (line : List ℕ) (at : ℕ) → IsGotoLine at line → line_command line ≡ Some (Goto at)
+unfolding command_of goto_of
+goto_is line at h = numbered_is Goto line (codes "goto") at refl (λ rest. refl) h
+
+move_is : (line : List ℕ) (way : Way) → IsMoveLine way line → line_command line ≡ Some (Move way)
+unfolding command_of move_of
+move_is line way (blanks, rest, e, b, (gap, end, e1, g, last)) =
+    verb_read line (codes "move") rest blanks refl e b (tail_ends (way_word way ∷ []) rest (gap, end, e1, g, last))
+    ∙ rw (e1, way_at_is way gap end g) (ended_is (Move way) end last)
+
+next_is : (line : List ℕ) → IsNextLine line → line_command line ≡ Some Next
+unfolding command_of next_of
+next_is line (blanks, rest, e, b, last) = verb_read line (codes "next") rest blanks refl e b (tail_ends [] rest last) ∙ ended_is Next rest last
+
+previous_is : (line : List ℕ) → IsPreviousLine line → line_command line ≡ Some Previous
+unfolding command_of previous_of
+previous_is line (blanks, rest, e, b, last) = verb_read line (codes "previous") rest blanks refl e b (tail_ends [] rest last) ∙ ended_is Previous rest last
+
+position_is : (line : List ℕ) → IsPositionLine line → line_command line ≡ Some Position
+unfolding command_of position_of
+position_is line (blanks, rest, e, b, last) = verb_read line (codes "where") rest blanks refl e b (tail_ends [] rest last) ∙ ended_is Position rest last
+
+view_is : (line : List ℕ) (index : ℕ) → IsViewLine index line → line_command line ≡ Some (View index)
+unfolding command_of view_of
+view_is line index h = numbered_is View line (codes "view") index refl (λ rest. refl) h
+
+close_is : (line : List ℕ) (index : ℕ) → IsCloseLine index line → line_command line ≡ Some (Close index)
+unfolding command_of close_of
+close_is line index h = numbered_is Close line (codes "close") index refl (λ rest. refl) h
+
+-- numbers within any two limits
+within_limits : {A : Type 0} (first second most more : ℕ) (found : Option A) → first ≤ most → second ≤ more
+    → cond (ltb most first || ltb more second) None found ≡ found
+within_limits first second most more found h k = rw (le-ltb most first h, le-ltb more second k) refl
+
+make_is : (line : List ℕ) (seed pieces : ℕ) → IsMakeLine seed pieces line → line_command line ≡ Some (Make seed pieces)
+unfolding command_of make_of most_seed most_pieces
+make_is line seed pieces (first, second, m, n, few, short, (blanks, rest, e, b, (gap, more, e1, g, (gap2, end, e2, g2, last)))) =
+    verb_read line (codes "make") rest blanks refl e b (tail_ends (first ∷ second ∷ []) rest (gap, more, e1, g, (gap2, end, e2, g2, last)))
+    ∙ rw (e1, number_at_is gap first more seed g m (tail_ends (second ∷ []) more (gap2, end, e2, g2, last)), e2, number_at_is gap2 second end pieces g2 n (tail_ends [] end last))
+    (within_limits seed pieces most_seed most_pieces (ended (Make seed pieces) end) few short ∙ ended_is (Make seed pieces) end last)
+
 pub line_is : (line : List ℕ) (command : Command) → IsLine line command → line_command line ≡ Some command
 line_is line Nothing h = nothing_is line h
 line_is line (OpenFile uri) h = open_is line uri h
@@ -139,6 +188,14 @@ line_is line (Slice count) h = slice_is line count h
 line_is line Stats h = stats_is line h
 line_is line (SchemaFile uri) h = schema_file_is line uri h
 line_is line SchemaNone h = schema_none_is line h
+line_is line (Goto at) h = goto_is line at h
+line_is line (Move way) h = move_is line way h
+line_is line Next h = next_is line h
+line_is line Previous h = previous_is line h
+line_is line Position h = position_is line h
+line_is line (View index) h = view_is line index h
+line_is line (Close index) h = close_is line index h
+line_is line (Make seed pieces) h = make_is line seed pieces h
 
 -- ---- what is read is the line's command
 
@@ -190,13 +247,18 @@ errors_takes line blanks rest c e b h =
     let end = ended_takes Errors rest c h in
     subst (IsLine line) end.0 (blanks, rest, e, b, end.1)
 
+-- of a command of a number alone
+numbered_takes : (command : ℕ → Command) (line blanks verb rest : List ℕ) (c : Command) → line ≡ blanks ++ verb ++ rest → IsBlanks blanks → numbered command rest ≡ Some c
+    → (value : ℕ) × (command value ≡ c) × IsOfNumber verb value line
+numbered_takes command line blanks verb rest c e b h =
+    let value = found_step (number_at rest) (λ x. ended (command x.0) x.1) c h in
+    let number = number_at_takes rest value.0.1 value.0.0 value.1 in
+    let end = ended_takes (command value.0.0) value.0.1 c value.2 in
+    (value.0.0, end.0, (number.1, number.4, (blanks, rest, e, b, (number.0, value.0.1, number.2, number.3, end.1))))
+
 slice_takes : (line blanks rest : List ℕ) (c : Command) → line ≡ blanks ++ codes "slice" ++ rest → IsBlanks blanks → slice_of rest ≡ Some c → IsLine line c
 unfolding slice_of
-slice_takes line blanks rest c e b h =
-    let count = found_step (number_at rest) (λ x. ended (Slice x.0) x.1) c h in
-    let number = number_at_takes rest count.0.1 count.0.0 count.1 in
-    let end = ended_takes (Slice count.0.0) count.0.1 c count.2 in
-    subst (IsLine line) end.0 (number.1, number.4, (blanks, rest, e, b, (number.0, count.0.1, number.2, number.3, end.1)))
+slice_takes line blanks rest c e b h = let found = numbered_takes Slice line blanks (codes "slice") rest c e b h in subst (IsLine line) found.1 found.2
 
 stats_takes : (line blanks rest : List ℕ) (c : Command) → line ≡ blanks ++ codes "stats" ++ rest → IsBlanks blanks → stats_of rest ≡ Some c → IsLine line c
 unfolding stats_of
@@ -212,21 +274,85 @@ schema_file_takes line blanks rest c e b h =
     let end = ended_takes (SchemaFile uri.0.0) uri.0.1 c uri.2 in
     subst (IsLine line) end.0 (text.1, text.4, (blanks, rest, e, b, (text.0, uri.0.1, text.2, text.3, end.1)))
 
-none_or_file_takes : (line blanks rest : List ℕ) (c : Command) (found : Option (List ℕ)) → line ≡ blanks ++ codes "schema" ++ rest → IsBlanks blanks
-    → word_at (codes "none") rest ≡ found → none_or_file found rest ≡ Some c → IsLine line c
-none_or_file_takes line blanks rest c (Some behind) e b is h =
-    let word = word_at_takes (codes "none") rest behind is in
-    let end = ended_takes SchemaNone behind c h in
-    subst (IsLine line) end.0 (blanks, rest, e, b, (word.0, behind, word.1, word.2, end.1))
-none_or_file_takes line blanks rest c None e b is h = schema_file_takes line blanks rest c e b h
-
-schema_takes : (line blanks rest : List ℕ) (c : Command) → line ≡ blanks ++ codes "schema" ++ rest → IsBlanks blanks → schema_of rest ≡ Some c → IsLine line c
-unfolding schema_of
-schema_takes line blanks rest c e b h = none_or_file_takes line blanks rest c (word_at (codes "none") rest) e b refl h
-
 -- what is found is the line's command
 abbrev Takes : List ℕ → Option Command → Type 0
 Takes line found = (c : Command) → found ≡ Some c → IsLine line c
+
+-- the second word stands there, or the others are tried
+by_second : (command : Command) (line blanks verb word rest : List ℕ) (found : Option (List ℕ)) (others : Option Command)
+    → line ≡ blanks ++ verb ++ rest → IsBlanks blanks → word_at word rest ≡ found
+    → (IsOfWords verb (word ∷ []) line → IsLine line command) → Takes line others → Takes line (ended_or command found others)
+by_second command line blanks verb word rest (Some behind) others e b is this more c h =
+    let second = word_at_takes word rest behind is in
+    let end = ended_takes command behind c h in
+    subst (IsLine line) end.0 (this (blanks, rest, e, b, (second.0, behind, second.1, second.2, end.1)))
+by_second command line blanks verb word rest None others e b is this more c h = more c h
+
+schema_takes : (line blanks rest : List ℕ) (c : Command) → line ≡ blanks ++ codes "schema" ++ rest → IsBlanks blanks → schema_of rest ≡ Some c → IsLine line c
+unfolding schema_of
+schema_takes line blanks rest c e b h =
+    by_second SchemaNone line blanks (codes "schema") (codes "none") rest _ _ e b refl (λ k. k)
+    (λ c k. schema_file_takes line blanks rest c e b k) c h
+
+goto_takes : (line blanks rest : List ℕ) (c : Command) → line ≡ blanks ++ codes "goto" ++ rest → IsBlanks blanks → goto_of rest ≡ Some c → IsLine line c
+unfolding goto_of
+goto_takes line blanks rest c e b h = let found = numbered_takes Goto line blanks (codes "goto") rest c e b h in subst (IsLine line) found.1 found.2
+
+move_takes : (line blanks rest : List ℕ) (c : Command) → line ≡ blanks ++ codes "move" ++ rest → IsBlanks blanks → move_of rest ≡ Some c → IsLine line c
+unfolding move_of
+move_takes line blanks rest c e b h =
+    let way = found_step (way_at rest) (λ x. ended (Move x.0) x.1) c h in
+    let word = way_at_takes rest way.0.1 way.0.0 way.1 in
+    let end = ended_takes (Move way.0.0) way.0.1 c way.2 in
+    subst (IsLine line) end.0 (blanks, rest, e, b, (word.0, way.0.1, word.1, word.2, end.1))
+
+next_takes : (line blanks rest : List ℕ) (c : Command) → line ≡ blanks ++ codes "next" ++ rest → IsBlanks blanks → next_of rest ≡ Some c → IsLine line c
+unfolding next_of
+next_takes line blanks rest c e b h =
+    let end = ended_takes Next rest c h in
+    subst (IsLine line) end.0 (blanks, rest, e, b, end.1)
+
+previous_takes : (line blanks rest : List ℕ) (c : Command) → line ≡ blanks ++ codes "previous" ++ rest → IsBlanks blanks → previous_of rest ≡ Some c → IsLine line c
+unfolding previous_of
+previous_takes line blanks rest c e b h =
+    let end = ended_takes Previous rest c h in
+    subst (IsLine line) end.0 (blanks, rest, e, b, end.1)
+
+position_takes : (line blanks rest : List ℕ) (c : Command) → line ≡ blanks ++ codes "where" ++ rest → IsBlanks blanks → position_of rest ≡ Some c → IsLine line c
+unfolding position_of
+position_takes line blanks rest c e b h =
+    let end = ended_takes Position rest c h in
+    subst (IsLine line) end.0 (blanks, rest, e, b, end.1)
+
+view_takes : (line blanks rest : List ℕ) (c : Command) → line ≡ blanks ++ codes "view" ++ rest → IsBlanks blanks → view_of rest ≡ Some c → IsLine line c
+unfolding view_of
+view_takes line blanks rest c e b h = let found = numbered_takes View line blanks (codes "view") rest c e b h in subst (IsLine line) found.1 found.2
+
+close_takes : (line blanks rest : List ℕ) (c : Command) → line ≡ blanks ++ codes "close" ++ rest → IsBlanks blanks → close_of rest ≡ Some c → IsLine line c
+unfolding close_of
+close_takes line blanks rest c e b h = let found = numbered_takes Close line blanks (codes "close") rest c e b h in subst (IsLine line) found.1 found.2
+
+-- what is answered within two limits
+from_limits : (first second most more : ℕ) (found : Option Command) (c : Command) → cond (ltb most first || ltb more second) None found ≡ Some c
+    → (first ≤ most) × (second ≤ more) × (found ≡ Some c)
+from_limits first second most more found c h =
+    elim (chosen (ltb most first || ltb more second) None found (Some c) h) [
+      | inl (over, k) ↦ absurd cc
+      | inr (within, k) ↦
+          let parts = or_parts (ltb most first) (ltb more second) within in
+          (ltb-false most first parts.0, ltb-false more second parts.1, k)
+    ]
+
+make_takes : (line blanks rest : List ℕ) (c : Command) → line ≡ blanks ++ codes "make" ++ rest → IsBlanks blanks → make_of rest ≡ Some c → IsLine line c
+unfolding make_of most_seed most_pieces
+make_takes line blanks rest c e b h =
+    let seed = found_step (number_at rest) (λ x. number_at x.1 >>= λ y. cond (ltb most_seed x.0 || ltb most_pieces y.0) None (ended (Make x.0 y.0) y.1)) c h in
+    let pieces = found_step (number_at seed.0.1) (λ y. cond (ltb most_seed seed.0.0 || ltb most_pieces y.0) None (ended (Make seed.0.0 y.0) y.1)) c seed.2 in
+    let within = from_limits seed.0.0 pieces.0.0 most_seed most_pieces (ended (Make seed.0.0 pieces.0.0) pieces.0.1) c pieces.2 in
+    let first = number_at_takes rest seed.0.1 seed.0.0 seed.1 in
+    let second = number_at_takes seed.0.1 pieces.0.1 pieces.0.0 pieces.1 in
+    let end = ended_takes (Make seed.0.0 pieces.0.0) pieces.0.1 c within.2 in
+    subst (IsLine line) end.0 (first.1, second.1, first.4, second.4, within.0, within.1, (blanks, rest, e, b, (first.0, seed.0.1, first.2, first.3, (second.0, pieces.0.1, second.2, second.3, end.1))))
 
 -- the word is this name, or the others are tried
 by_name : (line blanks word rest name : List ℕ) (found others : Option Command) → line ≡ blanks ++ word ++ rest
@@ -252,7 +378,15 @@ verb_takes line blanks word rest e b =
     (by_name line blanks word rest (codes "slice") (slice_of rest) _ e (λ k c h. slice_takes line blanks rest c k b h)
     (by_name line blanks word rest (codes "stats") (stats_of rest) _ e (λ k c h. stats_takes line blanks rest c k b h)
     (by_name line blanks word rest (codes "schema") (schema_of rest) _ e (λ k c h. schema_takes line blanks rest c k b h)
-    (by_no_name line)))))))))
+    (by_name line blanks word rest (codes "goto") (goto_of rest) _ e (λ k c h. goto_takes line blanks rest c k b h)
+    (by_name line blanks word rest (codes "move") (move_of rest) _ e (λ k c h. move_takes line blanks rest c k b h)
+    (by_name line blanks word rest (codes "next") (next_of rest) _ e (λ k c h. next_takes line blanks rest c k b h)
+    (by_name line blanks word rest (codes "previous") (previous_of rest) _ e (λ k c h. previous_takes line blanks rest c k b h)
+    (by_name line blanks word rest (codes "where") (position_of rest) _ e (λ k c h. position_takes line blanks rest c k b h)
+    (by_name line blanks word rest (codes "view") (view_of rest) _ e (λ k c h. view_takes line blanks rest c k b h)
+    (by_name line blanks word rest (codes "close") (close_of rest) _ e (λ k c h. close_takes line blanks rest c k b h)
+    (by_name line blanks word rest (codes "make") (make_of rest) _ e (λ k c h. make_takes line blanks rest c k b h)
+    (by_no_name line)))))))))))))))))
 
 command_takes : (line blanks bytes : List ℕ) (c : Command) → line ≡ blanks ++ bytes → IsBlanks blanks → command_at bytes ≡ Some c → IsLine line c
 unfolding command_at
@@ -308,6 +442,14 @@ texts_utf8 line (SchemaFile uri) utf8 (text, t, (blanks, rest, e, b, (gap, end, 
     let front = blanks ++ codes "schema" in
     word_utf8 (front ++ gap) text end uri t (subst IsUtf8 (in_line line front rest gap text end e e1) utf8)
 texts_utf8 line SchemaNone utf8 h = tt
+texts_utf8 line (Goto at) utf8 h = tt
+texts_utf8 line (Move way) utf8 h = tt
+texts_utf8 line Next utf8 h = tt
+texts_utf8 line Previous utf8 h = tt
+texts_utf8 line Position utf8 h = tt
+texts_utf8 line (View index) utf8 h = tt
+texts_utf8 line (Close index) utf8 h = tt
+texts_utf8 line (Make seed pieces) utf8 h = tt
 
 pub answer_utf8 : (line : List ℕ) (answer : Result Command ScriptFault) → IsUtf8 line → ReadsLine line answer → IfOk answer HasUtf8Texts
 answer_utf8 line (Ok command) utf8 h = texts_utf8 line command utf8 h

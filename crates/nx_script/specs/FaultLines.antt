@@ -20,6 +20,14 @@ detail_text (byte ∷ bytes) = codes " " ++ printed_text (byte ∷ bytes)
 abbrev pub fault_line : Fault → List ℕ
 fault_line fault = place_text fault.span ++ kind_name fault.kind ++ detail_text fault.detail ++ codes "\n"
 
+-- a line for each fault
+abbrev pub fault_lines : List Fault → List ℕ
+fault_lines faults = flat_map fault_line faults
+
 -- how many faults there are, and a line for each
 abbrev pub errors_text : List Fault → List ℕ
-errors_text faults = codes "errors: " ++ decimal (length faults) ++ codes "\n" ++ flat_map fault_line faults
+errors_text faults = codes "errors: " ++ decimal (length faults) ++ codes "\n" ++ fault_lines faults
+
+-- the same of the faults that the view of this number shows
+abbrev pub view_text : ℕ → List Fault → List ℕ
+view_text index faults = codes "view " ++ decimal index ++ codes ": " ++ decimal (length faults) ++ codes "\n" ++ fault_lines faults

@@ -3,9 +3,12 @@ use Rattle.std.specs.Prelude.{◌≡◌, ◌≢◌, ℕ, ◌<◌, ◌≤◌, ◌
 use Rattle.std.specs.Char.{IsScalar}
 use Rattle.std.specs.List.{AllByRecursion, flat_map}
 use Rattle.std.specs.Str.Parse.{IsNumeral, digits_value}
+use Rattle.nx_base.specs.declared.way.Way.{Way}
+use Rattle.nx_base.specs.declared.way.Way.TheVariants as ways
 use Rattle.nx_script.specs.declared.command.Command.{Command}
 use Rattle.nx_script.specs.declared.command.Command.TheVariants.{Nothing, OpenFile, Save, Insert, Delete, Print, Errors, Slice, Stats}
-use Rattle.nx_script.specs.declared.command.Command.TheVariants.{SchemaFile, SchemaNone}
+use Rattle.nx_script.specs.declared.command.Command.TheVariants.{SchemaFile, SchemaNone, Goto, Move, Next, Previous}
+use Rattle.nx_script.specs.declared.command.Command.TheVariants.{Position, View, Close, Make}
 use Rattle.nx_script.specs.declared.read.ScriptFault.{ScriptFault}
 use Rattle.nx_script.specs.declared.read.ScriptFault.TheVariants.{BadCommand, NoMemory}
 
@@ -113,9 +116,13 @@ IsPrintLine line = IsOfWords (codes "print") [] line
 abbrev pub IsErrorsLine : List ℕ → Type 0
 IsErrorsLine line = IsOfWords (codes "errors") [] line
 
+-- the line is this word and a number
+abbrev pub IsOfNumber : List ℕ → ℕ → List ℕ → Type 0
+IsOfNumber word value line = (number : List ℕ) × IsNumber number value × IsOfWords word (number ∷ []) line
+
 -- `slice N`
 abbrev pub IsSliceLine : ℕ → List ℕ → Type 0
-IsSliceLine count line = (number : List ℕ) × IsNumber number count × IsOfWords (codes "slice") (number ∷ []) line
+IsSliceLine count line = IsOfNumber (codes "slice") count line
 
 -- `stats`
 abbrev pub IsStatsLine : List ℕ → Type 0
@@ -128,6 +135,47 @@ IsSchemaFileLine uri line = (text : List ℕ) × IsText text uri × IsOfWords (c
 -- `schema none`
 abbrev pub IsSchemaNoneLine : List ℕ → Type 0
 IsSchemaNoneLine line = IsOfWords (codes "schema") (codes "none" ∷ []) line
+
+-- `goto N`
+abbrev pub IsGotoLine : ℕ → List ℕ → Type 0
+IsGotoLine at line = IsOfNumber (codes "goto") at line
+
+-- the word of a way
+abbrev pub way_word : Way → List ℕ
+way_word ways.Forward = codes "forward"
+way_word ways.Backward = codes "backward"
+way_word ways.Up = codes "up"
+way_word ways.BackUp = codes "back-up"
+way_word ways.Down = codes "down"
+
+-- `move W`
+abbrev pub IsMoveLine : Way → List ℕ → Type 0
+IsMoveLine way line = IsOfWords (codes "move") (way_word way ∷ []) line
+
+-- `next`
+abbrev pub IsNextLine : List ℕ → Type 0
+IsNextLine line = IsOfWords (codes "next") [] line
+
+-- `previous`
+abbrev pub IsPreviousLine : List ℕ → Type 0
+IsPreviousLine line = IsOfWords (codes "previous") [] line
+
+-- `where`
+abbrev pub IsPositionLine : List ℕ → Type 0
+IsPositionLine line = IsOfWords (codes "where") [] line
+
+-- `view N`
+abbrev pub IsViewLine : ℕ → List ℕ → Type 0
+IsViewLine index line = IsOfNumber (codes "view") index line
+
+-- `close N`
+abbrev pub IsCloseLine : ℕ → List ℕ → Type 0
+IsCloseLine index line = IsOfNumber (codes "close") index line
+
+-- `make N N`, where the first number is at most 2,147,483,647 and the second at most 200,000
+abbrev pub IsMakeLine : ℕ → ℕ → List ℕ → Type 0
+IsMakeLine seed pieces line = (first second : List ℕ) × IsNumber first seed × IsNumber second pieces
+    × (seed ≤ 2147483647) × (pieces ≤ 200000) × IsOfWords (codes "make") (first ∷ second ∷ []) line
 
 -- the line is this command
 abbrev pub IsLine : List ℕ → Command → Type 0
@@ -142,6 +190,14 @@ IsLine line (Slice count) = IsSliceLine count line
 IsLine line Stats = IsStatsLine line
 IsLine line (SchemaFile uri) = IsSchemaFileLine uri line
 IsLine line SchemaNone = IsSchemaNoneLine line
+IsLine line (Goto at) = IsGotoLine at line
+IsLine line (Move way) = IsMoveLine way line
+IsLine line Next = IsNextLine line
+IsLine line Previous = IsPreviousLine line
+IsLine line Position = IsPositionLine line
+IsLine line (View index) = IsViewLine index line
+IsLine line (Close index) = IsCloseLine index line
+IsLine line (Make seed pieces) = IsMakeLine seed pieces line
 
 -- no line is two commands
 abbrev pub LinesAreOneCommand : Type 0

@@ -5,6 +5,7 @@ pub mod Escapes
 pub mod FaultLines
 pub mod Kinds
 pub mod Lines
+pub mod OfferLines
 pub mod Printing
 pub mod Reading
 pub mod Replies

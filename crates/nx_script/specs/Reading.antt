@@ -3,13 +3,18 @@
 use Rattle.std.specs.Prelude.{◌≡◌, ℕ, zero, suc, Bool, ◌||◌, ◌==◌, nat_lt, if◌then◌else◌, List, [], ◌∷◌, ◌++◌, length, take, drop, codes}
 use Rattle.std.specs.Prelude.{encode_utf8, Option, Some, None, option_map, option_and_then, Result, Ok, Err}
 use Rattle.std.specs.List.{prefix_len, position_or_len}
+use Rattle.std.specs.Option.{option_or}
 use lib.Utf8.{scalar}
 use Rattle.std.specs.Char.{is_ascii_digit, is_digit}
 use Rattle.std.specs.Str.{bytes_eq}
 use Rattle.std.specs.Str.Parse.{digits_value}
+use Rattle.nx_base.specs.declared.way.Way.{Way}
+use Rattle.nx_base.specs.declared.way.Way.TheVariants.{Forward, Backward, Up, BackUp, Down}
+use Rattle.nx_script.specs.Grammar.{way_word}
 use Rattle.nx_script.specs.declared.command.Command.{Command}
 use Rattle.nx_script.specs.declared.command.Command.TheVariants.{Nothing, OpenFile, Save, Insert, Delete, Print, Errors, Slice, Stats}
-use Rattle.nx_script.specs.declared.command.Command.TheVariants.{SchemaFile, SchemaNone}
+use Rattle.nx_script.specs.declared.command.Command.TheVariants.{SchemaFile, SchemaNone, Goto, Move, Next, Previous}
+use Rattle.nx_script.specs.declared.command.Command.TheVariants.{Position, View, Close, Make}
 use Rattle.nx_script.specs.declared.read.ScriptFault.{ScriptFault}
 use Rattle.nx_script.specs.declared.read.ScriptFault.TheVariants.{BadCommand, NoMemory}
 
@@ -129,6 +134,18 @@ word_at word bytes = do
   gone ← after_gap bytes
   if bytes_eq (take (length word) gone) word then Some (drop (length word) gone) else None
 
+-- this way, where its word stands behind a gap, and what follows it
+abbrev pub along_at : Way → List ℕ → Option (Way × List ℕ)
+along_at way bytes = option_map (λ rest. (way, rest)) (word_at (way_word way) bytes)
+
+-- the way whose word stands behind a gap, and what follows it
+unfoldable pub way_at : List ℕ → Option (Way × List ℕ)
+way_at bytes =
+    option_or (along_at Forward bytes)
+    (option_or (along_at Backward bytes)
+    (option_or (along_at Up bytes)
+    (option_or (along_at BackUp bytes) (along_at Down bytes))))
+
 -- the command, where blanks alone follow
 unfoldable pub ended : Command → List ℕ → Option Command
 ended command bytes = if prefix_len is_blank bytes == length bytes then Some command else None
@@ -162,10 +179,14 @@ print_of bytes = ended Print bytes
 unfoldable pub errors_of : List ℕ → Option Command
 errors_of bytes = ended Errors bytes
 
+-- the command of a number that follows
+abbrev pub numbered : (ℕ → Command) → List ℕ → Option Command
+numbered command bytes = do
+  number ← number_at bytes
+  ended (command number.0) number.1
+
 unfoldable pub slice_of : List ℕ → Option Command
-slice_of bytes = do
-  count ← number_at bytes
-  ended (Slice count.0) count.1
+slice_of bytes = numbered Slice bytes
 
 unfoldable pub stats_of : List ℕ → Option Command
 stats_of bytes = ended Stats bytes
@@ -175,13 +196,50 @@ schema_file_of bytes = do
   uri ← text_at bytes
   ended (SchemaFile uri.0) uri.1
 
--- what follows `none`, where that stands there
-abbrev pub none_or_file : Option (List ℕ) → List ℕ → Option Command
-none_or_file (Some rest) bytes = ended SchemaNone rest
-none_or_file None bytes = schema_file_of bytes
+-- the command, where its second word stands there and this follows it; otherwise others are tried
+abbrev pub ended_or : Command → Option (List ℕ) → Option Command → Option Command
+ended_or command (Some rest) others = ended command rest
+ended_or command None others = others
 
 unfoldable pub schema_of : List ℕ → Option Command
-schema_of bytes = none_or_file (word_at (codes "none") bytes) bytes
+schema_of bytes =
+    ended_or SchemaNone (word_at (codes "none") bytes) (schema_file_of bytes)
+
+unfoldable pub goto_of : List ℕ → Option Command
+goto_of bytes = numbered Goto bytes
+
+unfoldable pub move_of : List ℕ → Option Command
+move_of bytes = do
+  way ← way_at bytes
+  ended (Move way.0) way.1
+
+unfoldable pub next_of : List ℕ → Option Command
+next_of bytes = ended Next bytes
+
+unfoldable pub previous_of : List ℕ → Option Command
+previous_of bytes = ended Previous bytes
+
+unfoldable pub position_of : List ℕ → Option Command
+position_of bytes = ended Position bytes
+
+unfoldable pub view_of : List ℕ → Option Command
+view_of bytes = numbered View bytes
+
+unfoldable pub close_of : List ℕ → Option Command
+close_of bytes = numbered Close bytes
+
+-- the most that the numbers of `make` may be
+unfoldable pub most_seed : ℕ
+most_seed = 2147483647
+
+unfoldable pub most_pieces : ℕ
+most_pieces = 200000
+
+unfoldable pub make_of : List ℕ → Option Command
+make_of bytes = do
+  seed ← number_at bytes
+  pieces ← number_at seed.1
+  if nat_lt most_seed seed.0 || nat_lt most_pieces pieces.0 then None else ended (Make seed.0 pieces.0) pieces.1
 
 -- the command of this word
 unfoldable pub command_of : List ℕ → List ℕ → Option Command
@@ -195,7 +253,15 @@ command_of word bytes =
     else (if bytes_eq word (codes "slice") then slice_of bytes
     else (if bytes_eq word (codes "stats") then stats_of bytes
     else (if bytes_eq word (codes "schema") then schema_of bytes
-    else None))))))))
+    else (if bytes_eq word (codes "goto") then goto_of bytes
+    else (if bytes_eq word (codes "move") then move_of bytes
+    else (if bytes_eq word (codes "next") then next_of bytes
+    else (if bytes_eq word (codes "previous") then previous_of bytes
+    else (if bytes_eq word (codes "where") then position_of bytes
+    else (if bytes_eq word (codes "view") then view_of bytes
+    else (if bytes_eq word (codes "close") then close_of bytes
+    else (if bytes_eq word (codes "make") then make_of bytes
+    else None))))))))))))))))
 
 -- the command of the line whose blanks at the front are left out
 unfoldable pub command_at : List ℕ → Option Command

@@ -5,12 +5,14 @@ ghost use Rattle.std.specs.List.{prefix_len};
 ghost use Rattle.std.specs.Char.{is_ascii_digit};
 ghost use Rattle.std.specs.Str.{bytes_eq};
 ghost use Rattle.std.specs.Str.Parse.{AllDigits, digits_value};
-ghost use Rattle.nx_script.specs.Reading.{Finds, is_blank, after_gap, digits_at, number_at, text_at, word_at, ended};
+ghost use Rattle.nx_script.specs.Reading.{Finds, is_blank, after_gap, digits_at, number_at, text_at, word_at, along_at, way_at, ended};
 
 use crate::command::Command;
 use crate::quoted::{after_quote, pieces};
 use crate::read::ScriptFault;
+use crate::way_word::way_word;
 use nx_base::sequence::Bytes;
+use nx_base::way::Way;
 use std::alloc::Global;
 use std::marker::Model;
 
@@ -71,6 +73,41 @@ impl<'a> Arguments<'a> {
                 None => None,
             },
             None => None,
+        }
+    }
+
+    /// This way, where its word stands there, and what is left behind it; nothing is taken.
+    fn along(&self, way: Way) -> Option<(Way, Arguments<'a>)>
+        ensures { result ≡ along_at way self.now }
+    {
+        match self.behind(way_word(way)) {
+            Some(rest) => Some((way, rest)),
+            None => None,
+        }
+    }
+
+    /// The way whose word stands there, and what is left behind it; nothing is taken.
+    #[tactic(auto, unfolding(crate::specs::Reading::way_at))]
+    fn along_any(&self) -> Option<(Way, Arguments<'a>)>
+        ensures { result ≡ way_at self.now }
+    {
+        self.along(Way::Forward)
+            .or(self.along(Way::Backward))
+            .or(self.along(Way::Up))
+            .or(self.along(Way::BackUp))
+            .or(self.along(Way::Down))
+    }
+
+    /// A way by its word.
+    pub(crate) fn way(&mut self) -> Result<Way, ScriptFault>
+        ensures { Finds (λ way. (way, self.new)) result (way_at self.old) }
+    {
+        match self.along_any() {
+            Some((way, arguments)) => {
+                self.rest = arguments.rest;
+                Ok(way)
+            }
+            None => Err(ScriptFault::BadCommand),
         }
     }
 

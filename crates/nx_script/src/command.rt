@@ -1,6 +1,7 @@
 //! The commands of a script.
 
 use nx_base::sequence::Bytes;
+use nx_base::way::Way;
 
 /// A command. Numbers and texts stand in the order of the line, the texts after their escapes.
 #[derive(Drop)]
@@ -27,4 +28,22 @@ pub enum Command {
     SchemaFile(Bytes),
     /// `schema none`: holds it against none.
     SchemaNone,
+    /// `goto N`: puts the caret at the byte offset.
+    Goto(u64),
+    /// `move W`: takes the caret this way along the tags, by the words `forward`, `backward`, `up`, `back-up` and
+    /// `down`.
+    Move(Way),
+    /// `next`: takes the caret over the grapheme cluster behind it.
+    Next,
+    /// `previous`: takes it over the one before it.
+    Previous,
+    /// `where`: tells the caret's line and column.
+    Position,
+    /// `view N`: lists the faults that this view shows.
+    View(u64),
+    /// `close N`: closes this view.
+    Close(u64),
+    /// `make N N`: edits a large document that is made from the two numbers, from now on. The first is at most
+    /// 2,147,483,647, the second, its number of pieces, at most 200,000.
+    Make(u64, u64),
 }

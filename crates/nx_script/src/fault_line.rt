@@ -1,7 +1,7 @@
 //! Faults as lines.
 
 ghost use Rattle.std.specs.Prelude.{◌≡◌, ◌++◌, IfOk, OnOk, codes, string_bytes};
-ghost use Rattle.nx_script.specs.FaultLines.{place_text, detail_text, fault_line, errors_text};
+ghost use Rattle.nx_script.specs.FaultLines.{place_text, detail_text, fault_line, fault_lines, errors_text, view_text};
 
 use crate::escape::push_text;
 use crate::kind_name::kind_name;
@@ -15,10 +15,28 @@ pub(crate) fn errors_text(alloc: Global, faults: &[Fault]) -> Result<Vec<u8>, No
 {
     let count = faults.len();
     let mut text = format!(in alloc; "errors: {count}\n")?.into_bytes();
-    for fault in faults {
-        push_line(alloc, &mut text, fault)?;
-    }
+    push_lines(alloc, &mut text, faults)?;
     Ok(text)
+}
+
+/// The number of a view, how many faults it shows, and a line for each.
+pub(crate) fn view_text(alloc: Global, index: u64, faults: &[Fault]) -> Result<Vec<u8>, NoMemory>
+    ensures { IfOk result (λ text. text.items ≡ view_text index faults.now) }
+{
+    let count = faults.len();
+    let mut text = format!(in alloc; "view {index}: {count}\n")?.into_bytes();
+    push_lines(alloc, &mut text, faults)?;
+    Ok(text)
+}
+
+/// Adds a line for each fault.
+fn push_lines(alloc: Global, text: &mut Vec<u8>, faults: &[Fault]) -> Result<(), NoMemory>
+    ensures { OnOk result (text.new.items ≡ text.old.items ++ fault_lines faults.now) }
+{
+    for fault in faults {
+        push_line(alloc, text, fault)?;
+    }
+    Ok(())
 }
 
 /// Adds the line of a fault.

@@ -9,11 +9,11 @@ mod fault_line;
 mod kind_name;
 pub mod law;
 pub mod line;
+mod offer_line;
 mod quoted;
 pub mod read;
 pub mod reply;
-#[cfg(test)]
-mod tests;
+mod way_word;
 pub mod write;
 
 pub use command::Command;

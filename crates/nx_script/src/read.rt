@@ -5,6 +5,7 @@ ghost use Rattle.std.specs.List.{position_or_len};
 ghost use Rattle.nx_script.specs.Grammar.{LinesAreOneCommand, ReadsLine};
 ghost use Rattle.nx_script.specs.Commands.{HasUtf8Texts};
 ghost use Rattle.nx_script.specs.Reading.{Finds, is_blank, open_of, save_of, insert_of, delete_of, slice_of, schema_file_of, schema_of};
+ghost use Rattle.nx_script.specs.Reading.{goto_of, move_of, view_of, close_of, make_of};
 ghost use Rattle.nx_script.specs.Reading.{command_of, line_command};
 ghost use Rattle.nx_script.specs.Reading.{after_blanks};
 ghost use Rattle.nx_script.specs.declared.read.ScriptFault.TheVariants.{NoMemory};
@@ -12,6 +13,12 @@ ghost use Rattle.nx_script.specs.declared.read.ScriptFault.TheVariants.{NoMemory
 use crate::arguments::{Arguments, is_blank, leading_blanks};
 use crate::command::Command;
 use std::alloc::{AllocError, AllocFailed, Global};
+
+/// The most that the first number of `make` may be.
+const MOST_SEED: u64 = 2_147_483_647;
+
+/// The most pieces that a document is made of.
+const MOST_PIECES: u64 = 200_000;
 
 /// Why a line was not read.
 #[derive(Clone, Copy, Debug, PartialEq, Eq)]
@@ -82,7 +89,7 @@ fn word_len(bytes: &[u8]) -> usize
 }
 
 /// The command of this word.
-#[tactic(auto, unfolding(crate::specs::Reading::command_of, crate::specs::Reading::print_of, crate::specs::Reading::errors_of, crate::specs::Reading::stats_of))]
+#[tactic(auto, unfolding(crate::specs::Reading::command_of, crate::specs::Reading::print_of, crate::specs::Reading::errors_of, crate::specs::Reading::stats_of, crate::specs::Reading::next_of, crate::specs::Reading::previous_of, crate::specs::Reading::position_of))]
 fn command(alloc: Global, word: &str, arguments: Arguments<'_>) -> Result<Command, ScriptFault>
     ensures { Finds (λ command. command) result (command_of word.now arguments.entry) }
 {
@@ -96,6 +103,14 @@ fn command(alloc: Global, word: &str, arguments: Arguments<'_>) -> Result<Comman
         "slice" => slice(arguments),
         "stats" => arguments.end(Command::Stats),
         "schema" => schema(alloc, arguments),
+        "goto" => goto(arguments),
+        "move" => move_along(arguments),
+        "next" => arguments.end(Command::Next),
+        "previous" => arguments.end(Command::Previous),
+        "where" => arguments.end(Command::Position),
+        "view" => view(arguments),
+        "close" => close(arguments),
+        "make" => make(arguments),
         _ => Err(ScriptFault::BadCommand),
     }
 }
@@ -152,10 +167,10 @@ fn slice(mut arguments: Arguments<'_>) -> Result<Command, ScriptFault>
 fn schema(alloc: Global, arguments: Arguments<'_>) -> Result<Command, ScriptFault>
     ensures { Finds (λ command. command) result (schema_of arguments.entry) }
 {
-    match arguments.behind("none") {
-        Some(rest) => rest.end(Command::SchemaNone),
-        None => schema_file(alloc, arguments),
+    if let Some(rest) = arguments.behind("none") {
+        return rest.end(Command::SchemaNone);
     }
+    schema_file(alloc, arguments)
 }
 
 /// `schema "URI"`, from what follows the word.
@@ -165,4 +180,53 @@ fn schema_file(alloc: Global, mut arguments: Arguments<'_>) -> Result<Command, S
 {
     let uri = arguments.text(alloc)?;
     arguments.end(Command::SchemaFile(uri))
+}
+
+/// `goto N`, from what follows the word.
+#[tactic(auto, unfolding(crate::specs::Reading::goto_of))]
+fn goto(mut arguments: Arguments<'_>) -> Result<Command, ScriptFault>
+    ensures { Finds (λ command. command) result (goto_of arguments.entry) }
+{
+    let at = arguments.number()?;
+    arguments.end(Command::Goto(at))
+}
+
+/// `move W`, from what follows the word.
+#[tactic(auto, unfolding(crate::specs::Reading::move_of))]
+fn move_along(mut arguments: Arguments<'_>) -> Result<Command, ScriptFault>
+    ensures { Finds (λ command. command) result (move_of arguments.entry) }
+{
+    let way = arguments.way()?;
+    arguments.end(Command::Move(way))
+}
+
+/// `view N`, from what follows the word.
+#[tactic(auto, unfolding(crate::specs::Reading::view_of))]
+fn view(mut arguments: Arguments<'_>) -> Result<Command, ScriptFault>
+    ensures { Finds (λ command. command) result (view_of arguments.entry) }
+{
+    let index = arguments.number()?;
+    arguments.end(Command::View(index))
+}
+
+/// `close N`, from what follows the word.
+#[tactic(auto, unfolding(crate::specs::Reading::close_of))]
+fn close(mut arguments: Arguments<'_>) -> Result<Command, ScriptFault>
+    ensures { Finds (λ command. command) result (close_of arguments.entry) }
+{
+    let index = arguments.number()?;
+    arguments.end(Command::Close(index))
+}
+
+/// `make N N`, from what follows the word.
+#[tactic(auto, unfolding(crate::specs::Reading::make_of, crate::specs::Reading::most_seed, crate::specs::Reading::most_pieces))]
+fn make(mut arguments: Arguments<'_>) -> Result<Command, ScriptFault>
+    ensures { Finds (λ command. command) result (make_of arguments.entry) }
+{
+    let seed = arguments.number()?;
+    let pieces = arguments.number()?;
+    if seed > MOST_SEED || pieces > MOST_PIECES {
+        return Err(ScriptFault::BadCommand);
+    }
+    arguments.end(Command::Make(seed, pieces))
 }

@@ -2,7 +2,9 @@
 
 use nx_base::cause::Cause;
 use nx_base::fault::Faults;
+use nx_base::locate_fault::LocateFault;
 use nx_base::memory::NoMemory;
+use nx_base::offer::Offers;
 use nx_base::sequence::Bytes;
 use nx_host::files::FileFault;
 use nx_host::uri::UriFault;
@@ -20,6 +22,18 @@ pub enum Reply {
     Frontier { at: usize, len: usize },
     /// How many tokens were taken.
     Taken(u64),
+    /// The URI of the schema that was located, where one was.
+    Located(Option<Bytes>),
+    /// What may stand at a place.
+    Offered(Offers),
+    /// The caret's new byte offset.
+    Caret(usize),
+    /// The caret stays, since there is no place to take it to.
+    Stay,
+    /// The caret's line, from 1, and its column, from 0, in the widths of characters.
+    Position { line: usize, column: usize },
+    /// The number of a view, and the faults that it shows.
+    Shown(u64, Faults),
     /// Not done, and why.
     Refused(Refusal),
 }
@@ -40,6 +54,11 @@ pub enum Refusal {
     NotUtf8(Bytes, usize),
     /// The files of the schema make no grammar that can be used.
     Unreadable(Cause),
+    /// What is wrong with a rules file: it is absent, no text, malformed, or includes itself. That a URI is bad, that
+    /// files fail and that memory is wanting are refusals of their own.
+    BadRules(LocateFault),
+    /// No view has this number.
+    NoView(u64),
     /// The files could not do it.
     Failed,
     NoMemory,
@@ -80,6 +99,22 @@ impl From<FileFault> for Refusal {
         match fault {
             FileFault::Failed => Refusal::Failed,
             FileFault::NoMemory => Refusal::NoMemory,
+        }
+    }
+}
+
+impl From<LocateFault> for Refusal {
+    ghost use Rattle.std.specs.Prelude.{◌≡◌};
+    ghost use Rattle.nx_script.specs.Replies.{refusal_of_rules};
+
+    ghost from_gives = { λ fault refusal. refusal ≡ refusal_of_rules fault };
+
+    fn from(fault: LocateFault) -> Refusal {
+        match fault {
+            LocateFault::BadUri(_) => Refusal::BadUri,
+            LocateFault::Failed => Refusal::Failed,
+            LocateFault::NoMemory => Refusal::NoMemory,
+            fault => Refusal::BadRules(fault),
         }
     }
 }

@@ -7,7 +7,7 @@ use Rattle.nx_session.specs.Editor.{EditorState, caret_after, edited_editor}
 -- an editor with these parts; its document is as before
 abbrev pub shown : EditorState → List ℕ → ℕ → ℕ → ℕ → EditorState
 shown old text caret frontier taken =
-    record { text = text; caret = caret; document = old.document; schema = old.schema; frontier = frontier; taken = taken }
+    record old { text = text; caret = caret; frontier = frontier; taken = taken }
 
 -- it is the edited one where its text and its caret are
 pub shown_is_edited : (old : EditorState) (from to : ℕ) (added text : List ℕ) (caret frontier taken len : ℕ) → text ≡ edited old.text from to added →

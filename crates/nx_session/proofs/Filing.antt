@@ -1,5 +1,5 @@
 -- Documents that are opened and saved.
-use Rattle.std.proofs.Common.{◌≡◌, ℕ, List, Option, Some, Err, refl, sym, ap, ◌∙◌, subst, inr}
+use Rattle.std.proofs.Common.{◌≡◌, ℕ, List, Option, Some, Err, refl, sym, ap, ◌∙◌, subst, inl, inr}
 use Rattle.nx_host.specs.Files.{FileMap, LeavesOthers, CountsFault}
 use Rattle.nx_host.specs.Uri.{Joins, IsBadUri}
 use Rattle.nx_host.specs.declared.files.FileFault.{FileFault}
@@ -8,8 +8,8 @@ use Rattle.nx_host.specs.declared.uri.UriFault.{UriFault}
 use Rattle.nx_host.specs.declared.uri.UriFault.TheVariants as uri_fault
 use Rattle.nx_script.specs.Replies.{refusal_of_files, refusal_of_uri}
 use Rattle.nx_script.specs.declared.reply.Reply.{Reply}
-use Rattle.nx_script.specs.declared.reply.Reply.TheVariants.{Silent, Printed, Errors, Frontier, Taken, Refused}
-use Rattle.nx_script.specs.declared.reply.Refusal.TheVariants.{BadCommand, BadPosition, BadUri, Absent, NotUtf8, Unreadable, Failed, NoMemory}
+use Rattle.nx_script.specs.declared.reply.Reply.TheVariants.{Silent, Printed, Errors, Frontier, Taken, Located, Offered, Caret, Stay, Position, Shown, Refused}
+use Rattle.nx_script.specs.declared.reply.Refusal.TheVariants.{BadCommand, BadPosition, BadUri, Absent, NotUtf8, Unreadable, BadRules, NoView, Failed, NoMemory}
 use Rattle.nx_session.specs.Editor.{EditorState, FilesState, files_state, work_folder}
 use Rattle.nx_session.specs.Documents.{Finds, OpensBytes, OpenStep, SaveStep}
 
@@ -25,10 +25,18 @@ opens uri_text uri bytes old new (Printed text) before after found same h = absu
 opens uri_text uri bytes old new (Errors faults) before after found same h = absurd h
 opens uri_text uri bytes old new (Frontier at len) before after found same h = absurd h
 opens uri_text uri bytes old new (Taken taken) before after found same h = absurd h
+opens uri_text uri bytes old new (Located located) before after found same h = absurd h
+opens uri_text uri bytes old new (Offered offers) before after found same h = absurd h
+opens uri_text uri bytes old new (Caret at) before after found same h = absurd h
+opens uri_text uri bytes old new Stay before after found same h = absurd h
+opens uri_text uri bytes old new (Position row column) before after found same h = absurd h
+opens uri_text uri bytes old new (Shown index faults) before after found same h = absurd h
 opens uri_text uri bytes old new (Refused BadCommand) before after found same h = absurd h
 opens uri_text uri bytes old new (Refused (BadPosition at len)) before after found same h = absurd h
 opens uri_text uri bytes old new (Refused BadUri) before after found same h = absurd h
 opens uri_text uri bytes old new (Refused (Absent named)) before after found same h = absurd h
+opens uri_text uri bytes old new (Refused (BadRules fault)) before after found same h = absurd h
+opens uri_text uri bytes old new (Refused (NoView index)) before after found same h = absurd h
 opens uri_text uri bytes old new (Refused (Unreadable why)) before after found same h = absurd h
 opens uri_text uri bytes old new (Refused Failed) before after found same h = absurd h
 
@@ -42,6 +50,11 @@ pub open-unjoined : (uri_text : List ℕ) (old : EditorState) (files : FilesStat
     → (fault ≡ uri_fault.Bad → IsBadUri work_folder uri_text) → OpenStep uri_text old files (Refused (refusal_of_uri fault)) old files
 open-unjoined uri_text old files uri_fault.Bad bad = (bad refl, refl, refl)
 open-unjoined uri_text old files uri_fault.NoMemory bad = (refl, refl)
+
+pub save-unjoined : (uri_text : List ℕ) (old : EditorState) (files : FilesState) (fault : UriFault)
+    → (fault ≡ uri_fault.Bad → IsBadUri work_folder uri_text) → SaveStep uri_text old files (Refused (refusal_of_uri fault)) old files
+save-unjoined uri_text old files uri_fault.Bad bad = (bad refl, refl, refl)
+save-unjoined uri_text old files uri_fault.NoMemory bad = inl (refl, refl)
 
 -- the files refuse what is asked of them
 abbrev IsCounted : FileFault → FilesState → FilesState → Type 0

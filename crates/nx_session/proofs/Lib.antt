@@ -1,6 +1,11 @@
+pub mod Carets
 pub mod Edited
 pub mod Filing
 pub mod Holding
+pub mod Pieces
 pub mod Reading
 pub mod Replacing
+pub mod Sessions
+pub mod Tags
 pub mod Using
+pub mod Views

@@ -1,5 +1,5 @@
 -- What is kept of reading a text, and what is found in it.
-use Rattle.std.proofs.Common.{◌≡◌, ℕ, zero, suc, ◌+◌, ◌-◌, ◌<◌, ◌≤◌, List, length, Option, Some, None, option_map, refl, sym, ap, subst, arith, inl, inr}
+use Rattle.std.proofs.Common.{◌≡◌, ℕ, zero, suc, ◌+◌, ◌-◌, List, length, Option, Some, None, option_map, refl, sym, ap, subst, arith, inl, inr}
 use Rattle.std.specs.List.{AllByRecursion}
 use Rattle.std.specs.Prelude.{IfSome}
 use Rattle.std.specs.Str.{IsUtf8}
@@ -17,22 +17,16 @@ use Rattle.nx_scan.proofs.OwnBytes.{cut-own}
 use Rattle.nx_events.specs.Items.{items_of_text}
 use Rattle.nx_events.specs.Texts.{ItemsAreText}
 use Rattle.nx_events.proofs.TextItems.{all_text}
-use Rattle.nx_marks.specs.Frontier.{IsBorder}
-use Rattle.nx_marks.specs.declared.marks.Kept.{Kept}
 use Rattle.nx_recover.specs.Faults.{AreFaultsOf}
 use Rattle.nx_recover.specs.Machine.{later_by}
 use Rattle.nx_recover.specs.RecoverRules.{recover_rules}
 use Rattle.nx_recover.specs.declared.state.RecoverState.{RecoverState}
 use Rattle.nx_recovery.proofs.Along.{recover_gives_faults}
 use Rattle.nx_recovery.proofs.Details.{faults_are_text}
-use Rattle.nx_session.specs.Reading.{grammar_of, followed, IsReadRight}
+use Rattle.nx_session.specs.Reading.{grammar_of, followed}
 use Rattle.rng_core.specs.Meaning.{language_of}
 use Rattle.rng_core.specs.Patterns.{Language}
 use Rattle.rng_kept.specs.Live.{IsLive}
-
--- what is right reaches a border of the text's tokens
-pub border_of : (text : List ℕ) (matcher : Option Plain) (kept : Kept (RecoverState (List OneWay))) → IsReadRight text matcher kept → IsBorder text kept.at
-border_of text matcher kept right = record { tokens = right.tokens; cuts = right.cuts }
 
 -- ---- reading leaves the schema
 

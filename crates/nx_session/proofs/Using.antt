@@ -1,18 +1,16 @@
 -- Schemas that are used, and refused.
 use Rattle.std.proofs.Common.{◌≡◌, ℕ, List, Option, Some, Result, Ok, Err, refl, ap, subst, inl, inr}
-use Rattle.nx_base.specs.declared.cause.Cause.{Cause}
 use Rattle.nx_host.specs.Files.{FileMap}
 use Rattle.nx_host.specs.Uri.{Joins, IsBadUri}
 use Rattle.nx_host.specs.declared.uri.UriFault.{UriFault}
 use Rattle.nx_host.specs.declared.uri.UriFault.TheVariants as uri_fault
-use Rattle.nx_script.specs.Replies.{RefusalIsText, reply_of, refusal_of_uri}
+use Rattle.nx_script.specs.Replies.{RefusalIsText, refusal_of_uri}
 use Rattle.nx_script.specs.declared.reply.Reply.{Reply}
-use Rattle.nx_script.specs.declared.reply.Reply.TheVariants.{Silent, Printed, Errors, Frontier, Taken, Refused}
+use Rattle.nx_script.specs.declared.reply.Reply.TheVariants.{Silent, Printed, Errors, Frontier, Taken, Located, Offered, Caret, Stay, Position, Shown, Refused}
 use Rattle.nx_script.specs.declared.reply.Refusal.{Refusal}
-use Rattle.nx_script.specs.declared.reply.Refusal.TheVariants.{BadCommand, BadPosition, BadUri, Absent, NotUtf8, Unreadable, Failed, NoMemory}
+use Rattle.nx_script.specs.declared.reply.Refusal.TheVariants.{BadCommand, BadPosition, BadUri, Absent, NotUtf8, Unreadable, BadRules, NoView, Failed, NoMemory}
 use Rattle.nx_session.specs.Editor.{EditorState, FilesState, work_folder, with_schema}
-use Rattle.nx_session.specs.Schemas.{IsUnusable, UsesGrammar, Defines, GivesNoSchema, GivesSchema, IsRefusedFor, SchemaAnswers, IsRefusedSchema, SchemaFileStep, HoldStep}
-use Rattle.nx_session.proofs.Filing.{same-files}
+use Rattle.nx_session.specs.Schemas.{UsesGrammar, Defines, GivesSchema, SchemaAnswers, IsRefusedSchema, SchemaFileStep, HoldStep}
 use Rattle.rng_core.specs.declared.grammar.Grammar.{Grammar}
 use Rattle.rng_live.specs.declared.schema.Schema.{Schema}
 
@@ -26,6 +24,8 @@ use_answers told uri before after whole (Err BadCommand) defined same h = absurd
 use_answers told uri before after whole (Err (BadPosition at len)) defined same h = absurd h
 use_answers told uri before after whole (Err BadUri) defined same h = absurd h
 use_answers told uri before after whole (Err (Absent absent)) defined same h = absurd h
+use_answers told uri before after whole (Err (BadRules fault)) defined same h = absurd h
+use_answers told uri before after whole (Err (NoView index)) defined same h = absurd h
 use_answers told uri before after whole (Err (NotUtf8 wrong at)) defined same h = absurd h
 use_answers told uri before after whole (Err Failed) defined same h = absurd h
 
@@ -37,6 +37,8 @@ use_text whole BadCommand h = absurd h
 use_text whole (BadPosition at len) h = absurd h
 use_text whole BadUri h = absurd h
 use_text whole (Absent absent) h = absurd h
+use_text whole (BadRules fault) h = absurd h
+use_text whole (NoView index) h = absurd h
 use_text whole (NotUtf8 wrong at) h = absurd h
 use_text whole Failed h = absurd h
 
@@ -57,10 +59,18 @@ unheld uri_text uri schema left old new before after (Printed text) joined gives
 unheld uri_text uri schema left old new before after (Errors faults) joined gives same is h = absurd h
 unheld uri_text uri schema left old new before after (Frontier at len) joined gives same is h = absurd h
 unheld uri_text uri schema left old new before after (Taken taken) joined gives same is h = absurd h
+unheld uri_text uri schema left old new before after (Located located) joined gives same is h = absurd h
+unheld uri_text uri schema left old new before after (Offered offers) joined gives same is h = absurd h
+unheld uri_text uri schema left old new before after (Caret at) joined gives same is h = absurd h
+unheld uri_text uri schema left old new before after Stay joined gives same is h = absurd h
+unheld uri_text uri schema left old new before after (Position row column) joined gives same is h = absurd h
+unheld uri_text uri schema left old new before after (Shown index faults) joined gives same is h = absurd h
 unheld uri_text uri schema left old new before after (Refused BadCommand) joined gives same is h = absurd h
 unheld uri_text uri schema left old new before after (Refused (BadPosition at len)) joined gives same is h = absurd h
 unheld uri_text uri schema left old new before after (Refused BadUri) joined gives same is h = absurd h
 unheld uri_text uri schema left old new before after (Refused (Absent absent)) joined gives same is h = absurd h
+unheld uri_text uri schema left old new before after (Refused (BadRules fault)) joined gives same is h = absurd h
+unheld uri_text uri schema left old new before after (Refused (NoView index)) joined gives same is h = absurd h
 unheld uri_text uri schema left old new before after (Refused (NotUtf8 wrong at)) joined gives same is h = absurd h
 unheld uri_text uri schema left old new before after (Refused (Unreadable why)) joined gives same is h = absurd h
 unheld uri_text uri schema left old new before after (Refused Failed) joined gives same is h = absurd h

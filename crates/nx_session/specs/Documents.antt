@@ -8,6 +8,7 @@ use Rattle.nx_script.specs.declared.reply.Reply.{Reply}
 use Rattle.nx_script.specs.declared.reply.Reply.TheVariants.{Silent, Refused}
 use Rattle.nx_script.specs.declared.reply.Refusal.TheVariants.{BadUri, Absent, NotUtf8, Failed, NoMemory}
 use Rattle.nx_session.specs.Editor.{EditorState, FilesState, work_folder, opened}
+use Rattle.nx_session.specs.LargeDocuments.{large_document}
 
 -- what is under the URI that the text denotes, where the files tell it
 abbrev pub Finds : List ℕ → List ℕ → FilesState → Option (List ℕ) → Type 0
@@ -53,3 +54,9 @@ SaveStep uri_text old before (Refused NoMemory) new after =
     ⊎ ((uri : List ℕ) × Joins work_folder uri_text uri × (new ≡ old)
     × LeavesOthers before.map uri after.map × (after.faults ≡ before.faults))
 SaveStep uri_text old before reply new after = ⊥
+
+-- the text is the large document that the two numbers make, from now on, and the caret stands before it
+abbrev pub MakeStep : ℕ → ℕ → EditorState → Reply → EditorState → Type 0
+MakeStep seed pieces old Silent new = new ≡ opened old old.document (large_document seed pieces)
+MakeStep seed pieces old (Refused NoMemory) new = new ≡ old
+MakeStep seed pieces old reply new = ⊥

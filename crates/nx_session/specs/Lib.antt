@@ -2,7 +2,10 @@ pub mod Documents
 pub mod Editing
 pub mod Editor
 pub mod Faults
+pub mod LargeDocuments
+pub mod Moving
 pub mod Step
 pub mod Validating
 pub mod Reading
 pub mod Schemas
+pub mod Viewing

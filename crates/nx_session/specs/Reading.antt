@@ -4,10 +4,11 @@ use Rattle.deriv_plain.specs.Order.{IsState}
 use Rattle.deriv_plain.specs.Ways.{residual_of}
 use Rattle.deriv_plain.specs.declared.plain.Plain.{Plain}
 use Rattle.deriv_plain.specs.declared.ways.OneWay.{OneWay}
+use Rattle.nx_base.specs.Text.{IsPlace}
 use Rattle.nx_recover.specs.Machine.{state_by, means_by, rules_by}
 use Rattle.nx_recover.specs.declared.state.RecoverState.{RecoverState}
+use Rattle.nx_marks.specs.Chain.{Kept}
 use Rattle.nx_marks.specs.Right.{IsRight}
-use Rattle.nx_marks.specs.declared.marks.Kept.{Kept}
 use Rattle.rng_core.specs.Patterns.{Language}
 use Rattle.rng_core.specs.declared.grammar.Grammar.{Grammar}
 use Rattle.rng_kept.specs.Live.{IsLive}
@@ -26,7 +27,12 @@ IsReadRight text matcher kept = IsRight (state_by (λ (plain : Plain) ways. IsSt
     (means_by (λ (plain : Plain) ways. residual_of ways) matcher)
     (rules_by (λ (plain : Plain). schema_language plain.schema) matcher) text kept
 
--- between two commands it is, and the grammar is live
+-- and the grammar is live
 pub record IsWellKept (text : List ℕ) (matcher : Option Plain) (kept : Kept (RecoverState (List OneWay))) : Type 0 where
   pub read : IsReadRight text matcher kept
   pub live : IfSome (followed matcher) IsLive
+
+-- so it is between two commands, and the caret stands at a place
+pub record IsKept (text : List ℕ) (caret : ℕ) (matcher : Option Plain) (kept : Kept (RecoverState (List OneWay))) : Type 0 where
+  pub well : IsWellKept text matcher kept
+  pub place : IsPlace text caret

@@ -10,9 +10,8 @@
 //! before.
 #![tactic(auto)]
 
+mod large_document;
 pub mod law;
 pub mod session;
-#[cfg(test)]
-mod tests;
 
 pub use session::Session;

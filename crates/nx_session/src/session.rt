@@ -1,16 +1,19 @@
 //! The editor between two commands: what it holds, and which of its parts carries out a command.
 
-ghost use Rattle.std.specs.Prelude.{◌≡◌, length, is_some, IfOk};
+ghost use Rattle.std.specs.Prelude.{◌≡◌, length, map, is_some, IfOk};
 ghost use Rattle.nx_script.specs.Commands.{HasUtf8Texts};
 ghost use Rattle.nx_script.specs.Replies.{reply_of, ReplyIsText};
 ghost use Rattle.nx_session.specs.Editor.{new_editor, files_state, world};
 ghost use Rattle.nx_session.specs.Step.{Step};
+ghost use Rattle.nx_session.specs.Viewing.{ViewsAreText};
 
 mod documents;
 mod editing;
+mod moving;
 mod reading;
 mod schemas;
 mod validating;
+mod viewing;
 
 use deriv_plain::plain::Plain;
 use nx_base::memory::NoMemory;
@@ -22,6 +25,7 @@ use nx_recover::recover::Recover;
 use nx_script::command::Command;
 use nx_script::reply::{Refusal, Reply};
 use nx_text::text::Text;
+use nx_views::view::View;
 use reading::begun;
 use std::alloc::Global;
 use std::marker::Model;
@@ -30,15 +34,17 @@ use std::sync::ledger::Ledger;
 /// The URI of a document that was opened from nowhere.
 const UNTITLED: &str = "file:///work/untitled.xml";
 
-/// An editor. To a contract it is its text, its caret, its document's URI, the grammar that the document is held against, how far
-/// the text is read, and how many tokens the last command took that read it.
+/// An editor. To a contract it is its text, its caret, its document's URI, the grammar that the document is held against, the URI
+/// text of the rules by which schemas are located, how far the text is read, and how many tokens the last command took that read it.
 #[derive(Drop)]
 pub struct Session {
     alloc: Global,
     text: Text,
-    /// A byte offset of the text.
+    /// A place of the text, as a byte offset.
     caret: usize,
     document: Bytes,
+    /// The URI text of the rules by which schemas are located.
+    rules: Option<Bytes>,
     /// Reads the text for its faults.
     machine: Recover<Plain>,
     /// How far it has read.
@@ -47,7 +53,9 @@ pub struct Session {
 
 impl Model for Session {
     ghost use Rattle.nx_session.specs.Editor.{EditorState};
-    ghost use Rattle.nx_session.specs.Reading.{grammar_of, IsWellKept};
+    ghost use Rattle.std.specs.Prelude.{IfSome, IsUtf8};
+    ghost use Rattle.nx_marks.specs.Chain.{frontier_of};
+    ghost use Rattle.nx_session.specs.Reading.{grammar_of, IsWellKept, IsKept};
     ghost use Rattle.rng_core.specs.contracts.grammar.Pat as pat;
     ghost use Rattle.rng_core.specs.contracts.name_class.NameClass as class;
     ghost use Rattle.std.specs.Coded.{codes};
@@ -61,17 +69,18 @@ impl Model for Session {
       caret = s.caret;
       document = s.document;
       schema = grammar_of s.machine.matcher;
-      frontier = s.marks.kept.at;
+      rules = s.rules;
+      frontier = frontier_of s.marks.kept;
       taken = s.marks.taken;
     } };
 
-    ghost invariant = { λ s. IsWellKept s.text s.machine.matcher s.marks.kept };
+    ghost invariant = { λ s. IsKept s.text s.caret s.machine.matcher s.marks.kept };
 }
 
 impl Session {
-    /// An editor of the empty text.
-    pub fn new(alloc: Global) -> Result<Session, NoMemory>
-        ensures { IfOk result (λ session. session ≡ new_editor) }
+    /// An editor of the empty text, which is given the URI text of the rules by which schemas are located, or none.
+    pub fn new(alloc: Global, rules: Option<Bytes>) -> Result<Session, NoMemory>
+        ensures { IfOk result (λ session. session ≡ new_editor rules) }
     {
         let document = Bytes::from_vec(Vec::from_slice(alloc, UNTITLED.as_bytes())?);
         let mut machine = Recover::new(None);
@@ -81,6 +90,7 @@ impl Session {
             text: Text::new(alloc),
             caret: 0,
             document,
+            rules,
             machine,
             marks,
         })
@@ -107,19 +117,21 @@ impl Session {
         self.machine.matcher.is_some()
     }
 
-    /// One step of the editor. A refused command leaves the text, the caret, the document's URI and the schema.
+    /// One step of the editor. A refused command leaves the text, the caret, the document's URI, the schema and the rules.
     pub fn apply<F: Files, L: Ledger>(
         &mut self,
         command: &Command,
         files: &mut F,
+        views: &mut Vec<Box<dyn View>>,
         steps: &mut Steps<L>,
     ) -> Reply
         requires { HasUtf8Texts command.now }
-        ensures step { Step (world self.old (files_state (F.told files.old) (F.faults files.old)) steps.old) command.now result
-            (world self.new (files_state (F.told files.new) (F.faults files.new)) steps.new) }
-        ensures text { ReplyIsText result }
+        ensures step { Step (world self.old (files_state (F.told files.old) (F.faults files.old)) (map (λ b. state b) views.old.items) steps.old) command.now result
+            (world self.new (files_state (F.told files.new) (F.faults files.new)) (map (λ b. state b) views.new.items) steps.new) }
+        ensures text { ViewsAreText (map (λ b. state b) views.old.items) → ReplyIsText result }
+        ensures views { ViewsAreText (map (λ b. state b) views.old.items) → ViewsAreText (map (λ b. state b) views.new.items) }
     {
-        match self.answer(command, files, steps) {
+        match self.answer(command, files, views, steps) {
             Ok(reply) => reply,
             Err(cause) => Reply::Refused(cause),
         }
@@ -130,25 +142,35 @@ impl Session {
         &mut self,
         command: &Command,
         files: &mut F,
+        views: &mut Vec<Box<dyn View>>,
         steps: &mut Steps<L>,
     ) -> Result<Reply, Refusal>
         requires { HasUtf8Texts command.now }
-        ensures step { Step (world self.old (files_state (F.told files.old) (F.faults files.old)) steps.old) command.now
-            (reply_of result) (world self.new (files_state (F.told files.new) (F.faults files.new)) steps.new) }
-        ensures text { ReplyIsText (reply_of result) }
+        ensures step { Step (world self.old (files_state (F.told files.old) (F.faults files.old)) (map (λ b. state b) views.old.items) steps.old) command.now
+            (reply_of result) (world self.new (files_state (F.told files.new) (F.faults files.new)) (map (λ b. state b) views.new.items) steps.new) }
+        ensures text { ViewsAreText (map (λ b. state b) views.old.items) → ReplyIsText (reply_of result) }
+        ensures views { ViewsAreText (map (λ b. state b) views.old.items) → ViewsAreText (map (λ b. state b) views.new.items) }
     {
         match command {
             Command::Nothing => Ok(Reply::Silent),
-            Command::OpenFile(uri) => self.open_file(uri, files),
+            Command::OpenFile(uri) => self.open_file(uri, files, views),
             Command::Save(uri) => self.save(uri, files),
-            Command::Insert(at, added) => self.insert(*at, added),
-            Command::Delete(from, to) => self.delete(*from, *to),
+            Command::Insert(at, added) => self.insert(*at, added, views),
+            Command::Delete(from, to) => self.delete(*from, *to, views),
             Command::Print => self.print(),
-            Command::Errors => self.errors(steps),
+            Command::Errors => self.errors(views, steps),
             Command::Slice(count) => self.slice(*count, steps),
             Command::Stats => Ok(Reply::Taken(self.marks.taken())),
             Command::SchemaFile(uri) => self.hold_schema_file(uri, files),
             Command::SchemaNone => self.hold_schema(None),
+            Command::Goto(at) => self.go_to(*at),
+            Command::Move(way) => self.move_along(*way, steps),
+            Command::Next => self.next(),
+            Command::Previous => self.previous(),
+            Command::Position => self.position(),
+            Command::View(index) => self.show_view(*index, views),
+            Command::Close(index) => self.close_view(*index, views),
+            Command::Make(seed, pieces) => self.make(*seed, *pieces, views),
         }
     }
 }

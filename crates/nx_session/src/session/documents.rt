@@ -1,19 +1,45 @@
 //! Commands on files.
 
-ghost use Rattle.std.specs.Prelude.{◌≡◌, IsUtf8};
+ghost use Rattle.std.specs.Prelude.{◌≡◌, map, IsUtf8, IfOk, string_bytes};
 ghost use Rattle.nx_script.specs.Replies.{reply_of, ReplyIsText};
 ghost use Rattle.nx_session.specs.Editor.{files_state, opened};
-ghost use Rattle.nx_session.specs.Documents.{OpenStep, OpensBytes, SaveStep};
+ghost use Rattle.nx_session.specs.Documents.{OpenStep, OpensBytes, SaveStep, MakeStep};
+ghost use Rattle.nx_session.specs.Viewing.{MovesViews, ViewsAreText, whole_edit};
+ghost use Rattle.nx_session.specs.LargeDocuments.{large_document};
+ghost use Rattle.nx_views.specs.States.{moved_view};
 
 use super::Session;
+use crate::large_document::large_document;
 use nx_base::edit::Edit;
+use nx_base::memory::NoMemory;
 use nx_base::sequence::Bytes;
 use nx_host::files::Files;
 use nx_host::uri::{self, WORK_FOLDER};
 use nx_host::utf8::{text_front, text_of};
 use nx_script::reply::{Refusal, Reply};
 use nx_text::text::Text;
+use nx_views::shift::shift_all;
+use nx_views::view::View;
+use std::alloc::Global;
 use std::str;
+
+/// A text of its own with this content.
+fn text_with(alloc: Global, content: &str) -> Result<Text, NoMemory>
+    ensures { IfOk result (λ text. text ≡ content.now) }
+{
+    let mut text = Text::new(alloc);
+    match text.insert(0, content) {
+        Ok(()) => Ok(text),
+        Err(_) => Err(NoMemory),
+    }
+}
+
+/// The text of the large document of this seed, with so many pieces.
+fn large_text(alloc: Global, seed: u64, pieces: u64) -> Result<Text, NoMemory>
+    ensures { IfOk result (λ text. text ≡ large_document seed pieces) }
+{
+    text_with(alloc, large_document(alloc, seed, pieces)?.as_str())
+}
 
 impl Session {
     /// Edits the text of the file under the URI from now on.
@@ -21,42 +47,65 @@ impl Session {
         &mut self,
         uri_text: &Bytes,
         files: &mut F,
+        views: &mut Vec<Box<dyn View>>,
     ) -> Result<Reply, Refusal>
         requires { IsUtf8 uri_text.now }
         ensures step { OpenStep uri_text.now self.old (files_state (F.told files.old) (F.faults files.old)) (reply_of result)
             self.new (files_state (F.told files.new) (F.faults files.new)) }
+        ensures views { MovesViews (whole_edit self.old self.new) (map (λ b. state b) views.old.items) (reply_of result) (map (λ b. state b) views.new.items) }
+        ensures views_text { ViewsAreText (map (λ b. state b) views.old.items) → ViewsAreText (map (λ b. state b) views.new.items) }
         ensures text { ReplyIsText (reply_of result) }
     {
         let uri = uri::join(self.alloc, WORK_FOLDER, text_of(uri_text))?;
         match files.fetch(self.alloc, text_of(&uri))? {
-            Some(bytes) => self.open_bytes(uri, &bytes),
+            Some(bytes) => self.open_bytes(uri, &bytes, views),
             None => Err(Refusal::Absent(uri)),
         }
     }
 
     /// Takes the bytes for the text, where they are one.
-    fn open_bytes(&mut self, uri: Bytes, bytes: &Bytes) -> Result<Reply, Refusal>
+    fn open_bytes(
+        &mut self,
+        uri: Bytes,
+        bytes: &Bytes,
+        views: &mut Vec<Box<dyn View>>,
+    ) -> Result<Reply, Refusal>
         requires { IsUtf8 uri }
         ensures step { OpensBytes uri bytes.now self.old (reply_of result) self.new }
+        ensures views { MovesViews (whole_edit self.old self.new) (map (λ b. state b) views.old.items) (reply_of result) (map (λ b. state b) views.new.items) }
+        ensures views_text { ViewsAreText (map (λ b. state b) views.old.items) → ViewsAreText (map (λ b. state b) views.new.items) }
         ensures text { ReplyIsText (reply_of result) }
     {
         let Ok(content) = str::from_utf8(bytes.as_slice()) else {
             return Err(Refusal::NotUtf8(uri, text_front(bytes.as_slice())));
         };
-        let mut text = Text::new(self.alloc);
-        match text.insert(0, content) {
-            Ok(()) => {
-                self.show(text);
-                self.document = uri;
-                Ok(Reply::Silent)
-            }
-            Err(_) => Err(Refusal::NoMemory),
-        }
+        let text = text_with(self.alloc, content)?;
+        self.show(text, views);
+        self.document = uri;
+        Ok(Reply::Silent)
+    }
+
+    /// Edits the large document of this seed, with so many pieces, from now on.
+    pub(super) fn make(
+        &mut self,
+        seed: u64,
+        pieces: u64,
+        views: &mut Vec<Box<dyn View>>,
+    ) -> Result<Reply, Refusal>
+        ensures step { MakeStep seed pieces self.old (reply_of result) self.new }
+        ensures views { MovesViews (whole_edit self.old self.new) (map (λ b. state b) views.old.items) (reply_of result) (map (λ b. state b) views.new.items) }
+        ensures views_text { ViewsAreText (map (λ b. state b) views.old.items) → ViewsAreText (map (λ b. state b) views.new.items) }
+        ensures text { ReplyIsText (reply_of result) }
+    {
+        let text = large_text(self.alloc, seed, pieces)?;
+        self.show(text, views);
+        Ok(Reply::Silent)
     }
 
     /// Replaces the whole text.
-    fn show(&mut self, text: Text)
-        ensures { self.new ≡ opened self.old self.old.document text }
+    fn show(&mut self, text: Text, views: &mut Vec<Box<dyn View>>)
+        ensures editor { self.new ≡ opened self.old self.old.document text }
+        ensures views { (map (λ b. state b) views.new.items) ≡ map (moved_view (whole_edit self.old self.new)) (map (λ b. state b) views.old.items) }
     {
         let edit = Edit {
             from: 0,
@@ -66,6 +115,7 @@ impl Session {
         self.marks.edit(&edit);
         self.text = text;
         self.caret = 0;
+        shift_all(views, &edit);
     }
 
     /// Stores the text under the URI.

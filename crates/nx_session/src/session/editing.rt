@@ -1,17 +1,23 @@
 //! Commands on the text alone.
 
-ghost use Rattle.std.specs.Prelude.{◌≡◌, IsUtf8, IfOk};
+ghost use Rattle.std.specs.Prelude.{◌≡◌, [], map, IsUtf8, IfOk};
 ghost use Rattle.nx_script.specs.Replies.{reply_of, ReplyIsText};
-ghost use Rattle.nx_session.specs.Editor.{caret_after};
+ghost use Rattle.nx_session.specs.Editor.{caret_after, edit_of};
 ghost use Rattle.nx_session.specs.Editing.{InsertStep, DeleteStep, PrintStep};
+ghost use Rattle.nx_session.specs.Viewing.{MovesViews, ViewsAreText};
 
 use super::Session;
-use nx_base::edit::{Edit, moved};
+use deriv_plain::plain::Plain;
+use nx_base::edit::{Edit, edited_keeps_rest, moved};
 use nx_base::memory::NoMemory;
 use nx_base::sequence::Bytes;
 use nx_host::utf8::text_of;
+use nx_marks::law::frontier_is_border;
+use nx_recover::recover::Recover;
 use nx_script::reply::{Refusal, Reply};
 use nx_text::text::TextFault;
+use nx_views::shift::shift_all;
+use nx_views::view::View;
 
 /// Where a caret goes with an edit: with the text, but it stays where text is put in at it.
 fn moved_caret(caret: usize, edit: &Edit) -> usize
@@ -26,9 +32,16 @@ fn moved_caret(caret: usize, edit: &Edit) -> usize
 
 impl Session {
     /// Puts the text in at the byte offset.
-    pub(super) fn insert(&mut self, at: u64, added: &Bytes) -> Result<Reply, Refusal>
+    pub(super) fn insert(
+        &mut self,
+        at: u64,
+        added: &Bytes,
+        views: &mut Vec<Box<dyn View>>,
+    ) -> Result<Reply, Refusal>
         requires { IsUtf8 added.now }
         ensures step { InsertStep at added.now self.old (reply_of result) self.new }
+        ensures views { MovesViews (edit_of at at added.now) (map (λ b. state b) views.old.items) (reply_of result) (map (λ b. state b) views.new.items) }
+        ensures views_text { ViewsAreText (map (λ b. state b) views.old.items) → ViewsAreText (map (λ b. state b) views.new.items) }
         ensures text { ReplyIsText (reply_of result) }
     {
         let place = at as usize;
@@ -40,8 +53,12 @@ impl Session {
                     to: place,
                     added: added.len(),
                 };
+                let _new_len = self.text.len();
+                edited_keeps_rest();
+                frontier_is_border::<Recover<Plain>>();
                 self.marks.edit(&edit);
                 self.caret = moved_caret(self.caret, &edit);
+                shift_all(views, &edit);
                 Ok(Reply::Silent)
             }
             Err(TextFault::BadPosition { at: _, len }) => Err(Refusal::BadPosition { at, len }),
@@ -50,8 +67,15 @@ impl Session {
     }
 
     /// Takes the bytes from the first offset to the second away.
-    pub(super) fn delete(&mut self, from: u64, to: u64) -> Result<Reply, Refusal>
+    pub(super) fn delete(
+        &mut self,
+        from: u64,
+        to: u64,
+        views: &mut Vec<Box<dyn View>>,
+    ) -> Result<Reply, Refusal>
         ensures step { DeleteStep from to self.old (reply_of result) self.new }
+        ensures views { MovesViews (edit_of from to []) (map (λ b. state b) views.old.items) (reply_of result) (map (λ b. state b) views.new.items) }
+        ensures views_text { ViewsAreText (map (λ b. state b) views.old.items) → ViewsAreText (map (λ b. state b) views.new.items) }
         ensures text { ReplyIsText (reply_of result) }
     {
         let (from, to) = (from as usize, to as usize);
@@ -59,8 +83,12 @@ impl Session {
         match self.text.delete(from, to) {
             Ok(()) => {
                 let edit = Edit { from, to, added: 0 };
+                let _new_len = self.text.len();
+                edited_keeps_rest();
+                frontier_is_border::<Recover<Plain>>();
                 self.marks.edit(&edit);
                 self.caret = moved_caret(self.caret, &edit);
+                shift_all(views, &edit);
                 Ok(Reply::Silent)
             }
             Err(TextFault::BadPosition { at, len }) => Err(Refusal::BadPosition {

@@ -3,7 +3,8 @@
 ghost use Rattle.std.specs.Prelude.{◌≡◌, ◌⊎◌, ℕ, ◌+◌, ◌≤◌, List, length, option_map, IsUtf8, IfOk, IfSome, OnOk};
 ghost use Rattle.std.specs.List.{AllByRecursion};
 ghost use Rattle.nx_base.specs.declared.fault.Fault.{Fault};
-ghost use Rattle.nx_marks.specs.Frontier.{MovesOver};
+ghost use Rattle.nx_marks.specs.Chain.{frontier_of};
+ghost use Rattle.nx_marks.specs.Frontier.{IsBorder, MovesOver};
 ghost use Rattle.nx_recover.specs.Faults.{AreFaultsOf};
 ghost use Rattle.nx_session.specs.Reading.{grammar_of, followed, IsWellKept};
 ghost use Rattle.rng_core.specs.Meaning.{language_of};
@@ -13,7 +14,7 @@ use deriv_plain::plain::Plain;
 use nx_base::fault::Faults;
 use nx_base::memory::NoMemory;
 use nx_base::steps::Steps;
-use nx_marks::law::later_machines_keep_it_right;
+use nx_marks::law::{frontier_is_border, later_machines_keep_it_right};
 use nx_marks::marks::Marks;
 use nx_recover::recover::Recover;
 use nx_text::text::Text;
@@ -28,7 +29,7 @@ pub(super) fn begun(
     requires { IfSome (followed machine.old.matcher) IsLive }
     ensures well { IfOk result (λ marks. (text : List ℕ) → IsUtf8 text → IsWellKept text machine.new.matcher marks.kept) }
     ensures grammar { grammar_of machine.new.matcher ≡ grammar_of machine.old.matcher }
-    ensures frontier { IfOk result (λ marks. marks.kept.at ≡ 0) }
+    ensures frontier { IfOk result (λ marks. frontier_of marks.kept ≡ 0) }
     ensures taken { IfOk result (λ marks. marks.taken ≡ 0) }
 {
     let marks = Marks::new(alloc, machine)?;
@@ -46,10 +47,13 @@ pub(super) fn caught_up<L: Ledger>(
     ensures well { IsWellKept text.now machine.new.matcher marks.new.kept }
     ensures grammar { grammar_of machine.new.matcher ≡ grammar_of machine.old.matcher }
     ensures steps { steps.new ≡ steps.old + marks.new.taken }
-    ensures frontier { marks.old.kept.at ≤ marks.new.kept.at }
-    ensures on { OnOk result (MovesOver text.now marks.old.kept.at marks.new.taken marks.new.kept.at) }
-    ensures all { OnOk result (marks.new.kept.at ≡ length text.now) }
+    ensures frontier { frontier_of marks.old.kept ≤ frontier_of marks.new.kept }
+    ensures on { OnOk result (MovesOver text.now (frontier_of marks.old.kept) marks.new.taken (frontier_of marks.new.kept)) }
+    ensures all { OnOk result (frontier_of marks.new.kept ≡ length text.now) }
+    ensures border { IsBorder text.now (frontier_of marks.new.kept) }
 {
+    frontier_is_border::<Recover<Plain>>();
+    let _len = text.len();
     marks.catch_up(machine, text, steps)
 }
 
@@ -66,10 +70,13 @@ pub(super) fn sliced<L: Ledger>(
     ensures grammar { grammar_of machine.new.matcher ≡ grammar_of machine.old.matcher }
     ensures steps { steps.new ≡ steps.old + marks.new.taken }
     ensures most { marks.new.taken ≤ count }
-    ensures frontier { marks.old.kept.at ≤ marks.new.kept.at }
-    ensures on { OnOk result (MovesOver text.now marks.old.kept.at marks.new.taken marks.new.kept.at) }
-    ensures enough { OnOk result ((marks.new.taken ≡ count) ⊎ (marks.new.kept.at ≡ length text.now)) }
+    ensures frontier { frontier_of marks.old.kept ≤ frontier_of marks.new.kept }
+    ensures on { OnOk result (MovesOver text.now (frontier_of marks.old.kept) marks.new.taken (frontier_of marks.new.kept)) }
+    ensures enough { OnOk result ((marks.new.taken ≡ count) ⊎ (frontier_of marks.new.kept ≡ length text.now)) }
+    ensures border { IsBorder text.now (frontier_of marks.new.kept) }
 {
+    frontier_is_border::<Recover<Plain>>();
+    let _len = text.len();
     marks.slice(machine, text, count, steps)
 }
 
@@ -80,7 +87,7 @@ pub(super) fn found(
     text: &Text,
 ) -> Result<Faults, NoMemory>
     requires well { IsWellKept text.now machine.old.matcher marks.now.kept }
-    requires all { marks.now.kept.at ≡ length text.now }
+    requires all { frontier_of marks.now.kept ≡ length text.now }
     ensures well { IsWellKept text.now machine.new.matcher marks.now.kept }
     ensures grammar { grammar_of machine.new.matcher ≡ grammar_of machine.old.matcher }
     ensures faults { IfOk result (AreFaultsOf (option_map language_of (grammar_of machine.old.matcher)) text.now) }

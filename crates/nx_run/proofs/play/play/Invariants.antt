@@ -1,4 +1,4 @@
-use Rattle.std.proofs.Common.{length}
+use Rattle.std.proofs.Common.{length, map}
 use denote.Shadow.{shadow}
 use denote.Text.{Utf8}
 use Rattle.nx_session.specs.Editor.{files_state}
@@ -12,7 +12,8 @@ invariant-loop-rest g l =
     let f = g.F.Files in
     let o = g.O.Out in
     shadow (Utf8 l.rest)
-    × IsPlaying l.script (surroundings (files_state (f.told l.fn.files) (f.faults l.fn.files)) l.fn.steps) (surroundings (files_state (f.told l.files) (f.faults l.files)) l.steps)
+    × IsPlaying l.script (surroundings (files_state (f.told l.fn.files) (f.faults l.fn.files)) (map (λ b. (goal.View-dyn g (b.vtable, b.value)).state b.value) l.fn.views.items) l.fn.steps)
+    (surroundings (files_state (f.told l.files) (f.faults l.files)) (map (λ b. (goal.View-dyn g (b.vtable, b.value)).state b.value) l.views.items) l.steps)
     (out_state (o.told l.fn.out) (o.faults l.fn.out)) (out_state (o.told l.out) (o.faults l.out))
     l.session l.number l.rest l.tally.memory l.tally.refusal
 

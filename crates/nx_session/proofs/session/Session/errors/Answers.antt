@@ -1,7 +1,9 @@
 use Rattle.std.proofs.Common.{◌≡◌, ◌∙◌, Option, option_map, subst}
+use Rattle.nx_marks.specs.Chain.{frontier_of}
 use Rattle.nx_recover.specs.Faults.{AreFaultsOf}
 use Rattle.nx_session.specs.Reading.{grammar_of}
 use Rattle.nx_session.proofs.Holding.{reads_on}
+use Rattle.nx_session.proofs.Views.{refreshed_text, starved_text}
 use Rattle.nx_session.proofs.session.Session.errors.Goals as goal
 use Rattle.rng_core.specs.Meaning.{language_of}
 use Rattle.rng_core.specs.declared.grammar.Grammar.{Grammar}
@@ -14,6 +16,12 @@ returns-clause-step g c =
       subst P was c.in_ok-faults.ensures.faults,
       c.in_ok-caught_up.ensures.all,
       c.in_ok-caught_up.ensures.on,
-      reads_on _ _ _ (grammar_of c.found.new.machine.matcher) c.caught_up.new.machine.matcher c.caught_up.new.marks.kept c.caught_up.new.marks.taken
-          c.caught_up.ensures.well.read (c.found.ensures.grammar ∙ was) c.caught_up.ensures.frontier c.caught_up.ensures.steps,
+      reads_on _ _ _ (grammar_of c.found.new.machine.matcher) (frontier_of c.caught_up.new.marks.kept) c.caught_up.new.marks.taken
+          c.caught_up.ensures.border (c.found.ensures.grammar ∙ was) c.caught_up.ensures.frontier c.caught_up.ensures.steps,
     )
+
+pub returns-clause-views_text : goal.returns-clause-views_text
+returns-clause-views_text g c = λ h. refreshed_text c.in_ok-faults.faults _ _ c.in_ok-refresh.ensures.ok c.in_ok-faults.ensures.text
+
+pub returns-in_err-refresh-clause-views_text : goal.returns-in_err-refresh-clause-views_text
+returns-in_err-refresh-clause-views_text g c = λ h. starved_text c.in_ok-faults.faults _ _ c.in_err-refresh.ensures.err c.in_ok-faults.ensures.text h

@@ -1,12 +1,14 @@
 use Rattle.std.proofs.Common.{◌∙◌, ap}
+use Rattle.nx_marks.specs.Chain.{frontier_of}
 use Rattle.nx_session.specs.Reading.{grammar_of}
 use Rattle.nx_session.proofs.Holding.{begun_anew}
+use Rattle.nx_session.proofs.Sessions.{seen}
 use Rattle.nx_session.proofs.session.Session.hold_schema.Goals as goal
 
 pub invariant_of-self : goal.invariant_of-self
-invariant_of-self c = c.in_ok-marks.ensures.well c.self.inside.text c.len-len.ensures.utf8
+invariant_of-self c = record { well = c.in_ok-marks.ensures.well c.self.inside.text c.len-len.ensures.utf8; place = c.self.invariant.place }
 
 pub returns-clause-step : goal.returns-clause-step
 returns-clause-step c =
-    rw (← c.self.view_is) (begun_anew (record { text = c.self.inside.text; caret = c.self.inside.caret; document = c.self.inside.document; schema = grammar_of c.self.inside.machine.matcher; frontier = c.self.inside.marks.kept.at; taken = c.self.inside.marks.taken }) (grammar_of c.begun.new.machine.matcher) (grammar_of c.args.matcher) c.in_ok-marks.marks.kept.at c.in_ok-marks.marks.taken
+    rw (← c.self.view_is) (begun_anew (seen c.self.inside.text c.self.inside.caret c.self.inside.document c.self.inside.machine.matcher c.self.inside.rules (frontier_of c.self.inside.marks.kept) c.self.inside.marks.taken) (grammar_of c.begun.new.machine.matcher) (grammar_of c.args.matcher) (frontier_of c.in_ok-marks.marks.kept) c.in_ok-marks.marks.taken
     (c.begun.ensures.grammar ∙ ap grammar_of c.new-machine.ensures) c.in_ok-marks.ensures.frontier c.in_ok-marks.ensures.taken)

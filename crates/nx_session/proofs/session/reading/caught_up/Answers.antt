@@ -9,3 +9,6 @@ returns-clause-well g c = record {
 
 pub returns-clause-grammar : goal.returns-clause-grammar
 returns-clause-grammar g c = later_grammar c.args.machine.now.matcher c.catch_up.new.machine.matcher c.catch_up.ensures.later
+
+pub returns-clause-border : goal.returns-clause-border
+returns-clause-border g c = c.frontier_is_border.ensures c.catch_up.new.machine c.args.text.now c.catch_up.new.self.kept c.len-len.ensures.utf8 c.catch_up.ensures.right

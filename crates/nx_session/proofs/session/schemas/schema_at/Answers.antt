@@ -1,4 +1,4 @@
-use Rattle.nx_session.proofs.Using.{use_answers, use_text}
+use Rattle.nx_session.proofs.Using.{use_answers}
 use Rattle.nx_session.proofs.session.schemas.schema_at.Goals as goal
 
 pub returns-in-Ok-clause-answers : goal.returns-in-Ok-clause-answers

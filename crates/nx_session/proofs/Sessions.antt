@@ -1,0 +1,17 @@
+-- A session as an editor.
+use Rattle.std.proofs.Common.{ℕ, List, Option}
+use Rattle.nx_session.specs.Editor.{EditorState}
+use Rattle.nx_session.specs.Reading.{grammar_of}
+use Rattle.deriv_plain.specs.declared.plain.Plain.{Plain}
+
+-- the editor of these parts
+abbrev pub seen : List ℕ → ℕ → List ℕ → Option Plain → Option (List ℕ) → ℕ → ℕ → EditorState
+seen text caret document matcher rules frontier taken = record {
+  text = text;
+  caret = caret;
+  document = document;
+  schema = grammar_of matcher;
+  rules = rules;
+  frontier = frontier;
+  taken = taken;
+}

@@ -1,0 +1,78 @@
+//! A session by its own calls; what its commands reply is tested by whole runs.
+
+ghost use Rattle.std.specs.Prelude.{◌≡◌, ◌<◌};
+
+use nx_base::steps::Steps;
+use nx_host::memory_files::SureFiles;
+use nx_script::read::read_line;
+use nx_session::session::Session;
+use nx_views::pane::FaultPane;
+use nx_views::view::View;
+use std::alloc::Global;
+use std::marker::Brand;
+use std::process::Abort;
+use std::sync::ledger::{Blank, Ledger};
+use std::test::Fail;
+
+/// Lines, how long the text is behind each, where the caret is, and whether a schema is held.
+const LINES: [(&str, usize, usize, bool); 29] = [
+    ("insert 0 \"é<b>\"", 5, 0, false),
+    ("slice 1", 5, 0, false),
+    ("goto 3", 5, 3, false),
+    ("goto 1", 5, 3, false),
+    ("goto 6", 5, 3, false),
+    ("delete 2 3", 4, 2, false),
+    ("stats", 4, 2, false),
+    ("errors", 4, 2, false),
+    ("where", 4, 2, false),
+    ("previous", 4, 0, false),
+    ("previous", 4, 0, false),
+    ("next", 4, 2, false),
+    ("insert 2 \"é\"", 6, 2, false),
+    ("insert 0 \"é\"", 8, 4, false),
+    ("goto 8", 8, 8, false),
+    ("next", 8, 8, false),
+    ("delete 2 6", 4, 4, false),
+    ("view 0", 4, 4, false),
+    ("close 0", 4, 4, false),
+    ("close 1", 4, 4, false),
+    ("open \"d.xml\"", 5, 0, false),
+    ("next", 5, 1, false),
+    ("open \"none.xml\"", 5, 1, false),
+    ("schema \"d.rnc\"", 5, 1, true),
+    ("errors", 5, 1, true),
+    ("schema \"d.xml\"", 5, 1, true),
+    ("make 7 1", 76, 0, true),
+    ("schema none", 76, 0, false),
+    ("# nothing", 76, 0, false),
+];
+
+fn plays<R: Abort, L: Ledger>(rt: &R, alloc: Global, blank: Blank) -> Result<(), Fail>
+    requires name { blank.name ≡ L.name }
+    requires parts { blank.parts ≡ L.parts }
+    requires some { 0 < L.parts }
+{
+    let mut steps = Steps::<L>::new(blank);
+    let mut files = SureFiles::new(alloc);
+    files.add("file:///work/d.xml", b"<d/>\n")?;
+    files.add("file:///work/d.rnc", b"element d { empty }")?;
+    let mut views: Vec<Box<dyn View>> = Vec::new(alloc);
+    views.push(Box::new(alloc, FaultPane::new(alloc))?)?;
+    let mut session = Session::new(alloc, None)?;
+    for (line, len, caret, has_schema) in &LINES {
+        let command = read_line(alloc, *line)?;
+        session.apply(&command, &mut files, &mut views, &mut steps);
+        assert_eq!(rt;
+            (session.len(), session.caret()),
+            (*len, *caret),
+            "behind {line}"
+        );
+        assert_eq!(rt; session.has_schema(), *has_schema, "behind {line}");
+    }
+    Ok(())
+}
+
+#[test]
+fn sessions_keep_a_text_and_a_caret(rt: HostRuntime) -> Result<(), Fail> {
+    plays::<_, Brand>(&rt, rt.alloc(), Blank::new(1))
+}
