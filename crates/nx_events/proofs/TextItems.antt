@@ -255,7 +255,7 @@ attributes_items_text scope kept (x ∷ xs) s h =
     by_result (Flawed flaw) k = (k, tt)
 
 -- runs
-run_text : (at : ℕ) (run : Option Run) → RunIsText run → ItemsAreText (run_items at run)
+pub run_text : (at : ℕ) (run : Option Run) → RunIsText run → ItemsAreText (run_items at run)
 unfolding run_items
 run_text at None h = tt
 run_text at (Some run) h = either_is ItemsAreText (length run.string == 0) [] _ tt (h, tt)
@@ -282,7 +282,7 @@ module _ (state : EventState) (token : Token) (u : IsUtf8 token.bytes) (h : Stat
   own_text v =
       all_both BindingIsText state.scope (own_bindings token) h.scope (bindings_text [] (tag_attributes token.from token.bytes) (tag_text token.from token.bytes v))
 
-  start_text : IsUtf8 (drop 1 token.bytes) → ItemsAreText (start_items state token)
+  pub start_text : IsUtf8 (drop 1 token.bytes) → ItemsAreText (start_items state token)
   unfolding start_items
   start_text v =
       let attributes = tag_attributes token.from token.bytes in

@@ -4,6 +4,11 @@ pub mod Frames
 pub mod Outcomes
 pub mod Nesting
 pub mod Faults
+pub mod Behind
+-- ---- what a place is offered
+pub mod Offered
+pub mod Offers
+pub mod Completing
 -- ---- the same over residuals, which a matcher computes
 pub mod Required
 pub mod Table

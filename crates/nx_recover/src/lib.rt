@@ -16,6 +16,7 @@
 //! states. What a token changes is kept aside and put in place last, so a step is all or nothing (`step`).
 #![tactic(auto)]
 
+pub mod ahead;
 mod along;
 mod detail;
 mod event;

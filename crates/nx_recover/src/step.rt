@@ -53,8 +53,8 @@ fn pass_with(
     }
 }
 
-// Room for what is new.
-fn make_room<S: Drop>(levels: &mut Levels<S>, change: &Change<S>) -> Result<(), NoMemory>
+/// Room for what is new.
+pub fn make_room<S: Drop>(levels: &mut Levels<S>, change: &Change<S>) -> Result<(), NoMemory>
     ensures view { view_of levels.new ≡ view_of levels.old }
     ensures room { OnOk result (HasRoom levels.new change.now) }
 {
@@ -62,8 +62,8 @@ fn make_room<S: Drop>(levels: &mut Levels<S>, change: &Change<S>) -> Result<(), 
     Ok(())
 }
 
-// The changed levels, in room that there is.
-fn put<S: Drop>(levels: &mut Levels<S>, change: Change<S>)
+/// The changed levels, in room that there is.
+pub fn put<S: Drop>(levels: &mut Levels<S>, change: Change<S>)
     requires { HasRoom levels.old change }
     ensures { view_of levels.new ≡ changed levels.old change }
 {

@@ -69,7 +69,7 @@ rules_fold g text utf8 =
 
 -- ---- the levels behind tokens
 
-levels_append : (g : Option Language) (l : Form) (xs ys : List Item) → levels_behind g l (xs ++ ys) ≡ levels_behind g (levels_behind g l xs) ys
+pub levels_append : (g : Option Language) (l : Form) (xs ys : List Item) → levels_behind g l (xs ++ ys) ≡ levels_behind g (levels_behind g l xs) ys
 unfolding form_along
 levels_append None l xs ys = refl
 levels_append (Some g) l [] ys = refl

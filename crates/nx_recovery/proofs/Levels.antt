@@ -128,7 +128,7 @@ moved_behind : {g : Language} {here other last : Option Frame} {os others around
 moved_behind {g = g} {other = other} {last = last} {os = os} {around = around} {all = all} e f b =
     subst (λ (l : List (Open Frame)). LevelsBehind g other l all last around) f (subst (λ (h : Option Frame). LevelsBehind g h os all last around) e b)
 
-one_behind : {g : Language} {here one other : Option Frame} {os around others : List (Open Frame)} {all : List Item} →
+pub one_behind : {g : Language} {here one other : Option Frame} {os around others : List (Open Frame)} {all : List Item} →
     LevelsBehind g here os all one around → LevelsBehind g here os all other others → (one ≡ other) × (around ≡ others)
 one_behind no_item no_item = (refl, refl)
 one_behind (an_event next behind w a more) (an_event next' behind' v b rest) =
@@ -142,7 +142,7 @@ levels_are_one g here one other os around others all a b = one_behind a b
 -- ---- an element is open where one ends
 
 -- as many are open behind an event as before it, with those that it enters, and without those that it leaves
-depth_after : {g : Language} {here next : Option Frame} {os behind : List (Open Frame)} {e : Event} {w : Option Flaw} (s : Span) → LevelsAfter g here os e next behind w →
+pub depth_after : {g : Language} {here next : Option Frame} {os behind : List (Open Frame)} {e : Event} {w : Option Flaw} (s : Span) → LevelsAfter g here os e next behind w →
     cond (is_leave (items.Event e s)) 1 0 ≤ length os + cond (is_enter (items.Event e s)) 1 0 →
     length behind + cond (is_leave (items.Event e s)) 1 0 ≡ length os + cond (is_enter (items.Event e s)) 1 0
 depth_after s (nesting.enters r) h = omega arith
@@ -164,17 +164,17 @@ depth_after s nesting.leaves_nothing h = omega arith
 depth_after s nesting.leaves_nowhere h = omega arith
 depth_after s nesting.leaves_own_nowhere h = omega arith
 
-entered-cons : (x : Item) (xs : List Item) → entered (x ∷ xs) ≡ cond (is_enter x) 1 0 + entered xs
+pub entered-cons : (x : Item) (xs : List Item) → entered (x ∷ xs) ≡ cond (is_enter x) 1 0 + entered xs
 entered-cons x xs = sum_by-cons (λ y. cond (is_enter y) 1 0) x xs
 
-left-cons : (x : Item) (xs : List Item) → left (x ∷ xs) ≡ cond (is_leave x) 1 0 + left xs
+pub left-cons : (x : Item) (xs : List Item) → left (x ∷ xs) ≡ cond (is_leave x) 1 0 + left xs
 left-cons x xs = sum_by-cons (λ y. cond (is_leave y) 1 0) x xs
 
 -- no front of these items leaves more elements than are open with those that it enters
-AreOpenFor : List Item → ℕ → Type 0
+unfoldable pub AreOpenFor : List Item → ℕ → Type 0
 AreOpenFor all depth = (front rest : List Item) → all ≡ front ++ rest → left front ≤ depth + entered front
 
-open_here : (x : Item) (all : List Item) (depth : ℕ) → AreOpenFor (x ∷ all) depth → cond (is_leave x) 1 0 ≤ depth + cond (is_enter x) 1 0
+pub open_here : (x : Item) (all : List Item) (depth : ℕ) → AreOpenFor (x ∷ all) depth → cond (is_leave x) 1 0 ≤ depth + cond (is_enter x) 1 0
 unfolding AreOpenFor
 open_here x all depth h =
     let k = h (x ∷ []) all refl in
@@ -184,7 +184,7 @@ open_here x all depth h =
     let nothing : left [] ≡ 0 = refl in
     omega arith
 
-open_behind : (x : Item) (all : List Item) (depth behind : ℕ) → behind + cond (is_leave x) 1 0 ≡ depth + cond (is_enter x) 1 0 →
+pub open_behind : (x : Item) (all : List Item) (depth behind : ℕ) → behind + cond (is_leave x) 1 0 ≡ depth + cond (is_enter x) 1 0 →
     AreOpenFor (x ∷ all) depth → AreOpenFor all behind
 unfolding AreOpenFor
 open_behind x all depth behind e h front rest f =
@@ -193,7 +193,7 @@ open_behind x all depth behind e h front rest f =
     let less = left-cons x front in
     omega arith
 
-open_along : {g : Language} {here last : Option Frame} {os around : List (Open Frame)} {front : List Item} (rest : List Item) →
+pub open_along : {g : Language} {here last : Option Frame} {os around : List (Open Frame)} {front : List Item} (rest : List Item) →
     LevelsBehind g here os front last around → AreOpenFor (front ++ rest) (length os) → AreOpenFor rest (length around)
 open_along rest no_item h = h
 open_along {os = os} rest (an_event {e = e} {s = s} {all = all} next behind w after more) h =

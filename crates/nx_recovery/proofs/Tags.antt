@@ -78,7 +78,7 @@ fault_if_outside : (test : Bool) (kind : Kind) (token : Token) → InTags None (
 fault_if_outside true kind token = refl
 fault_if_outside false kind token = refl
 
-run_outside : (at : ℕ) (run : Option Run) → InTags None (run_items at run)
+pub run_outside : (at : ℕ) (run : Option Run) → InTags None (run_items at run)
 unfolding run_items
 run_outside at None = refl
 run_outside at (Some run) = by_test (λ l. InTags None l) (length run.string == 0) [] _ (λ e. refl) (λ e. (tt, refl))
@@ -108,7 +108,7 @@ same_name_is n = both (bytes_eq n.ns n.ns) (bytes_eq n.local n.local) ((bytes_eq
 AreKept : List Name → List Name → Type 0
 AreKept l kept = (n : Name) → IsAmong n l → elements.has_name kept n ≡ true
 
-has_more : (kept : List Name) (m n : Name) → elements.has_name kept n ≡ true → elements.has_name (kept ++ m ∷ []) n ≡ true
+pub has_more : (kept : List Name) (m n : Name) → elements.has_name kept n ≡ true → elements.has_name (kept ++ m ∷ []) n ≡ true
 has_more [] m n h = absurd (false≢true h)
 has_more (k ∷ kept) m n h = by (is_same_name k n) h (λ r. has_more kept m n r)
   where
@@ -116,7 +116,7 @@ has_more (k ∷ kept) m n h = by (is_same_name k n) h (λ r. has_more kept m n r
     by true e more = refl
     by false e more = more e
 
-has_last : (kept : List Name) (n : Name) → elements.has_name (kept ++ n ∷ []) n ≡ true
+pub has_last : (kept : List Name) (n : Name) → elements.has_name (kept ++ n ∷ []) n ≡ true
 has_last [] n = or_left _ _ (same_name_is n)
 has_last (k ∷ kept) n = or_right (is_same_name k n) _ (has_last kept n)
 
@@ -138,7 +138,7 @@ new_named kept (Named name) written n e = by (elements.has_name kept name) refl 
     by false h f = subst (λ k. elements.has_name kept k ≡ false) (same n f) h
 new_named kept (Flawed flaw) written n e = cc
 
-resolved_named : (scope : List Binding) (kept : List Name) (written : List ℕ) (n : Name) → attribute_resolved scope kept written ≡ Named n → elements.has_name kept n ≡ false
+pub resolved_named : (scope : List Binding) (kept : List Name) (written : List ℕ) (n : Name) → attribute_resolved scope kept written ≡ Named n → elements.has_name kept n ≡ false
 unfolding attribute_resolved
 resolved_named scope kept written n e = by (not (is_qname written)) e
   where

@@ -48,7 +48,7 @@ use Rattle.nx_recovery.proofs.Along.{text_items}
 -- ---- elements nest
 
 -- where so many elements are open, these events end each element that they begin, and all that are open
-abbrev Balanced : List trees.Event → ℕ → Type 0
+abbrev pub Balanced : List trees.Event → ℕ → Type 0
 Balanced [] depth = depth ≡ 0
 Balanced (trees.Enter n ∷ es) depth = Balanced es (suc depth)
 Balanced (trees.Att n v ∷ es) depth = Balanced es depth
@@ -60,7 +60,7 @@ attributes_balanced : (a : List Attribute) (es : List trees.Event) (depth : ℕ)
 attributes_balanced [] es depth h = h
 attributes_balanced (x ∷ a) es depth h = attributes_balanced a es depth h
 
-children_balanced : (c : Children) (es : List trees.Event) (depth : ℕ) → Balanced es depth → Balanced (children_flat c es) depth
+pub children_balanced : (c : Children) (es : List trees.Event) (depth : ℕ) → Balanced es depth → Balanced (children_flat c es) depth
 children_balanced nil es depth h = h
 children_balanced (string t c) es depth h = children_balanced c es depth h
 children_balanced (element n a k c) es depth h =
@@ -74,34 +74,34 @@ data AllIn : ℕ → List (Open Frame) → Type 0 where
 
 -- ---- first parts
 
-frame_in : Frame → Outcome → Frame
+pub frame_in : Frame → Outcome → Frame
 frame_in f (goes_on k) = k
 frame_in f begins_frame = f
 frame_in f loses = f
 
-same_frame : {k j : Frame} → goes_on k ≡ goes_on j → Some k ≡ Some j
+pub same_frame : {k j : Frame} → goes_on k ≡ goes_on j → Some k ≡ Some j
 unfolding frame_in
 same_frame {k = k} e = ap (λ o. Some (frame_in k o)) e
 
-nothing_first : (s : Span) (w : Option Flaw) (faults : List Fault) → flaw_at s w ++ faults ≡ [] → (w ≡ None) × (faults ≡ [])
+pub nothing_first : (s : Span) (w : Option Flaw) (faults : List Fault) → flaw_at s w ++ faults ≡ [] → (w ≡ None) × (faults ≡ [])
 nothing_first s None faults e = (refl, e)
 nothing_first s (Some w) faults e = cc
 
-first_event : (e : Event) (es : List Event) (x : trees.Event) (xs : List trees.Event) → e ∷ es ≡ map as_event (x ∷ xs) → (e ≡ as_event x) × (es ≡ map as_event xs)
+pub first_event : (e : Event) (es : List Event) (x : trees.Event) (xs : List trees.Event) → e ∷ es ≡ map as_event (x ∷ xs) → (e ≡ as_event x) × (es ≡ map as_event xs)
 first_event e es x xs h = let both : e ∷ es ≡ as_event x ∷ map as_event xs = h in (cc, cc)
 
-front_text : (k : List trees.Event) (x : trees.Event) → AreText k → IsText x → AreText (k ++ x ∷ [])
+pub front_text : (k : List trees.Event) (x : trees.Event) → AreText k → IsText x → AreText (k ++ x ∷ [])
 front_text [] x h i = (i, tt)
 front_text (y ∷ k) x h i = (h.0, front_text k x h.1 i)
 
 -- ---- one event
 
 module _ (g : Language) where
-  record Admits (f : Frame) (e : trees.Event) (o : Outcome) : Type 0 where
-    can : Can g f (take e)
-    outcome : o ≡ goes_on (moved f (take e))
+  pub record Admits (f : Frame) (e : trees.Event) (o : Outcome) : Type 0 where
+    pub can : Can g f (take e)
+    pub outcome : o ≡ goes_on (moved f (take e))
 
-  admits : {f : Frame} {e : trees.Event} {o : Outcome} {w : Option Flaw} → Recovers g f e o w → w ≡ None → Admits f e o
+  pub admits : {f : Frame} {e : trees.Event} {o : Outcome} {w : Option Flaw} → Recovers g f e o w → w ≡ None → Admits f e o
   admits (rows.admitted a) e = record { can = a; outcome = refl }
   admits (rows.not_yet a b) e = cc
   admits (rows.not_allowed a b c) e = cc
@@ -155,14 +155,14 @@ module _ (g : Language) where
   -- ---- without faults
 
   -- the moves keep this list alone
-  abbrev KeepsOnly : Frame → List trees.Event → Type 0
+  abbrev pub KeepsOnly : Frame → List trees.Event → Type 0
   KeepsOnly f k = (kept : List trees.Event) → Kept g f.start f.moves kept → kept ≡ k
 
-  keeps_next : (f : Frame) (x : trees.Event) (k : List trees.Event) → KeepsOnly f k → KeepsOnly (moved f (take x)) (k ++ x ∷ [])
+  pub keeps_next : (f : Frame) (x : trees.Event) (k : List trees.Event) → KeepsOnly f k → KeepsOnly (moved f (take x)) (k ++ x ∷ [])
   keeps_next f x k only kept w =
       w.4 ∙ ap (λ (v : List trees.Event). w.0 ++ v) (adds_is w.3) ∙ ap (λ (v : List trees.Event). v ++ x ∷ []) (only w.0 w.2)
 
-  viable_next : (f : Frame) (x : trees.Event) (k : List trees.Event) → KeepsOnly f k → Can g f (take x) → Viable g.definitions f.start (k ++ x ∷ [])
+  pub viable_next : (f : Frame) (x : trees.Event) (k : List trees.Event) → KeepsOnly f k → Can g f (take x) → Viable g.definitions f.start (k ++ x ∷ [])
   viable_next f x k only c = subst (λ v. Viable g.definitions f.start v) (keeps_next f x k only c.kept c.is_kept) c.viable
 
   admitted_along : {here : Option Frame} {os : List (Open Frame)} {all : List Item} {faults : List Fault} → Along g here os all faults → faults ≡ [] →
@@ -214,7 +214,7 @@ text_of trees.TagEnd e q h = tt
 text_of (trees.Chars u) e q h = let w : EventIsText (Chars u) = subst EventIsText q h in is_utf8-from_IsUtf8 u w
 text_of trees.Leave e q h = tt
 
-event_text : (all : List Item) (es : List trees.Event) → ItemsAreText all → events_among all ≡ map as_event es → AreText es
+pub event_text : (all : List Item) (es : List trees.Event) → ItemsAreText all → events_among all ≡ map as_event es → AreText es
 event_text all [] t m = tt
 event_text [] (x ∷ es) t m = cc
 event_text (items.Fault y ∷ all) (x ∷ es) t m = event_text all (x ∷ es) t.1 m

@@ -4,7 +4,6 @@ use Rattle.std.specs.Str.{IsUtf8}
 use Rattle.nx_base.specs.Rules.{lexeme_of}
 use Rattle.nx_base.specs.Running.{after_all}
 use Rattle.nx_base.specs.Tokens.{tokens_of}
-use Rattle.nx_base.specs.declared.fault.Fault.{Fault}
 use Rattle.nx_base.specs.declared.fault.Span.{Span}
 use Rattle.nx_base.specs.declared.name.Name.{Name}
 use Rattle.nx_base.specs.declared.token.Token.{Token}
@@ -14,32 +13,19 @@ use Rattle.rng_kept.specs.Live.{IsLive}
 use Rattle.rng_kept.specs.Moves.{Move, attributes_of, is_tag_open, open_elements}
 use Rattle.rng_kept.specs.Residuals.{Residual}
 use Rattle.rng_kept.specs.Standing.{Stands}
-use Rattle.nx_events.specs.Items.{first_state, items_of_token, state_behind, items_of_text}
-use Rattle.nx_events.specs.declared.flaw.Flaw.{Flaw}
+use Rattle.nx_events.specs.Items.{first_state, items_of_text}
 use Rattle.nx_events.specs.declared.item.Event.{Event}
 use Rattle.nx_events.specs.declared.item.Event.TheVariants.{Enter, EnterLost, Att, TagEnd, Chars, Leave}
 use Rattle.nx_events.specs.declared.item.Item.{Item}
 use Rattle.nx_events.specs.declared.item.Item.TheVariants as items
-use Rattle.nx_events.specs.declared.state.EventState.{EventState}
+pub use Rattle.nx_recover.specs.Behind.{LevelsBehind, no_item, an_event, a_fault, items_through}
 use Rattle.nx_recover.specs.Frames.{Frame, document_frame}
-use Rattle.nx_recover.specs.Nesting.{LevelsAfter}
 use Rattle.nx_recover.specs.RecoverRules.{first_levels, levels_behind, recover_rules}
 use Rattle.nx_recover.specs.Table.{Form}
 use Rattle.nx_recover.specs.declared.levels.Open.{Open}
 use Rattle.nx_recover.specs.declared.levels.Open.TheVariants.{In, Begins, Lost}
 
 -- ---- the frames
-
--- the frame here and the open elements behind items
-pub data LevelsBehind (g : Language) :
-    Option Frame → List (Open Frame) → List Item → Option Frame → List (Open Frame) → Type 0 where
-  no_item : {here : Option Frame} {os : List (Open Frame)} → LevelsBehind g here os [] here os
-  an_event : {here last : Option Frame} {os around : List (Open Frame)} {e : Event} {s : Span} {all : List Item}
-      (next : Option Frame) (behind : List (Open Frame)) (w : Option Flaw)
-      → LevelsAfter g here os e next behind w → LevelsBehind g next behind all last around
-      → LevelsBehind g here os (items.Event e s ∷ all) last around
-  a_fault : {here last : Option Frame} {os around : List (Open Frame)} {x : Fault} {all : List Item}
-      → LevelsBehind g here os all last around → LevelsBehind g here os (items.Fault x ∷ all) last around
 
 -- the innermost open element is lost
 abbrev pub IsLostInside : List (Open Frame) → Type 0
@@ -121,11 +107,6 @@ abbrev pub LevelsAreTold : Type 0
 LevelsAreTold = (g : Language) → IsLive g → (text : List ℕ) → IsUtf8 text →
     (front rest : List Item) → items_of_text text ≡ front ++ rest →
     TellLevels g front (levels_behind (Some g) (first_levels (Some g)) front)
-
--- the items of tokens, without those of an end
-abbrev pub items_through : EventState → List Token → List Item
-items_through state [] = []
-items_through state (token ∷ others) = items_of_token state token ++ items_through (state_behind state token) others
 
 -- so do those that a state of the machine means, behind tokens of a text
 abbrev pub StatesTellLevels : Type 0
