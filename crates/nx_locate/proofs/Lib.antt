@@ -1,0 +1,11 @@
+pub mod Among
+pub mod Cutting
+pub mod Elements
+pub mod Giving
+pub mod Making
+pub mod RuleItems
+pub mod RuleTexts
+pub mod Spellings
+pub mod Stretches
+pub mod TreeRules
+pub mod Walks

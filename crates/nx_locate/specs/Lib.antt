@@ -1,0 +1,13 @@
+pub mod Answering
+pub mod DocumentElements
+pub mod ElementsFound
+pub mod Leading
+pub mod Loading
+pub mod Locates
+pub mod Making
+pub mod Patterns
+pub mod Rules
+pub mod RulesFiles
+pub mod RulesRead
+pub mod Running
+pub mod Walking
