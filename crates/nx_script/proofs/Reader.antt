@@ -8,16 +8,16 @@ use Rattle.std.proofs.lemmas.Bool.{eqb-true, eq-eqb, and_parts, or_parts, le-ltb
 use Rattle.std.proofs.lemmas.Slice.Eq.{bytes_eq-Decides}
 use Rattle.nx_base.specs.declared.way.Way.{Way}
 use Rattle.nx_script.specs.declared.command.Command.{Command}
-use Rattle.nx_script.specs.declared.command.Command.TheVariants.{Nothing, OpenFile, Save, Insert, Delete, Print, Errors, Slice, Stats, SchemaFile, SchemaNone, Goto, Move, Next, Previous, Position, View, Close, Make}
+use Rattle.nx_script.specs.declared.command.Command.TheVariants.{Nothing, OpenFile, Save, Insert, Delete, Print, Errors, Slice, Stats, SchemaFile, SchemaNone, SchemaAuto, Complete, Goto, Move, Next, Previous, Position, View, Close, Make}
 use Rattle.nx_script.specs.declared.read.ScriptFault.{ScriptFault}
 use Rattle.nx_script.specs.declared.read.ScriptFault.TheVariants.{BadCommand, NoMemory}
-use Rattle.nx_script.specs.Grammar.{IsBlanks, IsNothingLine, IsOpenLine, IsSaveLine, IsInsertLine, IsDeleteLine, IsPrintLine, IsErrorsLine, IsSliceLine, IsStatsLine, IsOfWords, IsSchemaFileLine, IsSchemaNoneLine, IsGotoLine, IsMoveLine, IsNextLine, IsPreviousLine, IsPositionLine, IsViewLine, IsCloseLine, IsMakeLine, IsOfNumber, way_word, IsLine, ReadsLine}
+use Rattle.nx_script.specs.Grammar.{IsBlanks, IsNothingLine, IsOpenLine, IsSaveLine, IsInsertLine, IsDeleteLine, IsPrintLine, IsErrorsLine, IsSliceLine, IsStatsLine, IsOfWords, IsSchemaFileLine, IsSchemaNoneLine, IsSchemaAutoLine, IsCompleteLine, IsGotoLine, IsMoveLine, IsNextLine, IsPreviousLine, IsPositionLine, IsViewLine, IsCloseLine, IsMakeLine, IsOfNumber, way_word, IsLine, ReadsLine}
 use Rattle.nx_script.specs.Commands.{HasUtf8Texts}
-use Rattle.nx_script.specs.Reading.{Finds, ◌>>=◌, is_blank, after_blanks, number_at, text_at, word_at, way_at, ended, numbered, ended_or, open_of, save_of, insert_of, delete_of, print_of, errors_of, slice_of, stats_of, schema_file_of, schema_of, goto_of, move_of, next_of, previous_of, position_of, view_of, close_of, most_seed, most_pieces, make_of, command_of, command_at, line_command}
+use Rattle.nx_script.specs.Reading.{Finds, ◌>>=◌, is_blank, after_blanks, number_at, text_at, word_at, way_at, ended, numbered, ended_or, open_of, save_of, insert_of, delete_of, print_of, errors_of, slice_of, stats_of, schema_file_of, schema_of, complete_of, goto_of, move_of, next_of, previous_of, position_of, view_of, close_of, most_seed, most_pieces, make_of, command_of, command_at, line_command}
 use Rattle.nx_script.proofs.Blanks.{chosen, found_step, Pass-from_test, FirstFails, prefix_len_is, front_passes, IsBlanks-pass, pass-IsBlanks, test-IsBlank, after_blanks_is, after_blanks_leaves, Ends, tail_ends}
 use Rattle.nx_script.proofs.Numbers.{number_at_is, number_at_takes}
 use Rattle.nx_script.proofs.Texts.{text_at_is, text_at_takes, word_utf8}
-use Rattle.nx_script.proofs.Words.{word_at_is, word_at_takes, word_at_text, way_at_is, way_at_takes}
+use Rattle.nx_script.proofs.Words.{word_at_is, word_at_takes, word_at_text, word_at_other, way_at_is, way_at_takes}
 
 -- ---- the end of a line
 
@@ -126,13 +126,28 @@ schema_file_is : (line uri : List ℕ) → IsSchemaFileLine uri line → line_co
 unfolding command_of schema_of schema_file_of
 schema_file_is line uri (text, t, (blanks, rest, e, b, (gap, end, e1, g, last))) =
     verb_read line (codes "schema") rest blanks refl e b (tail_ends (text ∷ []) rest (gap, end, e1, g, last))
-    ∙ rw (e1, word_at_text (codes "none") gap text end uri refl g t, text_at_is gap text end uri g t) (ended_is (SchemaFile uri) end last)
+    ∙ rw (
+      e1,
+      word_at_text (codes "none") gap text end uri refl g t,
+      word_at_text (codes "auto") gap text end uri refl g t,
+      text_at_is gap text end uri g t,
+    ) (ended_is (SchemaFile uri) end last)
 
 schema_none_is : (line : List ℕ) → IsSchemaNoneLine line → line_command line ≡ Some SchemaNone
 unfolding command_of schema_of
 schema_none_is line (blanks, rest, e, b, (gap, end, e1, g, last)) =
     verb_read line (codes "schema") rest blanks refl e b (tail_ends (codes "none" ∷ []) rest (gap, end, e1, g, last))
     ∙ rw (e1, word_at_is (codes "none") gap end refl g) (ended_is SchemaNone end last)
+
+schema_auto_is : (line : List ℕ) → IsSchemaAutoLine line → line_command line ≡ Some SchemaAuto
+unfolding command_of schema_of
+schema_auto_is line (blanks, rest, e, b, (gap, end, e1, g, last)) =
+    verb_read line (codes "schema") rest blanks refl e b (tail_ends (codes "auto" ∷ []) rest (gap, end, e1, g, last))
+    ∙ rw (e1, word_at_other (codes "none") (codes "auto") gap end refl g refl, word_at_is (codes "auto") gap end refl g) (ended_is SchemaAuto end last)
+
+complete_is : (line : List ℕ) (at : ℕ) → IsCompleteLine at line → line_command line ≡ Some (Complete at)
+unfolding command_of complete_of
+complete_is line at h = numbered_is Complete line (codes "complete") at refl (λ rest. refl) h
 
 goto_is : (line : List ℕ) (at : ℕ) → IsGotoLine at line → line_command line ≡ Some (Goto at)
 unfolding command_of goto_of
@@ -188,6 +203,8 @@ line_is line (Slice count) h = slice_is line count h
 line_is line Stats h = stats_is line h
 line_is line (SchemaFile uri) h = schema_file_is line uri h
 line_is line SchemaNone h = schema_none_is line h
+line_is line SchemaAuto h = schema_auto_is line h
+line_is line (Complete at) h = complete_is line at h
 line_is line (Goto at) h = goto_is line at h
 line_is line (Move way) h = move_is line way h
 line_is line Next h = next_is line h
@@ -292,7 +309,12 @@ schema_takes : (line blanks rest : List ℕ) (c : Command) → line ≡ blanks +
 unfolding schema_of
 schema_takes line blanks rest c e b h =
     by_second SchemaNone line blanks (codes "schema") (codes "none") rest _ _ e b refl (λ k. k)
-    (λ c k. schema_file_takes line blanks rest c e b k) c h
+    (by_second SchemaAuto line blanks (codes "schema") (codes "auto") rest _ _ e b refl (λ k. k)
+    (λ c k. schema_file_takes line blanks rest c e b k)) c h
+
+complete_takes : (line blanks rest : List ℕ) (c : Command) → line ≡ blanks ++ codes "complete" ++ rest → IsBlanks blanks → complete_of rest ≡ Some c → IsLine line c
+unfolding complete_of
+complete_takes line blanks rest c e b h = let found = numbered_takes Complete line blanks (codes "complete") rest c e b h in subst (IsLine line) found.1 found.2
 
 goto_takes : (line blanks rest : List ℕ) (c : Command) → line ≡ blanks ++ codes "goto" ++ rest → IsBlanks blanks → goto_of rest ≡ Some c → IsLine line c
 unfolding goto_of
@@ -378,6 +400,7 @@ verb_takes line blanks word rest e b =
     (by_name line blanks word rest (codes "slice") (slice_of rest) _ e (λ k c h. slice_takes line blanks rest c k b h)
     (by_name line blanks word rest (codes "stats") (stats_of rest) _ e (λ k c h. stats_takes line blanks rest c k b h)
     (by_name line blanks word rest (codes "schema") (schema_of rest) _ e (λ k c h. schema_takes line blanks rest c k b h)
+    (by_name line blanks word rest (codes "complete") (complete_of rest) _ e (λ k c h. complete_takes line blanks rest c k b h)
     (by_name line blanks word rest (codes "goto") (goto_of rest) _ e (λ k c h. goto_takes line blanks rest c k b h)
     (by_name line blanks word rest (codes "move") (move_of rest) _ e (λ k c h. move_takes line blanks rest c k b h)
     (by_name line blanks word rest (codes "next") (next_of rest) _ e (λ k c h. next_takes line blanks rest c k b h)
@@ -386,7 +409,7 @@ verb_takes line blanks word rest e b =
     (by_name line blanks word rest (codes "view") (view_of rest) _ e (λ k c h. view_takes line blanks rest c k b h)
     (by_name line blanks word rest (codes "close") (close_of rest) _ e (λ k c h. close_takes line blanks rest c k b h)
     (by_name line blanks word rest (codes "make") (make_of rest) _ e (λ k c h. make_takes line blanks rest c k b h)
-    (by_no_name line)))))))))))))))))
+    (by_no_name line))))))))))))))))))
 
 command_takes : (line blanks bytes : List ℕ) (c : Command) → line ≡ blanks ++ bytes → IsBlanks blanks → command_at bytes ≡ Some c → IsLine line c
 unfolding command_at
@@ -442,6 +465,8 @@ texts_utf8 line (SchemaFile uri) utf8 (text, t, (blanks, rest, e, b, (gap, end, 
     let front = blanks ++ codes "schema" in
     word_utf8 (front ++ gap) text end uri t (subst IsUtf8 (in_line line front rest gap text end e e1) utf8)
 texts_utf8 line SchemaNone utf8 h = tt
+texts_utf8 line SchemaAuto utf8 h = tt
+texts_utf8 line (Complete at) utf8 h = tt
 texts_utf8 line (Goto at) utf8 h = tt
 texts_utf8 line (Move way) utf8 h = tt
 texts_utf8 line Next utf8 h = tt

@@ -2,7 +2,7 @@
 use Rattle.std.specs.Str.{IsUtf8}
 use Rattle.nx_script.specs.declared.command.Command.{Command}
 use Rattle.nx_script.specs.declared.command.Command.TheVariants.{Nothing, OpenFile, Save, Insert, Delete, Print, Errors, Slice, Stats}
-use Rattle.nx_script.specs.declared.command.Command.TheVariants.{SchemaFile, SchemaNone, Goto, Move, Next, Previous}
+use Rattle.nx_script.specs.declared.command.Command.TheVariants.{SchemaFile, SchemaNone, SchemaAuto, Complete, Goto, Move, Next, Previous}
 use Rattle.nx_script.specs.declared.command.Command.TheVariants.{Position, View, Close, Make}
 
 -- the texts of the command are UTF-8
@@ -18,6 +18,8 @@ HasUtf8Texts (Slice count) = Unit {0}
 HasUtf8Texts Stats = Unit {0}
 HasUtf8Texts (SchemaFile uri) = IsUtf8 uri
 HasUtf8Texts SchemaNone = Unit {0}
+HasUtf8Texts SchemaAuto = Unit {0}
+HasUtf8Texts (Complete at) = Unit {0}
 HasUtf8Texts (Goto at) = Unit {0}
 HasUtf8Texts (Move way) = Unit {0}
 HasUtf8Texts Next = Unit {0}

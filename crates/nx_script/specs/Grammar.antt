@@ -7,7 +7,7 @@ use Rattle.nx_base.specs.declared.way.Way.{Way}
 use Rattle.nx_base.specs.declared.way.Way.TheVariants as ways
 use Rattle.nx_script.specs.declared.command.Command.{Command}
 use Rattle.nx_script.specs.declared.command.Command.TheVariants.{Nothing, OpenFile, Save, Insert, Delete, Print, Errors, Slice, Stats}
-use Rattle.nx_script.specs.declared.command.Command.TheVariants.{SchemaFile, SchemaNone, Goto, Move, Next, Previous}
+use Rattle.nx_script.specs.declared.command.Command.TheVariants.{SchemaFile, SchemaNone, SchemaAuto, Complete, Goto, Move, Next, Previous}
 use Rattle.nx_script.specs.declared.command.Command.TheVariants.{Position, View, Close, Make}
 use Rattle.nx_script.specs.declared.read.ScriptFault.{ScriptFault}
 use Rattle.nx_script.specs.declared.read.ScriptFault.TheVariants.{BadCommand, NoMemory}
@@ -136,6 +136,14 @@ IsSchemaFileLine uri line = (text : List ℕ) × IsText text uri × IsOfWords (c
 abbrev pub IsSchemaNoneLine : List ℕ → Type 0
 IsSchemaNoneLine line = IsOfWords (codes "schema") (codes "none" ∷ []) line
 
+-- `schema auto`
+abbrev pub IsSchemaAutoLine : List ℕ → Type 0
+IsSchemaAutoLine line = IsOfWords (codes "schema") (codes "auto" ∷ []) line
+
+-- `complete N`
+abbrev pub IsCompleteLine : ℕ → List ℕ → Type 0
+IsCompleteLine at line = IsOfNumber (codes "complete") at line
+
 -- `goto N`
 abbrev pub IsGotoLine : ℕ → List ℕ → Type 0
 IsGotoLine at line = IsOfNumber (codes "goto") at line
@@ -190,6 +198,8 @@ IsLine line (Slice count) = IsSliceLine count line
 IsLine line Stats = IsStatsLine line
 IsLine line (SchemaFile uri) = IsSchemaFileLine uri line
 IsLine line SchemaNone = IsSchemaNoneLine line
+IsLine line SchemaAuto = IsSchemaAutoLine line
+IsLine line (Complete at) = IsCompleteLine at line
 IsLine line (Goto at) = IsGotoLine at line
 IsLine line (Move way) = IsMoveLine way line
 IsLine line Next = IsNextLine line

@@ -13,7 +13,7 @@ use Rattle.nx_base.specs.declared.way.Way.TheVariants.{Forward, Backward, Up, Ba
 use Rattle.nx_script.specs.Grammar.{way_word}
 use Rattle.nx_script.specs.declared.command.Command.{Command}
 use Rattle.nx_script.specs.declared.command.Command.TheVariants.{Nothing, OpenFile, Save, Insert, Delete, Print, Errors, Slice, Stats}
-use Rattle.nx_script.specs.declared.command.Command.TheVariants.{SchemaFile, SchemaNone, Goto, Move, Next, Previous}
+use Rattle.nx_script.specs.declared.command.Command.TheVariants.{SchemaFile, SchemaNone, SchemaAuto, Complete, Goto, Move, Next, Previous}
 use Rattle.nx_script.specs.declared.command.Command.TheVariants.{Position, View, Close, Make}
 use Rattle.nx_script.specs.declared.read.ScriptFault.{ScriptFault}
 use Rattle.nx_script.specs.declared.read.ScriptFault.TheVariants.{BadCommand, NoMemory}
@@ -203,7 +203,11 @@ ended_or command None others = others
 
 unfoldable pub schema_of : List ℕ → Option Command
 schema_of bytes =
-    ended_or SchemaNone (word_at (codes "none") bytes) (schema_file_of bytes)
+    ended_or SchemaNone (word_at (codes "none") bytes)
+    (ended_or SchemaAuto (word_at (codes "auto") bytes) (schema_file_of bytes))
+
+unfoldable pub complete_of : List ℕ → Option Command
+complete_of bytes = numbered Complete bytes
 
 unfoldable pub goto_of : List ℕ → Option Command
 goto_of bytes = numbered Goto bytes
@@ -253,6 +257,7 @@ command_of word bytes =
     else (if bytes_eq word (codes "slice") then slice_of bytes
     else (if bytes_eq word (codes "stats") then stats_of bytes
     else (if bytes_eq word (codes "schema") then schema_of bytes
+    else (if bytes_eq word (codes "complete") then complete_of bytes
     else (if bytes_eq word (codes "goto") then goto_of bytes
     else (if bytes_eq word (codes "move") then move_of bytes
     else (if bytes_eq word (codes "next") then next_of bytes
@@ -261,7 +266,7 @@ command_of word bytes =
     else (if bytes_eq word (codes "view") then view_of bytes
     else (if bytes_eq word (codes "close") then close_of bytes
     else (if bytes_eq word (codes "make") then make_of bytes
-    else None))))))))))))))))
+    else None)))))))))))))))))
 
 -- the command of the line whose blanks at the front are left out
 unfoldable pub command_at : List ℕ → Option Command

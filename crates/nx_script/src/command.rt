@@ -28,6 +28,10 @@ pub enum Command {
     SchemaFile(Bytes),
     /// `schema none`: holds it against none.
     SchemaNone,
+    /// `schema auto`: holds it against the schema that the rules locate, or against none.
+    SchemaAuto,
+    /// `complete N`: lists what may stand at the byte offset.
+    Complete(u64),
     /// `goto N`: puts the caret at the byte offset.
     Goto(u64),
     /// `move W`: takes the caret this way along the tags, by the words `forward`, `backward`, `up`, `back-up` and

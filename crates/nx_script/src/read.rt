@@ -4,7 +4,7 @@ ghost use Rattle.std.specs.Prelude.{◌≡◌, ◌≤◌, length, IfOk};
 ghost use Rattle.std.specs.List.{position_or_len};
 ghost use Rattle.nx_script.specs.Grammar.{LinesAreOneCommand, ReadsLine};
 ghost use Rattle.nx_script.specs.Commands.{HasUtf8Texts};
-ghost use Rattle.nx_script.specs.Reading.{Finds, is_blank, open_of, save_of, insert_of, delete_of, slice_of, schema_file_of, schema_of};
+ghost use Rattle.nx_script.specs.Reading.{Finds, is_blank, open_of, save_of, insert_of, delete_of, slice_of, schema_file_of, schema_of, complete_of};
 ghost use Rattle.nx_script.specs.Reading.{goto_of, move_of, view_of, close_of, make_of};
 ghost use Rattle.nx_script.specs.Reading.{command_of, line_command};
 ghost use Rattle.nx_script.specs.Reading.{after_blanks};
@@ -103,6 +103,7 @@ fn command(alloc: Global, word: &str, arguments: Arguments<'_>) -> Result<Comman
         "slice" => slice(arguments),
         "stats" => arguments.end(Command::Stats),
         "schema" => schema(alloc, arguments),
+        "complete" => complete(arguments),
         "goto" => goto(arguments),
         "move" => move_along(arguments),
         "next" => arguments.end(Command::Next),
@@ -162,13 +163,16 @@ fn slice(mut arguments: Arguments<'_>) -> Result<Command, ScriptFault>
     arguments.end(Command::Slice(count))
 }
 
-/// `schema none` or `schema "URI"`, from what follows the word.
+/// `schema none`, `schema auto` or `schema "URI"`, from what follows the word.
 #[tactic(auto, unfolding(crate::specs::Reading::schema_of))]
 fn schema(alloc: Global, arguments: Arguments<'_>) -> Result<Command, ScriptFault>
     ensures { Finds (λ command. command) result (schema_of arguments.entry) }
 {
     if let Some(rest) = arguments.behind("none") {
         return rest.end(Command::SchemaNone);
+    }
+    if let Some(rest) = arguments.behind("auto") {
+        return rest.end(Command::SchemaAuto);
     }
     schema_file(alloc, arguments)
 }
@@ -180,6 +184,15 @@ fn schema_file(alloc: Global, mut arguments: Arguments<'_>) -> Result<Command, S
 {
     let uri = arguments.text(alloc)?;
     arguments.end(Command::SchemaFile(uri))
+}
+
+/// `complete N`, from what follows the word.
+#[tactic(auto, unfolding(crate::specs::Reading::complete_of))]
+fn complete(mut arguments: Arguments<'_>) -> Result<Command, ScriptFault>
+    ensures { Finds (λ command. command) result (complete_of arguments.entry) }
+{
+    let at = arguments.number()?;
+    arguments.end(Command::Complete(at))
 }
 
 /// `goto N`, from what follows the word.

@@ -58,6 +58,8 @@ fn named(alloc: Global, command: &Command) -> Result<String, Fail> {
         Command::Stats => word(alloc, "stats"),
         Command::SchemaFile(uri) => quoted(alloc, "schema", uri),
         Command::SchemaNone => word(alloc, "no schema"),
+        Command::SchemaAuto => word(alloc, "located schema"),
+        Command::Complete(at) => numbered(alloc, "complete", *at),
         Command::Goto(at) => numbered(alloc, "goto", *at),
         Command::Move(way) => word(alloc, name_of(*way)),
         Command::Next => word(alloc, "next"),
@@ -79,7 +81,7 @@ fn told(alloc: Global, line: &str) -> Result<String, Fail> {
 }
 
 /// Lines, and what `told` makes of them.
-const LINES: [(&str, &str); 103] = [
+const LINES: [(&str, &str); 116] = [
     ("", "nothing"),
     (" \t ", "nothing"),
     ("#", "nothing"),
@@ -150,7 +152,20 @@ const LINES: [(&str, &str); 103] = [
     ("schema s1.rnc", "bad"),
     ("schema", "bad"),
     ("schema \"auto\"", "schema auto"),
+    ("schema auto", "located schema"),
+    (" schema\tauto ", "located schema"),
+    ("schema auto 1", "bad"),
+    ("schema none auto", "bad"),
     ("schema autos", "bad"),
+    ("schema Auto", "bad"),
+    ("complete 5", "complete 5"),
+    ("complete \t 0 ", "complete 0"),
+    ("complete", "bad"),
+    ("complete 5 6", "bad"),
+    ("complete -5", "bad"),
+    ("complete \"5\"", "bad"),
+    ("complete5", "bad"),
+    ("completes 5", "bad"),
     ("goto 3", "goto 3"),
     ("goto", "bad"),
     ("goto -1", "bad"),
