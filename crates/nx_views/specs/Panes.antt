@@ -1,5 +1,5 @@
 -- What the panes are to a contract.
-use Rattle.std.specs.Prelude.{true, false, [], ℕ}
+use Rattle.std.specs.Prelude.{◌≡◌, ◌⊎◌, true, false, [], ℕ}
 use Rattle.nx_views.specs.States.{ViewState}
 use Rattle.nx_views.specs.declared.pane.FaultPane.{FaultPane}
 use Rattle.nx_views.specs.declared.pane.LimitedPane.{LimitedPane}
@@ -23,3 +23,7 @@ new_pane = record { list = []; live = true; steady = true; room = 0 }
 
 abbrev pub new_limited_pane : ℕ → ViewState
 new_limited_pane limit = record { list = []; live = true; steady = false; room = limit }
+
+-- a limited view takes no put more: it isn't live, or has no room
+abbrev pub BearsNone : ViewState → Type 0
+BearsNone view = (view.live ≡ false) ⊎ (view.room ≡ 0)

@@ -1,7 +1,8 @@
 //! Three views that keep the list that they show.
 
-ghost use Rattle.std.specs.Prelude.{◌≡◌};
-ghost use Rattle.nx_views.specs.Panes.{fault_pane, limited_pane, refusing_pane, new_pane, new_limited_pane};
+ghost use Rattle.std.specs.Prelude.{◌≡◌, ◌↔◌, ◌+◌, ◌-◌, ◌≤◌, false, insert, length, OnOk, IsErrOf};
+ghost use Rattle.nx_views.specs.Panes.{fault_pane, limited_pane, refusing_pane, new_pane, new_limited_pane, BearsNone};
+ghost use Rattle.nx_views.specs.States.{AfterPuts};
 
 use crate::view::{View, ViewFault};
 use nx_base::edit::Edit;
@@ -46,7 +47,15 @@ impl View for FaultPane {
         self.is_live = false;
     }
 
-    fn put(&mut self, i: usize, fault: Fault) -> Result<(), ViewFault> {
+    fn put(&mut self, i: usize, fault: Fault) -> Result<(), ViewFault>
+        requires { i ≤ length (fault_pane self.old).list }
+        ensures ok { OnOk result ((fault_pane self.new).list ≡ insert (fault_pane self.old).list i fault) }
+        ensures closed { IsErrOf result ViewFault.Closed → (fault_pane self.new).live ≡ false }
+        ensures closed_list { IsErrOf result ViewFault.Closed → (fault_pane self.new).list ≡ (fault_pane self.old).list }
+        ensures memory { IsErrOf result ViewFault.NoMemory → fault_pane self.new ≡ fault_pane self.old }
+        ensures bears { AfterPuts 1 (fault_pane self.old) (fault_pane self.new) }
+        ensures closes { IsErrOf result ViewFault.Closed ↔ ((fault_pane self.old).live ≡ false) }
+    {
         if !self.is_live {
             return Err(ViewFault::Closed);
         }
@@ -101,7 +110,16 @@ impl View for LimitedPane {
         self.pane.close();
     }
 
-    fn put(&mut self, i: usize, fault: Fault) -> Result<(), ViewFault> {
+    fn put(&mut self, i: usize, fault: Fault) -> Result<(), ViewFault>
+        requires { i ≤ length (limited_pane self.old).list }
+        ensures ok { OnOk result ((limited_pane self.new).list ≡ insert (limited_pane self.old).list i fault) }
+        ensures closed { IsErrOf result ViewFault.Closed → (limited_pane self.new).live ≡ false }
+        ensures closed_list { IsErrOf result ViewFault.Closed → (limited_pane self.new).list ≡ (limited_pane self.old).list }
+        ensures memory { IsErrOf result ViewFault.NoMemory → limited_pane self.new ≡ limited_pane self.old }
+        ensures bears { AfterPuts 1 (limited_pane self.old) (limited_pane self.new) }
+        ensures closes { IsErrOf result ViewFault.Closed ↔ BearsNone (limited_pane self.old) }
+        ensures room { OnOk result ((limited_pane self.old).room ≡ (limited_pane self.new).room + 1) }
+    {
         if self.room == 0 {
             self.pane.close();
             return Err(ViewFault::Closed);
@@ -131,7 +149,8 @@ pub struct RefusingPane {
 impl RefusingPane {
     /// A live view of no fault, whose put number `k`, counted from 1, is refused.
     pub fn new(alloc: Global, k: u64) -> RefusingPane
-        ensures { refusing_pane result ≡ new_pane }
+        ensures state { refusing_pane result ≡ new_pane }
+        ensures refused { result.refused ≡ k }
     {
         RefusingPane {
             pane: FaultPane::new(alloc),
@@ -157,7 +176,16 @@ impl View for RefusingPane {
         self.pane.close();
     }
 
-    fn put(&mut self, i: usize, fault: Fault) -> Result<(), ViewFault> {
+    fn put(&mut self, i: usize, fault: Fault) -> Result<(), ViewFault>
+        requires { i ≤ length (refusing_pane self.old).list }
+        ensures ok { OnOk result ((refusing_pane self.new).list ≡ insert (refusing_pane self.old).list i fault) }
+        ensures closed { IsErrOf result ViewFault.Closed → (refusing_pane self.new).live ≡ false }
+        ensures closed_list { IsErrOf result ViewFault.Closed → (refusing_pane self.new).list ≡ (refusing_pane self.old).list }
+        ensures memory { IsErrOf result ViewFault.NoMemory → refusing_pane self.new ≡ refusing_pane self.old }
+        ensures bears { AfterPuts 1 (refusing_pane self.old) (refusing_pane self.new) }
+        ensures counts { self.new.refused ≡ self.old.refused - 1 }
+        ensures refuses { self.old.refused ≡ 1 → IsErrOf result ViewFault.NoMemory }
+    {
         let refused = self.refused;
         self.refused = refused.saturating_sub(1);
         if refused == 1 {
