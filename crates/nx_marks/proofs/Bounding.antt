@@ -90,7 +90,7 @@ module _ {S M : Type 0} (is_state : S → Type 0) (means : S → M) (r : Rules M
   gone_right k n fits h =
       let at : ℕ = 0 + reach k.front in
       let tail = chain-tail is_state means r t 0 at k.front (k.here ∷ k.aside) refl h.holds.chain in
-      let g = gone is_state means r t n at k.here k.front k.marked k.aside h.holds.ends (omega arith) tail in
+      let g = gone is_state means r t n at k.here k.front k.marked k.aside h.holds.ends (omega arith) tail h.rule.saved in
       let j : Kept S = let_go n k.here k.front k.marked k.aside in
       let same : means j.here.state ≡ means k.here.state = ap means g.state in
       let W : List (Mark S) → Type 0 = λ l. AreWhole l in
@@ -103,5 +103,5 @@ module _ {S M : Type 0} (is_state : S → Type 0) (means : S → M) (r : Rules M
           whole = subst W (sym g.front_is) h.holds.whole;
           ends = g.ends ∙ h.holds.ends;
         };
-        rule = rule-same means r k j g.front_is g.state g.marked_is h.rule;
+        rule = rule-same means r k j g.front_is g.state g.marked_is g.saved h.rule;
       }

@@ -2,7 +2,7 @@
 use Rattle.std.proofs.Common.{◌≡◌, ◌⊎◌, inl, inr, ℕ, ◌+◌, ◌-◌, ◌^◌, ◌<◌, ◌≤◌, Bool, true, false, ◌||◌, nat_lt, List, [], ◌∷◌, ◌++◌, length, refl, sym, ap, subst, ◌∙◌, arith, append_assoc}
 use Rattle.std.specs.Prelude.{if◌then◌else◌}
 use Rattle.nx_marks.specs.Chain.{Kept, AreWhole, all_of, frontier_of, reach}
-use Rattle.nx_marks.specs.Editing.{moved, stays, first_kept, broken, kept_mark, kept_marks, edit_all, split_all, edit_kept}
+use Rattle.nx_marks.specs.Editing.{place_after, stays, first_kept, broken, kept_mark, kept_marks, edit_all, split_all, edit_noted}
 use Rattle.nx_marks.specs.Frontier.{FrontierAfterEdit}
 use Rattle.nx_marks.specs.Walking.{DropsBetween, GoesBack, GoesOn, ComesBack, AreUpTo, Fits, cut_off}
 use Rattle.nx_marks.specs.declared.mark.Mark.{Mark}
@@ -53,16 +53,16 @@ kept-rest {S = S} from to added q ys (inl e) =
     let P : List (Mark S) → Type 0 = λ l. (kept_marks from to added q l ≡ l) × (first_kept from to q l ≡ q) in subst P (sym e) (refl, refl)
 kept-rest from to added q ys (inr lt) = (all-behind from to added q ys lt, first-stays from to q ys (stays-behind from to q lt))
 
-kept_at : {S : Type 0} → List (Mark S) → S → Bool → ℕ → List (Mark S) → Kept S
-kept_at front state marked len aside = record { front = front; here = record { state = state; len = len; tags = 0; faults = []; whole = false }; marked = marked; aside = aside }
+kept_at : {S : Type 0} → List (Mark S) → Mark S → Bool → ℕ → List (Mark S) → Kept S
+kept_at front here marked len aside = record { front = front; here = broken here len; marked = marked; aside = aside }
 
 cut_is : {S : Type 0} (from to added : ℕ) (k : Kept S) → from ≤ frontier_of k + k.here.len →
-    cut_off from to added k ≡ record { front = k.front; here = broken k.here (moved from to added (first_kept from to (frontier_of k + k.here.len) k.aside) - frontier_of k); marked = k.marked; aside = kept_marks from to added (frontier_of k + k.here.len) k.aside }
+    cut_off from to added k ≡ record { front = k.front; here = broken k.here (place_after from to added (first_kept from to (frontier_of k + k.here.len) k.aside) - frontier_of k); marked = k.marked; aside = kept_marks from to added (frontier_of k + k.here.len) k.aside }
 cut_is from to added k le = rw (is_above (frontier_of k + k.here.len) from le) refl
 
 pub cut_there : {S : Type 0} (from to added : ℕ) (k d : Kept S) (place len : ℕ) → from ≤ to → from ≤ frontier_of k + k.here.len → Fits from to added k → DropsBetween (frontier_of k + k.here.len) to k d place →
     len ≡ from + added + (place - to) - frontier_of k →
-    record { front = d.front; here = record { state = d.here.state; len = len; tags = 0; faults = []; whole = false }; marked = d.marked; aside = d.aside } ≡ cut_off from to added k
+    record { front = d.front; here = broken d.here len; marked = d.marked; aside = d.aside } ≡ cut_off from to added k
 unfolding kept_at
 cut_there {S = S} from to added k d place len o le fits h long =
     let next : ℕ = frontier_of k + k.here.len in
@@ -75,14 +75,14 @@ cut_there {S = S} from to added k d place len o le fits h long =
     ap (kept_marks from to added next) h.aside ∙ kept-skip from to added next place h.gone d.aside le (h.between small) (sym far) ∙ rest.0 in
     let first : first_kept from to next k.aside ≡ place =
     ap (first_kept from to next) h.aside ∙ first-skip from to next place h.gone d.aside le (h.between small) (sym far) ∙ rest.1 in
-    let there : moved from to added (first_kept from to next k.aside) - frontier_of k ≡ len =
-    ap (λ n. moved from to added n - frontier_of k) first ∙ ap (λ n. n - frontier_of k) (moved-behind from to added place (omega arith)) ∙ sym long in
+    let there : place_after from to added (first_kept from to next k.aside) - frontier_of k ≡ len =
+    ap (λ n. place_after from to added n - frontier_of k) first ∙ ap (λ n. n - frontier_of k) (moved-behind from to added place (omega arith)) ∙ sym long in
     sym (cut_is from to added k le
-    ∙ ap (λ n. kept_at k.front k.here.state k.marked n (kept_marks from to added next k.aside)) there
-    ∙ ap (kept_at k.front k.here.state k.marked len) kept
-    ∙ ap (λ l. kept_at l k.here.state k.marked len d.aside) (sym h.front)
-    ∙ ap (λ (s : S). kept_at d.front s k.marked len d.aside) (ap (λ (m : Mark S). m.state) (sym h.here))
-    ∙ ap (λ b. kept_at d.front d.here.state b len d.aside) (sym h.marked))
+    ∙ ap (λ n. kept_at k.front k.here k.marked n (kept_marks from to added next k.aside)) there
+    ∙ ap (kept_at k.front k.here k.marked len) kept
+    ∙ ap (λ l. kept_at l k.here k.marked len d.aside) (sym h.front)
+    ∙ ap (λ (x : Mark S). kept_at d.front x k.marked len d.aside) (sym h.here)
+    ∙ ap (λ b. kept_at d.front d.here b len d.aside) (sym h.marked))
 
 -- nothing lies behind
 pub cut_nothing : {S : Type 0} (from to added : ℕ) (k : Kept S) → frontier_of k + k.here.len < from → k ≡ cut_off from to added k
@@ -100,28 +100,28 @@ front-kept from to added p q (x ∷ xs) z zs e lt =
 
 -- the mark at hand, and what is aside
 abbrev ending : {S : Type 0} → ℕ → ℕ → ℕ → ℕ → Mark S → List (Mark S) → List (Mark S)
-ending from to added p z zs = (if nat_lt (p + z.len) from then z else broken z (moved from to added (first_kept from to (p + z.len) zs) - p)) ∷ kept_marks from to added (p + z.len) zs
+ending from to added p z zs = (if nat_lt (p + z.len) from then z else broken z (place_after from to added (first_kept from to (p + z.len) zs) - p)) ∷ kept_marks from to added (p + z.len) zs
 
 ending-kept : {S : Type 0} (from to added p : ℕ) (z : Mark S) (zs : List (Mark S)) → from ≤ to → p < from → kept_marks from to added p (z ∷ zs) ≡ ending from to added p z zs
 ending-kept from to added p z zs o lt =
     kept-cons from to added p z zs lt ∙ ap (λ y. y ∷ kept_marks from to added (p + z.len) zs) (by (nat_lt (p + z.len) from) (nat_lt to p) (is_above to p (omega arith)))
   where
-    here : moved from to added p ≡ p
+    here : place_after from to added p ≡ p
     here = rw (is_below p from lt) refl
 
-    by : (a b : Bool) → b ≡ false → (if a || b then z else broken z (moved from to added (first_kept from to (p + z.len) zs) - moved from to added p))
-        ≡ (if a then z else broken z (moved from to added (first_kept from to (p + z.len) zs) - p))
+    by : (a b : Bool) → b ≡ false → (if a || b then z else broken z (place_after from to added (first_kept from to (p + z.len) zs) - place_after from to added p))
+        ≡ (if a then z else broken z (place_after from to added (first_kept from to (p + z.len) zs) - p))
     by true b e = refl
     by false true e = absurd (cc)
-    by false false e = ap (λ n. broken z (moved from to added (first_kept from to (p + z.len) zs) - n)) here
+    by false false e = ap (λ n. broken z (place_after from to added (first_kept from to (p + z.len) zs) - n)) here
 
 ending-start : {S : Type 0} (from to added : ℕ) (z : Mark S) (zs : List (Mark S)) → edit_all from to added (z ∷ zs) ≡ ending from to added 0 z zs
 ending-start from to added z zs = ap (λ y. y ∷ kept_marks from to added (0 + z.len) zs) (by (nat_lt (0 + z.len) from))
   where
     n : ℕ
-    n = moved from to added (first_kept from to (0 + z.len) zs)
+    n = place_after from to added (first_kept from to (0 + z.len) zs)
 
-    by : (a : Bool) → (if a then z else broken z (moved from to added (first_kept from to (0 + z.len) zs))) ≡ (if a then z else broken z (moved from to added (first_kept from to (0 + z.len) zs) - 0))
+    by : (a : Bool) → (if a then z else broken z (place_after from to added (first_kept from to (0 + z.len) zs))) ≡ (if a then z else broken z (place_after from to added (first_kept from to (0 + z.len) zs) - 0))
     by true = refl
     by false = ap (broken z) (omega arith)
 
@@ -136,12 +136,12 @@ ending-cut {S = S} from to added front here marked aside there = by (nat_lt (rea
     k = record { front = front; here = here; marked = marked; aside = aside }
 
     cut : Mark S
-    cut = broken here (moved from to added (first_kept from to (reach front + here.len) aside) - reach front)
+    cut = broken here (place_after from to added (first_kept from to (reach front + here.len) aside) - reach front)
 
     by : (b : Bool) → nat_lt (reach front + here.len) from ≡ b → (aside ≡ []) ⊎ (from ≤ reach front + here.len) →
         all_of (if b then (record { front = front; here = here; marked = marked; aside = aside })
-        else record { front = front; here = broken here (moved from to added (first_kept from to (reach front + here.len) aside) - reach front); marked = marked; aside = kept_marks from to added (reach front + here.len) aside })
-        ≡ front ++ (if b then here else broken here (moved from to added (first_kept from to (reach front + here.len) aside) - reach front)) ∷ kept_marks from to added (reach front + here.len) aside
+        else record { front = front; here = broken here (place_after from to added (first_kept from to (reach front + here.len) aside) - reach front); marked = marked; aside = kept_marks from to added (reach front + here.len) aside })
+        ≡ front ++ (if b then here else broken here (place_after from to added (first_kept from to (reach front + here.len) aside) - reach front)) ∷ kept_marks from to added (reach front + here.len) aside
     by true e (inl none) = let P : List (Mark S) → Type 0 = λ l. front ++ here ∷ l ≡ front ++ here ∷ kept_marks from to added (reach front + here.len) l in subst P (sym none) refl
     by true e (inr le) = absurd (let lt = below (reach front + here.len) from e in omega arith)
     by false e w = refl
@@ -153,7 +153,7 @@ cut_all from to added [] here marked aside o before there = ending-cut from to a
 cut_all from to added (x ∷ xs) here marked aside o (inr none) there = absurd (let n = ap length none in omega arith)
 cut_all from to added (x ∷ xs) here marked aside o (inl lt) there =
     let start : edit_all from to added ((x ∷ xs) ++ here ∷ aside) ≡ x ∷ kept_marks from to added (0 + x.len) (xs ++ here ∷ aside) =
-    ap (λ y. y ∷ kept_marks from to added (0 + x.len) (xs ++ here ∷ aside)) (start-apart x (moved from to added (first_kept from to (0 + x.len) (xs ++ here ∷ aside))) (nat_lt (0 + x.len) from) (is_below (0 + x.len) from (omega arith))) in
+    ap (λ y. y ∷ kept_marks from to added (0 + x.len) (xs ++ here ∷ aside)) (start-apart x (place_after from to added (first_kept from to (0 + x.len) (xs ++ here ∷ aside))) (nat_lt (0 + x.len) from) (is_below (0 + x.len) from (omega arith))) in
     let rest : kept_marks from to added (0 + x.len) (xs ++ here ∷ aside) ≡ xs ++ ending from to added (x.len + reach xs) here aside =
     front-kept from to added (0 + x.len) (x.len + reach xs) xs here aside (omega arith) lt ∙ ap (λ l. xs ++ l) (ending-kept from to added (x.len + reach xs) here aside o lt) in
     ending-cut from to added (x ∷ xs) here marked aside there ∙ sym (start ∙ ap (λ l. x ∷ l) rest)
@@ -167,7 +167,7 @@ cut_front {S = S} from to added k = by (nat_lt (frontier_of k + k.here.len) from
   where
     by : (b : Bool) → (if b then k else record {
       front = k.front;
-      here = broken k.here (moved from to added (first_kept from to (frontier_of k + k.here.len) k.aside) - frontier_of k);
+      here = broken k.here (place_after from to added (first_kept from to (frontier_of k + k.here.len) k.aside) - frontier_of k);
       marked = k.marked;
       aside = kept_marks from to added (frontier_of k + k.here.len) k.aside;
     }).front ≡ k.front
@@ -199,9 +199,9 @@ kept_of front here marked aside = record { front = front; here = here; marked = 
 
 -- an edit at or before the frontier
 pub edited_at : {S : Type 0} (from to added : ℕ) (k g d : Kept S) → from ≤ to → from ≤ frontier_of k → AreWhole k.front → GoesBack from k g → d ≡ cut_off from to added g →
-    record { front = d.front; here = d.here; marked = true; aside = d.aside } ≡ edit_kept from to added k
+    record { front = d.front; here = d.here; marked = true; aside = d.aside } ≡ edit_noted from to added k
 edited_at {S = S} from to added k g d o le w b is =
-    let P : Kept S → Type 0 = λ j. record { front = j.front; here = j.here; marked = true; aside = j.aside } ≡ edit_kept from to added k in
+    let P : Kept S → Type 0 = λ j. record { front = j.front; here = j.here; marked = true; aside = j.aside } ≡ edit_noted from to added k in
     let all : edit_all from to added (all_of k) ≡ all_of (cut_off from to added g) = ap (edit_all from to added) (sym b.all) ∙ sym (cut_edits from to added g o b.there (inr b.touched)) in
     let j : Kept S = cut_off from to added g in
     let form = cut_is from to added g b.touched in
@@ -209,12 +209,12 @@ edited_at {S = S} from to added k g d o le w b is =
     let W : List (Mark S) → Type 0 = λ l. AreWhole l in
     let wholes : AreWhole j.front = subst W (sym (cut_front from to added g)) (whole-front g.front b.passed (subst W b.front w)) in
     let there = split-there true j.front j.here j.aside k wholes ends in
-    let split : edit_kept from to added k ≡ split_all k true (edit_all from to added (all_of k)) = ap (λ (c : Bool). split_all k (if c then k.marked else true) (edit_all from to added (all_of k))) (is_above (frontier_of k) from le) in
+    let split : edit_noted from to added k ≡ split_all k true (edit_all from to added (all_of k)) = ap (λ (c : Bool). split_all k (if c then k.marked else true) (edit_all from to added (all_of k))) (is_above (frontier_of k) from le) in
     subst P (sym is) (sym (split ∙ ap (split_all k true) all ∙ there))
 
 -- an edit behind the frontier
 pub edited_behind : {S : Type 0} (from to added : ℕ) (k g d m : Kept S) → from ≤ to → frontier_of k < from → AreWhole k.front → k.here.whole ≡ false → GoesOn from k g → d ≡ cut_off from to added g → d.marked ≡ g.marked →
-    ComesBack (length k.front) d m → m ≡ edit_kept from to added k
+    ComesBack (length k.front) d m → m ≡ edit_noted from to added k
 unfolding kept_of
 edited_behind {S = S} from to added k g d m o lt w ends b is mark back =
     let l : Left from to added (frontier_of k) k.front k.here k.aside (edit_all from to added (all_of k)) = left-all from to added (frontier_of k) k.front k.here k.aside w ends refl lt in
@@ -222,8 +222,8 @@ edited_behind {S = S} from to added k g d m o lt w ends b is mark back =
     back.all ∙ ap all_of is ∙ cut_edits from to added g o (inl b.before) b.there ∙ ap (edit_all from to added) b.all ∙ l.same in
     let same = same-parts m.front m.here m.aside k.front l.here (kept_marks from to added (frontier_of k + k.here.len) k.aside) back.front all in
     let there = split-there k.marked k.front l.here (kept_marks from to added (frontier_of k + k.here.len) k.aside) k w l.ends in
-    let split : edit_kept from to added k ≡ split_all k k.marked (edit_all from to added (all_of k)) = ap (λ (c : Bool). split_all k (if c then k.marked else true) (edit_all from to added (all_of k))) (is_below (frontier_of k) from lt) in
-    let whole : edit_kept from to added k ≡ kept_of k.front l.here k.marked (kept_marks from to added (frontier_of k + k.here.len) k.aside) = split ∙ ap (split_all k k.marked) l.same ∙ there in
+    let split : edit_noted from to added k ≡ split_all k k.marked (edit_all from to added (all_of k)) = ap (λ (c : Bool). split_all k (if c then k.marked else true) (edit_all from to added (all_of k))) (is_below (frontier_of k) from lt) in
+    let whole : edit_noted from to added k ≡ kept_of k.front l.here k.marked (kept_marks from to added (frontier_of k + k.here.len) k.aside) = split ∙ ap (split_all k k.marked) l.same ∙ there in
     ap (λ f. kept_of f m.here m.marked m.aside) same.front
     ∙ ap (λ h. kept_of k.front h m.marked m.aside) same.here
     ∙ ap (λ b. kept_of k.front l.here b m.aside) (back.marked ∙ mark ∙ b.marked)

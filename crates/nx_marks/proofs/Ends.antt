@@ -2,7 +2,7 @@
 use Rattle.std.proofs.Common.{◌≡◌, inl, inr, ℕ, ◌+◌, ◌-◌, ◌<◌, ◌≤◌, Bool, true, false, ◌||◌, nat_lt, List, [], ◌∷◌, ◌++◌, length, refl, sym, ap, subst, ◌∙◌, arith}
 use Rattle.std.specs.Prelude.{if◌then◌else◌}
 use Rattle.nx_marks.specs.Chain.{AreWhole, reach, Kept, frontier_of}
-use Rattle.nx_marks.specs.Editing.{edit_kept, moved, stays, first_kept, broken, kept_mark, kept_marks, split}
+use Rattle.nx_marks.specs.Editing.{edit_noted, place_after, stays, first_kept, broken, kept_mark, kept_marks, split}
 use Rattle.nx_marks.specs.Bound.{row_len}
 use Rattle.nx_marks.specs.declared.mark.Mark.{Mark}
 use Rattle.nx_marks.proofs.Places.{is_below, is_above, moved-behind, stays-behind}
@@ -28,7 +28,7 @@ cons-behind from to added p x xs lt = by (stays from to p) (stays-behind from to
 pub kept-behind : {S : Type 0} (from to added p q : ℕ) (x : Mark S) → to < p → kept_mark from to added p x q ≡ x
 kept-behind from to added p q x lt = by (nat_lt (p + x.len) from) (nat_lt to p) (is_below to p lt)
   where
-    by : (a c : Bool) → c ≡ true → (if a || c then x else broken x (moved from to added q - moved from to added p)) ≡ x
+    by : (a c : Bool) → c ≡ true → (if a || c then x else broken x (place_after from to added q - place_after from to added p)) ≡ x
     by true c f = refl
     by false true f = refl
     by false false f = absurd (cc)
@@ -47,12 +47,12 @@ some-behind {S = S} from to added p (x ∷ xs) z zs lt = let P : List (Mark S) �
 
 -- whole marks from the edit's first place on, and the state behind them, which lies behind the edit: the first row aside reaches that state
 pub row-kept : {S : Type 0} (from to added q e : ℕ) (ws : List (Mark S)) (z : Mark S) → from ≤ to → AreWhole ws → from ≤ q → q + reach ws ≡ e → to < e →
-    moved from to added (first_kept from to q (ws ++ z ∷ [])) + row_len (kept_marks from to added q (ws ++ z ∷ [])) ≡ moved from to added e
+    place_after from to added (first_kept from to q (ws ++ z ∷ [])) + row_len (kept_marks from to added q (ws ++ z ∷ [])) ≡ place_after from to added e
 row-kept {S = S} from to added q e [] z le w start at lt =
     let here : q ≡ e = omega arith in
     let behind : to < q = omega arith in
-    let P : List (Mark S) → Type 0 = λ l. moved from to added (first_kept from to q (z ∷ [])) + row_len l ≡ moved from to added e in
-    let first : moved from to added (first_kept from to q (z ∷ [])) ≡ moved from to added e = ap (moved from to added) (first-stays from to q (z ∷ []) (stays-behind from to q behind) ∙ here) in
+    let P : List (Mark S) → Type 0 = λ l. place_after from to added (first_kept from to q (z ∷ [])) + row_len l ≡ place_after from to added e in
+    let first : place_after from to added (first_kept from to q (z ∷ [])) ≡ place_after from to added e = ap (place_after from to added) (first-stays from to q (z ∷ []) (stays-behind from to q behind) ∙ here) in
     subst P (sym (cons-behind from to added q z [] behind)) (omega arith)
 row-kept {S = S} from to added q e (x ∷ ws) z le w start at lt =
     let rest : List (Mark S) = ws ++ z ∷ [] in
@@ -64,12 +64,12 @@ row-kept {S = S} from to added q e (x ∷ ws) z le w start at lt =
           let far : to < q + x.len = omega arith in
           let row : row_len (kept_marks from to added q (x ∷ rest)) ≡ x.len + row_len (kept_marks from to added (q + x.len) rest) =
           ap row_len list ∙ row-cons x (kept_marks from to added (q + x.len) rest) w.0 (some-behind from to added (q + x.len) ws z [] far) in
-          let first : moved from to added (first_kept from to q (x ∷ rest)) ≡ from + added + (q - to) = ap (moved from to added) (first-stays from to q (x ∷ rest) (stays-behind from to q behind)) ∙ moved-behind from to added q start in
-          let next : moved from to added (first_kept from to (q + x.len) rest) ≡ from + added + (q + x.len - to) = ap (moved from to added) (first-stays from to (q + x.len) rest (stays-behind from to (q + x.len) far)) ∙ moved-behind from to added (q + x.len) (omega arith) in
+          let first : place_after from to added (first_kept from to q (x ∷ rest)) ≡ from + added + (q - to) = ap (place_after from to added) (first-stays from to q (x ∷ rest) (stays-behind from to q behind)) ∙ moved-behind from to added q start in
+          let next : place_after from to added (first_kept from to (q + x.len) rest) ≡ from + added + (q + x.len - to) = ap (place_after from to added) (first-stays from to (q + x.len) rest (stays-behind from to (q + x.len) far)) ∙ moved-behind from to added (q + x.len) (omega arith) in
           omega arith)
       | inr between ↦
-          (let P : Bool → Type 0 = λ b. moved from to added (if b then q else first_kept from to (q + x.len) rest)
-          + row_len (if b then kept_mark from to added q x (first_kept from to (q + x.len) rest) ∷ kept_marks from to added (q + x.len) rest else kept_marks from to added (q + x.len) rest) ≡ moved from to added e in
+          (let P : Bool → Type 0 = λ b. place_after from to added (if b then q else first_kept from to (q + x.len) rest)
+          + row_len (if b then kept_mark from to added q x (first_kept from to (q + x.len) rest) ∷ kept_marks from to added (q + x.len) rest else kept_marks from to added (q + x.len) rest) ≡ place_after from to added e in
           subst P (sym (gone-between from to q start between)) on)
     ]
 
@@ -79,15 +79,15 @@ append-nil (x ∷ xs) = ap (λ l. x ∷ l) (append-nil xs)
 
 -- where nothing was aside and a mark or the frontier lies behind the edit, the first row aside ends where the frontier was
 pub edit_row : {S : Type 0} (from to added : ℕ) (k : Kept S) → from ≤ to → AreWhole k.front → k.here.whole ≡ false → k.aside ≡ [] → to < frontier_of k →
-    frontier_of (edit_kept from to added k) + (edit_kept from to added k).here.len + row_len (edit_kept from to added k).aside ≡ moved from to added (frontier_of k)
+    frontier_of (edit_noted from to added k) + (edit_noted from to added k).here.len + row_len (edit_noted from to added k).aside ≡ place_after from to added (frontier_of k)
 edit_row {S = S} from to added k le w ends none lt =
-    let j : Kept S = edit_kept from to added k in
+    let j : Kept S = edit_noted from to added k in
     let e = edit_at from to added k le w ends (omega arith) in
     let some : 0 < frontier_of k = omega arith in
     let b = e.behind some in
     let rest : e.rest ++ k.aside ≡ b.marks ++ k.here ∷ [] = ap (λ l. e.rest ++ l) none ∙ append-nil e.rest ∙ b.are in
     let row = row-kept from to added (reach e.keep + e.mark.len) (frontier_of k) b.marks k.here le b.whole b.touched b.reaches lt in
-    let R : List (Mark S) → Type 0 = λ l. moved from to added (first_kept from to (reach e.keep + e.mark.len) l) + row_len (kept_marks from to added (reach e.keep + e.mark.len) l) ≡ moved from to added (frontier_of k) in
+    let R : List (Mark S) → Type 0 = λ l. place_after from to added (first_kept from to (reach e.keep + e.mark.len) l) + row_len (kept_marks from to added (reach e.keep + e.mark.len) l) ≡ place_after from to added (frontier_of k) in
     let done = subst R (sym rest) row in
-    let far : frontier_of j + j.here.len ≡ moved from to added (first_kept from to (reach e.keep + e.mark.len) (e.rest ++ k.aside)) = ap (λ n. n + j.here.len) (ap reach e.front) ∙ e.far in
-    ap (λ n. n + row_len j.aside) far ∙ ap (λ l. moved from to added (first_kept from to (reach e.keep + e.mark.len) (e.rest ++ k.aside)) + row_len l) e.aside ∙ done
+    let far : frontier_of j + j.here.len ≡ place_after from to added (first_kept from to (reach e.keep + e.mark.len) (e.rest ++ k.aside)) = ap (λ n. n + j.here.len) (ap reach e.front) ∙ e.far in
+    ap (λ n. n + row_len j.aside) far ∙ ap (λ l. place_after from to added (first_kept from to (reach e.keep + e.mark.len) (e.rest ++ k.aside)) + row_len l) e.aside ∙ done

@@ -3,7 +3,7 @@ use Rattle.std.proofs.Common.{◌≡◌, ◌⊎◌, inl, inr, ℕ, ◌+◌, ◌-
 use Rattle.std.specs.Prelude.{if◌then◌else◌}
 use Rattle.nx_base.specs.Rules.{Rules}
 use Rattle.nx_marks.specs.Chain.{AreWhole, reach, Kept, all_of, frontier_of, MarksHold}
-use Rattle.nx_marks.specs.Editing.{moved, stays, is_apart, first_kept, broken, kept_mark, kept_marks, edit_all, split, split_all, edit_kept, EditBehind}
+use Rattle.nx_marks.specs.Editing.{place_after, stays, is_apart, first_kept, broken, kept_mark, kept_marks, edit_all, split, split_all, edit_noted, EditBehind}
 use Rattle.nx_marks.specs.declared.mark.Mark.{Mark}
 use Rattle.nx_marks.proofs.Places.{below, is_below, Apart, before, behind, apart, stays-before}
 use Rattle.nx_marks.proofs.Splits.{split-there}
@@ -25,7 +25,7 @@ under-kept from to added p [] le lt = tt
 under-kept from to added p (x ∷ xs) le lt = by (stays from to p) (stays-before from to p lt) (λ l. under-kept from to added (p + x.len) xs le l)
   where
     one : (b : Bool) → is_apart from to p x.len ≡ b → (p + x.len < from → Under from (p + x.len) (kept_marks from to added (p + x.len) xs)) →
-        Under from p ((if b then x else broken x (moved from to added (first_kept from to (p + x.len) xs) - moved from to added p)) ∷ kept_marks from to added (p + x.len) xs)
+        Under from p ((if b then x else broken x (place_after from to added (first_kept from to (p + x.len) xs) - place_after from to added p)) ∷ kept_marks from to added (p + x.len) xs)
     one true e rest = λ w. let l = apart-under from to p x.len le lt e in (l, rest l)
     one false e rest = λ w. absurd (cc)
 
@@ -39,7 +39,7 @@ under-all from to added [] le = tt
 under-all from to added (x ∷ xs) le = one (nat_lt (0 + x.len) from) refl
   where
     one : (b : Bool) → nat_lt (0 + x.len) from ≡ b →
-        Under from 0 ((if b then x else broken x (moved from to added (first_kept from to (0 + x.len) xs))) ∷ kept_marks from to added (0 + x.len) xs)
+        Under from 0 ((if b then x else broken x (place_after from to added (first_kept from to (0 + x.len) xs))) ∷ kept_marks from to added (0 + x.len) xs)
     one true e = λ w. let l = below (0 + x.len) from e in (l, under-kept from to added (0 + x.len) xs le l)
     one false e = λ w. absurd (cc)
 
@@ -58,7 +58,7 @@ under-split from p marked x (y ∷ ys) h = by x.whole refl (λ u. under-split fr
     by false e rest = inr refl
 
 -- the frontier lies before the edit, or is the start
-pub edit_frontier : {S : Type 0} (from to added : ℕ) (k : Kept S) → from ≤ to → (frontier_of (edit_kept from to added k) < from) ⊎ (frontier_of (edit_kept from to added k) ≡ 0)
+pub edit_frontier : {S : Type 0} (from to added : ℕ) (k : Kept S) → from ≤ to → (frontier_of (edit_noted from to added k) < from) ⊎ (frontier_of (edit_noted from to added k) ≡ 0)
 edit_frontier {S = S} from to added k le = by (if nat_lt (frontier_of k) from then k.marked else true) k.front
   where
     one : (marked : Bool) (x : Mark S) (ys : List (Mark S)) → Under from 0 (x ∷ ys) → (reach (split marked x ys).front < from) ⊎ (reach (split marked x ys).front ≡ 0)
@@ -70,10 +70,10 @@ edit_frontier {S = S} from to added k le = by (if nat_lt (frontier_of k) from th
 
     by : (marked : Bool) (xs : List (Mark S)) → (frontier_of (split_all k marked (edit_all from to added (xs ++ k.here ∷ k.aside))) < from) ⊎ (frontier_of (split_all k marked (edit_all from to added (xs ++ k.here ∷ k.aside))) ≡ 0)
     by marked [] =
-        one marked (if nat_lt (0 + k.here.len) from then k.here else broken k.here (moved from to added (first_kept from to (0 + k.here.len) k.aside)))
+        one marked (if nat_lt (0 + k.here.len) from then k.here else broken k.here (place_after from to added (first_kept from to (0 + k.here.len) k.aside)))
         (kept_marks from to added (0 + k.here.len) k.aside) (under-all from to added (k.here ∷ k.aside) le)
     by marked (x ∷ xs) =
-        one marked (if nat_lt (0 + x.len) from then x else broken x (moved from to added (first_kept from to (0 + x.len) (xs ++ k.here ∷ k.aside))))
+        one marked (if nat_lt (0 + x.len) from then x else broken x (place_after from to added (first_kept from to (0 + x.len) (xs ++ k.here ∷ k.aside))))
         (kept_marks from to added (0 + x.len) (xs ++ k.here ∷ k.aside)) (under-all from to added (x ∷ xs ++ k.here ∷ k.aside) le)
 
 -- ---- an edit behind the frontier
@@ -81,7 +81,7 @@ edit_frontier {S = S} from to added k le = by (if nat_lt (frontier_of k) from th
 pub kept-apart : {S : Type 0} (from to added p q : ℕ) (x : Mark S) → p + x.len < from → kept_mark from to added p x q ≡ x
 kept-apart from to added p q x lt = by (nat_lt (p + x.len) from) (is_below (p + x.len) from lt)
   where
-    by : (a : Bool) → a ≡ true → (if a || nat_lt to p then x else broken x (moved from to added q - moved from to added p)) ≡ x
+    by : (a : Bool) → a ≡ true → (if a || nat_lt to p then x else broken x (place_after from to added q - place_after from to added p)) ≡ x
     by true f = refl
     by false f = absurd (cc)
 
@@ -105,14 +105,14 @@ pub record Left {S : Type 0} (from to added q : ℕ) (xs : List (Mark S)) (z : M
 kept-state : {S : Type 0} (from to added p q : ℕ) (z : Mark S) → (kept_mark from to added p z q).state ≡ z.state
 kept-state from to added p q z = by (is_apart from to p z.len)
   where
-    by : (a : Bool) → (if a then z else broken z (moved from to added q - moved from to added p)).state ≡ z.state
+    by : (a : Bool) → (if a then z else broken z (place_after from to added q - place_after from to added p)).state ≡ z.state
     by true = refl
     by false = refl
 
 kept-ends : {S : Type 0} (from to added p q : ℕ) (z : Mark S) → z.whole ≡ false → (kept_mark from to added p z q).whole ≡ false
 kept-ends from to added p q z e = by (is_apart from to p z.len)
   where
-    by : (a : Bool) → (if a then z else broken z (moved from to added q - moved from to added p)).whole ≡ false
+    by : (a : Bool) → (if a then z else broken z (place_after from to added q - place_after from to added p)).whole ≡ false
     by true = e
     by false = refl
 
@@ -144,17 +144,17 @@ pub left-all : {S : Type 0} (from to added q : ℕ) (xs : List (Mark S)) (z : Ma
 left-all from to added q [] z zs w e at lt =
     let P : ℕ → Type 0 = λ n. Left from to added n [] z zs (edit_all from to added (z ∷ zs)) in
     subst P at (record {
-      here = if nat_lt (0 + z.len) from then z else broken z (moved from to added (first_kept from to (0 + z.len) zs));
+      here = if nat_lt (0 + z.len) from then z else broken z (place_after from to added (first_kept from to (0 + z.len) zs));
       same = refl;
       state = state (nat_lt (0 + z.len) from);
       ends = ends (nat_lt (0 + z.len) from);
     })
   where
-    state : (a : Bool) → (if a then z else broken z (moved from to added (first_kept from to (0 + z.len) zs))).state ≡ z.state
+    state : (a : Bool) → (if a then z else broken z (place_after from to added (first_kept from to (0 + z.len) zs))).state ≡ z.state
     state true = refl
     state false = refl
 
-    ends : (a : Bool) → (if a then z else broken z (moved from to added (first_kept from to (0 + z.len) zs))).whole ≡ false
+    ends : (a : Bool) → (if a then z else broken z (place_after from to added (first_kept from to (0 + z.len) zs))).whole ≡ false
     ends true = e
     ends false = refl
 left-all from to added q (x ∷ xs) z zs w e at lt =
@@ -169,11 +169,11 @@ left-all from to added q (x ∷ xs) z zs w e at lt =
       ends = rest.ends;
     }
   where
-    by : (a : Bool) → a ≡ true → (if a then x else broken x (moved from to added (first_kept from to (0 + x.len) (xs ++ z ∷ zs)))) ≡ x
+    by : (a : Bool) → a ≡ true → (if a then x else broken x (place_after from to added (first_kept from to (0 + x.len) (xs ++ z ∷ zs)))) ≡ x
     by true f = refl
     by false f = absurd (cc)
 
-pub edit_behind : {S M : Type 0} (is_state : S → Type 0) (means : S → M) (r : Rules M) (t : List ℕ) (from to added : ℕ) (k : Kept S) → MarksHold is_state means r t k → frontier_of k < from → EditBehind from to added k (edit_kept from to added k)
+pub edit_behind : {S M : Type 0} (is_state : S → Type 0) (means : S → M) (r : Rules M) (t : List ℕ) (from to added : ℕ) (k : Kept S) → MarksHold is_state means r t k → frontier_of k < from → EditBehind from to added k (edit_noted from to added k)
 edit_behind is_state means r t from to added k h lt = by (nat_lt (frontier_of k) from) (is_below (frontier_of k) from lt)
   where
     l : Left from to added (frontier_of k) k.front k.here k.aside (edit_all from to added (all_of k))

@@ -1,10 +1,10 @@
 -- What is right for a machine is right for each later one.
-use Rattle.std.proofs.Common.{◌≡◌, ℕ, ◌+◌, Bool, true, false, List, [], ◌∷◌, refl, sym, subst, ◌∙◌}
+use Rattle.std.proofs.Common.{◌≡◌, ℕ, ◌+◌, Bool, true, false, List, [], ◌∷◌, refl, sym, ap, subst, ◌∙◌}
 use Rattle.nx_base.specs.Rules.{Rules, LaterLaws}
 use Rattle.nx_base.specs.Running.{after_all}
 use Rattle.nx_marks.specs.Ruling.{is_due}
 use Rattle.nx_marks.specs.Chain.{FirstMeans, Segment, Link, Chain, Kept, all_of}
-use Rattle.nx_marks.specs.Right.{tags_behind, IsRight}
+use Rattle.nx_marks.specs.Right.{tags_behind, NonePends, IsRight}
 use Rattle.nx_marks.specs.declared.mark.Mark.{Mark}
 use Rattle.nx_marks.proofs.Taking.{chain-tail}
 
@@ -31,6 +31,10 @@ module _ {Self S M : Type 0} (later : Self → Self → Type 0) (is_state : Self
   chain-later a b r t p (x ∷ xs) l h =
       (laws.state a b x.state l h.0, (link-later a b r t p x.whole x xs l h.0 (own-first a r t (p + x.len) xs h.1.1) h.1.0, chain-later a b r t (p + x.len) xs l h.1.1))
 
+  pends-later : (a b : Self) (r : Rules M) (t : List ℕ) (p : ℕ) (xs : List (Mark S)) → later a b → Chain (is_state a) (means a) r t p xs → NonePends (means a) r xs → NonePends (means b) r xs
+  pends-later a b r t p [] l h u = u
+  pends-later a b r t p (x ∷ xs) l h u = ((λ yes. ap r.back (laws.meaning a b x.state l h.0) ∙ u.0 yes), pends-later a b r t (p + x.len) xs l h.1.1 u.1)
+
   pub right_later : (a b : Self) (t : List ℕ) (k : Kept S) → later a b → IsRight (is_state a) (means a) (rules a) t k → IsRight (is_state b) (means b) (rules b) t k
   right_later a b t k l h =
       let r = rules a in
@@ -46,5 +50,5 @@ module _ {Self S M : Type 0} (later : Self → Self → Type 0) (is_state : Self
           whole = h.holds.whole;
           ends = h.holds.ends;
         };
-        rule = record { rule = λ no. subst D e (h.rule.rule no); some = h.rule.some; mark = λ yes. subst B e (h.rule.mark yes) };
+        rule = record { rule = λ no. subst D e (h.rule.rule no); some = h.rule.some; mark = λ yes. subst B e (h.rule.mark yes); saved = pends-later a b r t _ k.aside l tail.1.1 h.rule.saved };
       })

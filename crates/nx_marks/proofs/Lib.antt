@@ -3,6 +3,7 @@ pub mod Edits
 pub mod Splits
 pub mod Fronts
 pub mod Taking
+pub mod Pending
 pub mod Rules
 pub mod Joining
 pub mod Reading
@@ -17,6 +18,8 @@ pub mod Walking
 pub mod Cutting
 pub mod Passing
 pub mod Stepping
+pub mod Keeping
+pub mod Noting
 pub mod Rejoining
 pub mod Moving
 pub mod Listing

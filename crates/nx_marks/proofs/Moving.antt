@@ -8,7 +8,7 @@ use Rattle.nx_base.specs.Tokens.{cut}
 use Rattle.nx_base.specs.declared.token.Token.{Token}
 use Rattle.nx_marks.specs.Bound.{WillJoin, JoinsIn}
 use Rattle.nx_marks.specs.Chain.{Kept, FirstMeans, frontier_of, reach}
-use Rattle.nx_marks.specs.Editing.{edit_kept, moved}
+use Rattle.nx_marks.specs.Editing.{edit_noted, place_after}
 use Rattle.nx_marks.specs.Frontier.{IsBorder, MovesOver}
 use Rattle.nx_marks.specs.Rejoining.{Rejoins}
 use Rattle.nx_marks.specs.Right.{IsRight}
@@ -129,7 +129,7 @@ module _ {S M : Type 0} (is_state : S → Type 0) (means : S → M) (r : Rules M
   -- the marks that a token passes go
   pub gone_there : (k : Kept S) (n : ℕ) → frontier_of k + n ≤ length t → IsRight is_state means r t k → Gone is_state means r t n (0 + reach k.front) k.here k.front k.marked (gone_from n k)
   gone_there k n fits h =
-      gone is_state means r t n (0 + reach k.front) k.here k.front k.marked k.aside h.holds.ends (omega arith) (chain-tail is_state means r t 0 (0 + reach k.front) k.front (k.here ∷ k.aside) refl h.holds.chain)
+      gone is_state means r t n (0 + reach k.front) k.here k.front k.marked k.aside h.holds.ends (omega arith) (chain-tail is_state means r t 0 (0 + reach k.front) k.front (k.here ∷ k.aside) refl h.holds.chain) h.rule.saved
 
   -- a token was found at the frontier, and the marks that it passes are gone
   pub record Passed (k j : Kept S) (token : Token) : Type 0 where
@@ -186,11 +186,11 @@ none_aside is_state means r t k h all (inl some) = absurd (let e = all_within is
 -- behind one edit of a text that is read to its end, the row of the first mark behind the edit reaches the new end
 pub will_join : {S M : Type 0} (is_state : S → Type 0) (means : S → M) (r : Rules M) (t added : List ℕ) (from to : ℕ) (k : Kept S) (left : List Lexeme) → IsUtf8 t → IsUtf8 added → IsPlace t from → IsPlace t to → from ≤ to →
     IsRight is_state means r t k → frontier_of k ≡ length t → k.aside ≡ [] → to < length t →
-    CutsTo (edited t from to added) (frontier_of (edit_kept from to (length added) k)) left (frontier_of (edit_kept from to (length added) k) + (edit_kept from to (length added) k).here.len) →
-    FirstMeans means (after_all r (means (edit_kept from to (length added) k).here.state) left) (edit_kept from to (length added) k).aside →
-    WillJoin means r (edited t from to added) (length left) (edit_kept from to (length added) k)
+    CutsTo (edited t from to added) (frontier_of (edit_noted from to (length added) k)) left (frontier_of (edit_noted from to (length added) k) + (edit_noted from to (length added) k).here.len) →
+    FirstMeans means (after_all r (means (edit_noted from to (length added) k).here.state) left) (edit_noted from to (length added) k).aside →
+    WillJoin means r (edited t from to added) (length left) (edit_noted from to (length added) k)
 will_join is_state means r t added from to k left utf8 added_utf8 f u o h all none behind cuts first =
     let row = edit_row from to (length added) k o h.holds.whole h.holds.ends none (omega arith) in
     let long = edited-length t added from to utf8 added_utf8 f u o in
-    let end : moved from to (length added) (frontier_of k) ≡ from + length added + (frontier_of k - to) = moved-behind from to (length added) (frontier_of k) (omega arith) in
+    let end : place_after from to (length added) (frontier_of k) ≡ from + length added + (frontier_of k - to) = moved-behind from to (length added) (frontier_of k) (omega arith) in
     record { left = left; cuts = cuts; first = first; row = omega arith; count = refl }

@@ -47,9 +47,9 @@ pub pass_fewer : {S : Type 0} (k j : Kept S) → PassesNext k j → length j.asi
 pass_fewer k j s = let a = ap length s.are in let c = ap (λ (i : Kept _). length i.aside) s.is in omega arith
 
 -- none is left
-pub go_none : {S : Type 0} (n : ℕ) (k : Kept S) → k.aside ≡ [] → gone_from n k ≡ record { front = k.front; here = record { state = k.here.state; len = n; tags = k.here.tags; faults = k.here.faults; whole = k.here.whole }; marked = k.marked; aside = k.aside }
+pub go_none : {S : Type 0} (n : ℕ) (k : Kept S) → k.aside ≡ [] → gone_from n k ≡ record { front = k.front; here = record { state = k.here.state; len = n; tags = k.here.tags; faults = k.here.faults; whole = k.here.whole; saved = k.here.saved }; marked = k.marked; aside = k.aside }
 go_none {S = S} n k e =
-    let P : List (Mark S) → Type 0 = λ l. let_go n k.here k.front k.marked l ≡ record { front = k.front; here = record { state = k.here.state; len = n; tags = k.here.tags; faults = k.here.faults; whole = k.here.whole }; marked = k.marked; aside = l } in
+    let P : List (Mark S) → Type 0 = λ l. let_go n k.here k.front k.marked l ≡ record { front = k.front; here = record { state = k.here.state; len = n; tags = k.here.tags; faults = k.here.faults; whole = k.here.whole; saved = k.here.saved }; marked = k.marked; aside = l } in
     subst P (sym e) refl
 
 -- the next one isn't reached
@@ -122,5 +122,5 @@ let_went n old k g some = by g.there
     by (inr le) = sym (go_idle n k some le) ∙ g.same
 
 pub let_all_go : {S : Type 0} (n : ℕ) (old k : Kept S) → PassesUpTo n old k → k.aside ≡ [] →
-    record { front = k.front; here = record { state = k.here.state; len = n; tags = k.here.tags; faults = k.here.faults; whole = k.here.whole }; marked = k.marked; aside = k.aside } ≡ gone_from n old
+    record { front = k.front; here = record { state = k.here.state; len = n; tags = k.here.tags; faults = k.here.faults; whole = k.here.whole; saved = k.here.saved }; marked = k.marked; aside = k.aside } ≡ gone_from n old
 let_all_go n old k g none = sym (go_none n k none) ∙ g.same

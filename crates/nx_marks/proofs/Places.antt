@@ -11,7 +11,7 @@ use Rattle.nx_base.specs.Text.{IsPlace, edited}
 use Rattle.nx_base.specs.Tokens.{Cut, cut, end_of, first_token}
 use Rattle.nx_base.specs.Rules.{Lexeme, lexeme_of}
 use Rattle.nx_base.specs.Running.{CutsTo}
-use Rattle.nx_marks.specs.Editing.{moved, stays, is_apart}
+use Rattle.nx_marks.specs.Editing.{place_after, stays, is_apart}
 
 pub below : (a b : ℕ) → nat_lt a b ≡ true → a < b
 below a b h = grind (arith, nat_tests)
@@ -25,16 +25,16 @@ is_below a b h = grind (arith, nat_tests)
 pub is_above : (a b : ℕ) → b ≤ a → nat_lt a b ≡ false
 is_above a b h = grind (arith, nat_tests)
 
-pub moved-before : (from to added p : ℕ) → p < from → moved from to added p ≡ p
+pub moved-before : (from to added p : ℕ) → p < from → place_after from to added p ≡ p
 moved-before from to added p h = rw (is_below p from h) refl
 
-pub moved-behind : (from to added p : ℕ) → from ≤ p → moved from to added p ≡ from + added + (p - to)
+pub moved-behind : (from to added p : ℕ) → from ≤ p → place_after from to added p ≡ from + added + (p - to)
 moved-behind from to added p h = rw (is_above p from h) refl
 
-pub moved-grows : (from to added p q : ℕ) → from ≤ to → p ≤ q → moved from to added p ≤ moved from to added q
+pub moved-grows : (from to added p q : ℕ) → from ≤ to → p ≤ q → place_after from to added p ≤ place_after from to added q
 moved-grows from to added p q o h = by (nat_lt p from) refl (nat_lt q from) refl
   where
-    by : (a : Bool) → nat_lt p from ≡ a → (b : Bool) → nat_lt q from ≡ b → moved from to added p ≤ moved from to added q
+    by : (a : Bool) → nat_lt p from ≡ a → (b : Bool) → nat_lt q from ≡ b → place_after from to added p ≤ place_after from to added q
     by true e true f = rw (e, f) h
     by true e false f = let one = below p from e in rw (e, f) (omega arith)
     by false e true f = let one = above p from e in let two = below q from f in absurd (omega arith)
@@ -179,7 +179,7 @@ module _ (t added : List ℕ) (from to : ℕ) (utf8 : IsUtf8 t) (added_utf8 : Is
       (place-before p (omega arith) h.0, (omega arith, (h.1.1.0 ∙ ap lexeme_of (sym same), cuts-before (p + length k.bytes) q ks lt h.1.1.1)))
 
   -- tokens behind an edit stay
-  pub cuts-behind : (p q : ℕ) (ks : List Lexeme) → to < p → CutsTo t p ks q → CutsTo (edited t from to added) (moved from to (length added) p) ks (moved from to (length added) p + size ks)
+  pub cuts-behind : (p q : ℕ) (ks : List Lexeme) → to < p → CutsTo t p ks q → CutsTo (edited t from to added) (place_after from to (length added) p) ks (place_after from to (length added) p + size ks)
   cuts-behind p q ks h cuts =
-      let e : moved from to (length added) p ≡ from + length added + (p - to) = moved-behind from to (length added) p (omega arith) in
+      let e : place_after from to (length added) p ≡ from + length added + (p - to) = moved-behind from to (length added) p (omega arith) in
       rw e (cuts-alike t (edited t from to added) p (from + length added + (p - to)) q ks (same-behind p (omega arith)) (omega arith) (omega arith) cuts)

@@ -2,6 +2,7 @@
 use Rattle.std.proofs.Common.{◌≡◌, ℕ, ◌+◌, List, ◌∷◌, refl, sym, ap, ◌∙◌}
 use Rattle.nx_base.specs.Rules.{Rules}
 use Rattle.nx_marks.specs.Chain.{reach, Kept}
+use Rattle.nx_marks.specs.Editing.{noted}
 use Rattle.nx_marks.specs.Right.{tags_behind, IsRight}
 use Rattle.nx_marks.specs.Ruling.{is_due}
 use Rattle.nx_marks.specs.declared.mark.Mark.{Mark}
@@ -24,5 +25,12 @@ same_right {M = M} is_state means r t k here w n own same h =
         rule = λ no. ap (λ m. is_due r m (tags_behind k.front)) same ∙ h.rule.rule no;
         some = h.rule.some;
         mark = λ yes. ap r.back same ∙ h.rule.mark yes;
+        saved = h.rule.saved;
       };
     }
+
+-- the frontier's state may say whether it is a mark
+pub note_right : {S M : Type 0} (is_state : S → Type 0) (means : S → M) (r : Rules M) (t : List ℕ) (k : Kept S) → IsRight is_state means r t k → IsRight is_state means r t (noted k)
+note_right is_state means r t k h =
+    let own = (chain-tail is_state means r t 0 (0 + reach k.front) k.front (k.here ∷ k.aside) refl h.holds.chain).0 in
+    same_right is_state means r t k (noted k).here refl refl own refl h

@@ -1,13 +1,14 @@
 -- Rows aside are joined.
-use Rattle.std.proofs.Common.{◌≡◌, ◌⊎◌, inl, inr, ℕ, ◌+◌, ◌<◌, ◌≤◌, Bool, true, false, List, [], ◌∷◌, ◌++◌, length, refl, sym, ap, subst, ◌∙◌, arith}
+use Rattle.std.proofs.Common.{◌≡◌, ◌⊎◌, inl, inr, ℕ, ◌+◌, ◌<◌, ◌≤◌, Bool, true, false, ◌||◌, List, [], ◌∷◌, ◌++◌, length, refl, sym, ap, subst, ◌∙◌, arith}
 use Rattle.std.specs.Prelude.{IsUtf8, if◌then◌else◌}
 use Rattle.nx_base.specs.Rules.{Rules, RulesLaws, Lexeme}
 use Rattle.nx_base.specs.Running.{CutsTo, after_all}
 use Rattle.nx_marks.specs.Bound.{WillJoin}
 use Rattle.nx_marks.specs.Chain.{FirstMeans, Chain, Kept, all_of, frontier_of, reach}
 use Rattle.nx_marks.specs.Editing.{split}
+use Rattle.nx_marks.specs.Keeping.{KeepsMarks}
 use Rattle.nx_marks.specs.Rejoining.{Joins, RejoinsOne, Rejoins}
-use Rattle.nx_marks.specs.Right.{IsRight, IsRightForSome, tags_behind}
+use Rattle.nx_marks.specs.Right.{IsRight, IsRightForSome, NonePends, tags_behind}
 use Rattle.nx_marks.specs.Ruling.{is_due}
 use Rattle.nx_marks.specs.Taking.{joined, marked_behind}
 use Rattle.nx_marks.specs.Walking.{PassesNext, TakesNext, Follows, farther}
@@ -16,6 +17,7 @@ use Rattle.nx_marks.proofs.Taking.{chain-tail, chain-with, first-with, open-link
 use Rattle.nx_marks.proofs.Rules.{rule-same}
 use Rattle.nx_marks.proofs.Joining.{joined_right}
 use Rattle.nx_marks.proofs.Bounding.{joined_all}
+use Rattle.nx_marks.proofs.Keeping.{keeps_all, keeps_on, keeps_dropping, keeps_joined}
 use Rattle.nx_marks.proofs.Stepping.{reach-append, all_within, own_states}
 
 kept_of : {S : Type 0} → List (Mark S) → Mark S → Bool → List (Mark S) → Kept S
@@ -43,21 +45,26 @@ row_longer {S = S} k a b t f =
     let m = length-both k.front (split k.marked t.mark t.behind).front in
     omega arith
 
-pub joins_without : {S M : Type 0} (means : S → M) (r : Rules M) (k a b : Kept S) → TakesNext k a → Follows a b → length b.front ≡ length k.front → Joins means r k b
+pub joins_without : {S M : Type 0} (means : S → M) (r : Rules M) (k a b : Kept S) → TakesNext k a → Follows a b → length b.front ≡ length k.front → Joins means r k (record { front = b.front; here = b.here; marked = b.marked || b.here.saved; aside = b.aside })
 unfolding kept_of
 joins_without {S = S} means r k a b t f same =
     let row = split k.marked t.mark t.behind in
     let is = followed_row k a b t f in
     let n = ap (λ (i : Kept S). length i.front) is in
     let m = length-both k.front row.front in
-    record { mark = t.mark; behind = t.behind; are = t.are; is = is ∙ ap (λ c. kept_of (k.front ++ row.front) row.here c row.aside) (by row.front (omega arith)) }
+    record {
+      mark = t.mark;
+      behind = t.behind;
+      are = t.are;
+      is = ap (λ (i : Kept S). kept_of i.front i.here (i.marked || i.here.saved) i.aside) is ∙ ap (λ c. kept_of (k.front ++ row.front) row.here c row.aside) (by row.front (omega arith));
+    }
   where
-    by : (l : List (Mark S)) → length l ≡ 0 → k.marked ≡ marked_behind means r k.marked (split k.marked t.mark t.behind).here.state l
+    by : (l : List (Mark S)) → length l ≡ 0 → (k.marked || (split k.marked t.mark t.behind).here.saved) ≡ marked_behind means r k.marked (split k.marked t.mark t.behind).here l
     by [] e = refl
     by (x ∷ xs) e = absurd (omega arith)
 
 pub joins_with : {S M : Type 0} (means : S → M) (r : Rules M) (k a b : Kept S) (due : Bool) → TakesNext k a → Follows a b → length k.front < length b.front → due ≡ is_due r (means b.here.state) (tags_behind b.front) →
-    Joins means r k (record { front = b.front; here = b.here; marked = due; aside = b.aside })
+    Joins means r k (record { front = b.front; here = b.here; marked = b.here.saved || due; aside = b.aside })
 unfolding kept_of
 joins_with {S = S} {M = M} means r k a b due t f more is_it =
     let row = split k.marked t.mark t.behind in
@@ -67,25 +74,26 @@ joins_with {S = S} {M = M} means r k a b due t f more is_it =
     let front : b.front ≡ k.front ++ row.front = ap (λ (i : Kept S). i.front) is in
     let here : b.here ≡ row.here = ap (λ (i : Kept S). i.here) is in
     let aside : b.aside ≡ row.aside = ap (λ (i : Kept S). i.aside) is in
-    let due_is : due ≡ marked_behind means r k.marked row.here.state row.front =
-    is_it ∙ ap (λ (x : Mark S). is_due r (means x.state) (tags_behind b.front)) here ∙ ap (λ l. is_due r (means row.here.state) (tags_behind l)) front ∙ by row.front (omega arith) in
+    let due_is : (b.here.saved || due) ≡ marked_behind means r k.marked row.here row.front =
+    ap (λ c. b.here.saved || c) is_it ∙ ap (λ (x : Mark S). x.saved || is_due r (means x.state) (tags_behind b.front)) here ∙ ap (λ l. row.here.saved || is_due r (means row.here.state) (tags_behind l)) front ∙ by row.front (omega arith) in
     record {
       mark = t.mark;
       behind = t.behind;
       are = t.are;
-      is = ap (λ l. kept_of l b.here due b.aside) front ∙ ap (λ x. kept_of (k.front ++ row.front) x due b.aside) here ∙ ap (λ c. kept_of (k.front ++ row.front) row.here c b.aside) due_is
-          ∙ ap (kept_of (k.front ++ row.front) row.here (marked_behind means r k.marked row.here.state row.front)) aside;
+      is = ap (λ l. kept_of l b.here (b.here.saved || due) b.aside) front ∙ ap (λ x. kept_of (k.front ++ row.front) x (b.here.saved || due) b.aside) here ∙ ap (λ c. kept_of (k.front ++ row.front) row.here c b.aside) due_is
+          ∙ ap (kept_of (k.front ++ row.front) row.here (marked_behind means r k.marked row.here row.front)) aside;
     }
   where
-    by : (l : List (Mark S)) → 0 < length l → is_due r (means (split k.marked t.mark t.behind).here.state) (tags_behind (k.front ++ l)) ≡ marked_behind means r k.marked (split k.marked t.mark t.behind).here.state l
+    by : (l : List (Mark S)) → 0 < length l → ((split k.marked t.mark t.behind).here.saved || is_due r (means (split k.marked t.mark t.behind).here.state) (tags_behind (k.front ++ l))) ≡ marked_behind means r k.marked (split k.marked t.mark t.behind).here l
     by [] e = absurd (omega arith)
-    by (x ∷ xs) e = ap (is_due r (means (split k.marked t.mark t.behind).here.state)) (tags-some k.front x xs)
+    by (x ∷ xs) e = ap (λ n. (split k.marked t.mark t.behind).here.saved || is_due r (means (split k.marked t.mark t.behind).here.state) n) (tags-some k.front x xs)
 
 -- several of them
 pub record Rejoining {S M : Type 0} (is_state : S → Type 0) (means : S → M) (r : Rules M) (old now : Kept S) : Type 0 where
   pub right : (t : List ℕ) → IsUtf8 t → IsRight is_state means r t old → IsRight is_state means r t now
   pub further : frontier_of old ≤ frontier_of now
   pub joins : (t : List ℕ) → IsUtf8 t → IsRight is_state means r t old → WillJoin means r t 0 old → (now ≡ old) ⊎ (frontier_of now ≡ length t)
+  pub keeps : (t : List ℕ) → IsUtf8 t → IsRight is_state means r t old → KeepsMarks means r t old now
   pub waits : 0 < old.here.len → now ≡ old
 
 module _ {S M : Type 0} (is_state : S → Type 0) (means : S → M) (r : Rules M) (laws : RulesLaws r) where
@@ -135,6 +143,8 @@ module _ {S M : Type 0} (is_state : S → Type 0) (means : S → M) (r : Rules M
         right = λ t utf8 h. joins_right t k j s here f h;
         further = omega arith;
         joins = λ t utf8 w. ap (λ (i : Kept S). frontier_of i) s.is ∙ (joined_all is_state means r t utf8 k s.mark s.behind 0 s.are here w).1;
+        keeps = λ t utf8 h. (let P : Kept S → Type 0 = λ i. KeepsMarks means r t k i in
+            subst P (sym s.is) (keeps_joined is_state means r t laws k s.mark s.behind s.are here h (joined_right is_state means r t laws k s.mark s.behind s.are here (first-of k s.mark s.behind (means k.here.state) s.are f) h)));
         fewer = omega arith;
       }
 
@@ -149,6 +159,7 @@ module _ {S M : Type 0} (is_state : S → Type 0) (means : S → M) (r : Rules M
       let there : at + k.here.len + s.mark.len ≡ at + (k.here.len + s.mark.len) = omega arith in
       let N : ℕ → Type 0 = λ n. Chain is_state means r t n s.behind in
       let on : Chain is_state means r t at (here ∷ s.behind) = (tail.0, (open-link is_state means r t at k.here.whole here s.behind h.holds.ends, subst N there next.1.1)) in
+      let N2 : List (Mark S) → Type 0 = λ l. NonePends means r l in
       let P : Kept S → Type 0 = λ i. IsRight is_state means r t i in
       subst P (sym s.is) (record {
         holds = record {
@@ -157,7 +168,7 @@ module _ {S M : Type 0} (is_state : S → Type 0) (means : S → M) (r : Rules M
           whole = h.holds.whole;
           ends = h.holds.ends;
         };
-        rule = rule-same means r k (record { front = k.front; here = here; marked = k.marked; aside = s.behind }) refl refl refl h.rule;
+        rule = rule-same means r k (record { front = k.front; here = here; marked = k.marked; aside = s.behind }) refl refl refl (subst N2 s.are h.rule.saved).1 h.rule;
       })
 
   -- with no token left the states mean the same
@@ -177,17 +188,21 @@ module _ {S M : Type 0} (is_state : S → Type 0) (means : S → M) (r : Rules M
         right = λ t utf8 h. passed_right t k j s h;
         further = omega arith;
         joins = λ t utf8 w. absurd (differs (joins_now t k utf8 here w));
+        keeps = λ t utf8 h. keeps_dropping is_state means r t laws k j s.mark s.behind utf8 h s.are here
+            (λ e. differs (let F : List (Mark S) → Type 0 = λ l. FirstMeans means (means k.here.state) l in subst F (sym s.are) e))
+            (ap (λ (i : Kept S). i.front) s.is) (ap (λ (i : Kept S). i.marked) s.is) (ap (λ (i : Kept S). i.aside) s.is) (ap (λ (i : Kept S). i.here.len) s.is);
         fewer = omega arith;
       }
 
   pub rejoin_began : (k : Kept S) → Rejoining is_state means r k k
-  rejoin_began k = record { right = λ t utf8 h. h; further = omega arith; joins = λ t utf8 h w. inl refl; waits = λ _. refl }
+  rejoin_began k = record { right = λ t utf8 h. h; further = omega arith; joins = λ t utf8 h w. inl refl; keeps = λ t utf8 h. keeps_all means r t k; waits = λ _. refl }
 
   pub rejoin_more : (old k j : Kept S) → Rejoining is_state means r old k → k.here.len ≡ 0 → RejoinsOne is_state means r k j → Rejoining is_state means r old j
   rejoin_more old k j g here s = record {
     right = λ t utf8 h. s.right t utf8 (g.right t utf8 h);
     further = (let a = g.further in let b = s.further in omega arith);
     joins = λ t utf8 h w. inr (by t utf8 h w (g.joins t utf8 h w));
+    keeps = λ t utf8 h. keeps_on means r t old k j (g.keeps t utf8 h) (s.keeps t utf8 (g.right t utf8 h));
     waits = λ lt. absurd (let e = ap (λ (i : Kept S). i.here.len) (g.waits lt) in omega arith);
   }
     where
@@ -206,6 +221,7 @@ module _ {S M : Type 0} (is_state : S → Type 0) (means : S → M) (r : Rules M
     right = g.right;
     further = g.further;
     joins = λ t utf8 h w. by t utf8 w (g.joins t utf8 h w) e;
+    keeps = g.keeps;
     waits = g.waits;
     settled = e;
   }

@@ -4,7 +4,7 @@ use Rattle.std.specs.Prelude.{IsUtf8, if◌then◌else◌}
 use Rattle.nx_base.specs.Text.{IsPlace, edited}
 use Rattle.nx_base.specs.Rules.{Rules}
 use Rattle.nx_marks.specs.Chain.{FirstMeans, Chain, AreWhole, Kept, all_of, frontier_of, MarksHold}
-use Rattle.nx_marks.specs.Editing.{moved, first_kept, broken, edit_all, split, split_all, edit_kept}
+use Rattle.nx_marks.specs.Editing.{place_after, first_kept, broken, edit_all, split, split_all, edit_noted}
 use Rattle.nx_marks.specs.declared.mark.Mark.{Mark}
 use Rattle.nx_marks.proofs.Edits.{whole-link, chain-all}
 
@@ -94,7 +94,7 @@ first-all : {S M : Type 0} (means : S → M) (from to added : ℕ) (m : M) (xs :
 first-all means from to added m [] f = f
 first-all means from to added m (x ∷ xs) f = by (nat_lt (0 + x.len) from)
   where
-    by : (b : Bool) → means (if b then x else broken x (moved from to added (first_kept from to (0 + x.len) xs))).state ≡ m
+    by : (b : Bool) → means (if b then x else broken x (place_after from to added (first_kept from to (0 + x.len) xs))).state ≡ m
     by true = f
     by false = f
 
@@ -105,7 +105,7 @@ module _ {S M : Type 0} (is_state : S → Type 0) (means : S → M) (r : Rules M
   chain-of [] g h = absurd g
   chain-of (x ∷ xs) g h = chain-all is_state means r t added from to utf8 added_utf8 f o le x xs h
 
-  pub edit_holds : (k : Kept S) → MarksHold is_state means r t k → MarksHold is_state means r (edited t from to added) (edit_kept from to (length added) k)
+  pub edit_holds : (k : Kept S) → MarksHold is_state means r t k → MarksHold is_state means r (edited t from to added) (edit_noted from to (length added) k)
   edit_holds k h =
       split-holds is_state means r (edited t from to added) (if nat_lt (frontier_of k) from then k.marked else true) (edit_all from to (length added) (all_of k)) k
       (first-all means from to (length added) r.first (all_of k) h.first) (chain-of (all_of k) h.first h.chain)

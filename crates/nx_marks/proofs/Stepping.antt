@@ -184,17 +184,17 @@ module _ {Self S M : Type 0} (later : Self → Self → Type 0) (is_state : Self
       ap (λ (q : Rules M). f q (means a k.here.state)) (sym (laws.rule a b l)) ∙ ap (f (rules b)) (sym (laws.meaning a b k.here.state l own))
 
   pub refused_right : (a b : Self) (t : List ℕ) (k : Kept S) (s : S) → later a b → IsRight (is_state a) (means a) (rules a) t k → is_state b s → means b s ≡ means a k.here.state →
-      IsRight (is_state b) (means b) (rules b) t (record { front = k.front; here = record { state = s; len = k.here.len; tags = k.here.tags; faults = k.here.faults; whole = k.here.whole }; marked = k.marked; aside = k.aside })
+      IsRight (is_state b) (means b) (rules b) t (record { front = k.front; here = record { state = s; len = k.here.len; tags = k.here.tags; faults = k.here.faults; whole = k.here.whole; saved = k.here.saved }; marked = k.marked; aside = k.aside })
   refused_right a b t k s l h own same =
       let g = right_later later is_state means rules laws a b t k l h in
       let mine = (own_states (is_state a) (means a) (rules a) t k h).here in
-      same_right (is_state b) (means b) (rules b) t k (record { state = s; len = k.here.len; tags = k.here.tags; faults = k.here.faults; whole = k.here.whole }) refl refl own (same ∙ sym (laws.meaning a b k.here.state l mine)) g
+      same_right (is_state b) (means b) (rules b) t k (record { state = s; len = k.here.len; tags = k.here.tags; faults = k.here.faults; whole = k.here.whole; saved = k.here.saved }) refl refl own (same ∙ sym (laws.meaning a b k.here.state l mine)) g
 
 abbrev kept_with : {S : Type 0} → List (Mark S) → S → ℕ → Mark S → Bool → List (Mark S) → Kept S
-kept_with front s gap here due aside = record { front = front; here = record { state = s; len = gap; tags = here.tags; faults = here.faults; whole = here.whole }; marked = due; aside = aside }
+kept_with front s gap here due aside = record { front = front; here = record { state = s; len = gap; tags = here.tags; faults = here.faults; whole = here.whole; saved = here.saved }; marked = due; aside = aside }
 
 abbrev mark_with : {S : Type 0} → Mark S → ℕ → ℕ → List Fault → Mark S
-mark_with x len tags faults = record { state = x.state; len = len; tags = tags; faults = faults; whole = x.whole }
+mark_with x len tags faults = record { state = x.state; len = len; tags = tags; faults = faults; whole = x.whole; saved = x.saved }
 
 -- what the step leaves is what was to be taken
 pub took_is : {S M : Type 0} (means : S → M) (r : Rules M) (k : Kept S) (before : List (Mark S)) (x : Mark S) (token : Lexeme) (s : S) (front : List (Mark S)) (len tags gap : ℕ) (fs : List Fault) (due : Bool) →
@@ -211,7 +211,7 @@ took_is means r k before x token s front len tags gap fs due e l g f a d =
 
 pub begun_at : {S : Type 0} (k : Kept S) (s : S) → frontier_of (begun k s) ≡ frontier_of k
 begun_at {S = S} k s =
-    let mark : Mark S = record { state = k.here.state; len = 0; tags = 0; faults = []; whole = true } in
+    let mark : Mark S = record { state = k.here.state; len = 0; tags = 0; faults = []; whole = true; saved = true } in
     let e : reach (k.front ++ mark ∷ []) ≡ reach k.front + (0 + 0) = reach-append k.front (mark ∷ []) in
     omega arith
 

@@ -126,8 +126,8 @@ module _ {S M : Type 0} (is_state : S → Type 0) (means : S → M) (r : Rules M
   -- the frontier's mark goes to the front
   pub begun_right : (k : Kept S) (s : S) → is_state s → means s ≡ means k.here.state → k.marked ≡ true → IsRight is_state means r t k → IsRight is_state means r t (begun k s)
   begun_right k s own same e h =
-      let mark : Mark S = record { state = k.here.state; len = 0; tags = 0; faults = []; whole = true } in
-      let here : Mark S = record { state = s; len = k.here.len; tags = k.here.tags; faults = k.here.faults; whole = k.here.whole } in
+      let mark : Mark S = record { state = k.here.state; len = 0; tags = 0; faults = []; whole = true; saved = true } in
+      let here : Mark S = record { state = s; len = k.here.len; tags = k.here.tags; faults = k.here.faults; whole = k.here.whole; saved = k.here.saved } in
       let at : ℕ = 0 + reach k.front in
       let tail = chain-tail 0 at k.front (k.here ∷ k.aside) refl h.holds.chain in
       let P : List (Mark S) → Type 0 = λ l. FirstMeans means r.first l in
@@ -147,6 +147,7 @@ module _ {S M : Type 0} (is_state : S → Type 0) (means : S → M) (r : Rules M
           rule = λ _. ap (is_due r (means s)) (tags-snoc k.front mark) ∙ not-due (means s);
           some = λ _. some-snoc k.front mark;
           mark = λ x. absurd (cc);
+          saved = h.rule.saved;
         };
       }
 
@@ -173,7 +174,7 @@ module _ {S M : Type 0} (is_state : S → Type 0) (means : S → M) (r : Rules M
   took_right laws k before x token s place within is front_is unmarked fits own same h =
       let more : List Fault = placed (x.len - r.back (means k.here.state)) (r.gives (means k.here.state) token) in
       let y : Mark S = longer x token more in
-      let here : Mark S = record { state = s; len = k.here.len - length token.bytes; tags = k.here.tags; faults = k.here.faults; whole = k.here.whole } in
+      let here : Mark S = record { state = s; len = k.here.len - length token.bytes; tags = k.here.tags; faults = k.here.faults; whole = k.here.whole; saved = k.here.saved } in
       let list = assoc before y here k.aside in
       let was = assoc before x k.here k.aside in
       let P : List (Mark S) → Type 0 = λ l. FirstMeans means r.first l in
@@ -222,6 +223,7 @@ module _ {S M : Type 0} (is_state : S → Type 0) (means : S → M) (r : Rules M
           rule = λ no. ap (is_due r (means s)) (tags-snoc before y) ∙ no;
           some = λ _. some-snoc before y;
           mark = λ yes. laws.mark_back (means s) (and-left (r.may_mark (means s)) (nat_le (max (r.depth (means s)) 16) (x.tags + tag_of token.kind)) yes);
+          saved = h.rule.saved;
         };
       }
     where

@@ -1,5 +1,5 @@
 -- When marks are right for a text.
-use Rattle.std.specs.Prelude.{◌≡◌, ℕ, ◌+◌, ◌≤◌, Bool, true, false, List, [], ◌∷◌, ◌++◌, length}
+use Rattle.std.specs.Prelude.{◌≡◌, ℕ, ◌+◌, ◌≤◌, Bool, true, false, ◌||◌, List, [], ◌∷◌, ◌++◌, length}
 use Rattle.std.specs.List.{AllByRecursion}
 use Rattle.nx_base.specs.declared.fault.Fault.{Fault}
 use Rattle.nx_base.specs.Shifting.{placed}
@@ -31,6 +31,10 @@ Link means r t p true x xs = (ks : List Lexeme) × (Segment r t p (means x.state
 abbrev pub Chain : {S M : Type 0} → (S → Type 0) → (S → M) → Rules M → List ℕ → ℕ → List (Mark S) → Type 0
 Chain is_state means r t p [] = p ≤ length t
 Chain is_state means r t p (x ∷ xs) = is_state x.state × (Link means r t p x.whole x xs × Chain is_state means r t (p + x.len) xs)
+
+-- whether it is a mark, or only the state at which a row ends
+abbrev pub is_mark : {S : Type 0} → Mark S → Bool
+is_mark x = x.whole || x.saved
 
 -- all these marks are whole
 abbrev pub AreWhole : {S : Type 0} → List (Mark S) → Type 0

@@ -1,11 +1,11 @@
 -- What an edit does to marks.
 use Rattle.std.specs.Prelude.{◌≡◌, ◌⊎◌, ℕ, ◌+◌, ◌-◌, ◌≤◌, ◌<◌, nat_lt, Bool, true, false, ◌||◌, List, [], ◌∷◌, ◌++◌, length, if◌then◌else◌}
-use Rattle.nx_marks.specs.Chain.{Kept, AreWhole, all_of, frontier_of, reach}
+use Rattle.nx_marks.specs.Chain.{Kept, AreWhole, all_of, frontier_of, is_mark, reach}
 use Rattle.nx_marks.specs.declared.mark.Mark.{Mark}
 
 -- where a place lies behind an edit; one in between lies at the end of what was added
-abbrev pub moved : ℕ → ℕ → ℕ → ℕ → ℕ
-moved from to added p = if nat_lt p from then p else from + added + (p - to)
+abbrev pub place_after : ℕ → ℕ → ℕ → ℕ → ℕ
+place_after from to added p = if nat_lt p from then p else from + added + (p - to)
 
 -- a mark there stays
 abbrev pub stays : ℕ → ℕ → ℕ → Bool
@@ -20,13 +20,14 @@ abbrev pub first_kept : {S : Type 0} → ℕ → ℕ → ℕ → List (Mark S) �
 first_kept from to p [] = p
 first_kept from to p (x ∷ xs) = if stays from to p then p else first_kept from to (p + x.len) xs
 
+-- nothing is known any more of what lies behind it; it is a mark if it was one
 abbrev pub broken : {S : Type 0} → Mark S → ℕ → Mark S
-broken x len = record { state = x.state; len = len; tags = 0; faults = []; whole = false }
+broken x len = record { state = x.state; len = len; tags = 0; faults = []; whole = false; saved = is_mark x }
 
 -- a mark at p, the next one that stays at q: its segment stays where it isn't touched
 abbrev pub kept_mark : {S : Type 0} → ℕ → ℕ → ℕ → ℕ → Mark S → ℕ → Mark S
 kept_mark from to added p x q =
-    if is_apart from to p x.len then x else broken x (moved from to added q - moved from to added p)
+    if is_apart from to p x.len then x else broken x (place_after from to added q - place_after from to added p)
 
 -- the marks that stay, the first of these at p
 abbrev pub kept_marks : {S : Type 0} → ℕ → ℕ → ℕ → ℕ → List (Mark S) → List (Mark S)
@@ -39,7 +40,7 @@ kept_marks from to added p (x ∷ xs) =
 abbrev pub edit_all : {S : Type 0} → ℕ → ℕ → ℕ → List (Mark S) → List (Mark S)
 edit_all from to added [] = []
 edit_all from to added (x ∷ xs) =
-    (if nat_lt (0 + x.len) from then x else broken x (moved from to added (first_kept from to (0 + x.len) xs)))
+    (if nat_lt (0 + x.len) from then x else broken x (place_after from to added (first_kept from to (0 + x.len) xs)))
     ∷ kept_marks from to added (0 + x.len) xs
 
 -- the front ends before the first mark that isn't whole, and the frontier is there
@@ -53,9 +54,21 @@ abbrev pub split_all : {S : Type 0} → Kept S → Bool → List (Mark S) → Ke
 split_all k marked [] = k
 split_all k marked (x ∷ xs) = split marked x xs
 
+-- the state at the frontier says whether it is a mark, since it may go aside
+abbrev pub noted : {S : Type 0} → Kept S → Kept S
+noted k = record {
+  front = k.front;
+  here = record { state = k.here.state; len = k.here.len; tags = k.here.tags; faults = k.here.faults; whole = k.here.whole; saved = k.marked };
+  marked = k.marked;
+  aside = k.aside;
+}
+
+abbrev pub edit_noted : {S : Type 0} → ℕ → ℕ → ℕ → Kept S → Kept S
+edit_noted from to added k = split_all k (if nat_lt (frontier_of k) from then k.marked else true) (edit_all from to added (all_of k))
+
 -- the marks from the edit on are dropped or go aside; the frontier goes back to the last mark before it, or to the start
 abbrev pub edit_kept : {S : Type 0} → ℕ → ℕ → ℕ → Kept S → Kept S
-edit_kept from to added k = split_all k (if nat_lt (frontier_of k) from then k.marked else true) (edit_all from to added (all_of k))
+edit_kept from to added k = edit_noted from to added (noted k)
 
 -- an edit behind the frontier changes what is aside, no more
 pub record EditBehind {S : Type 0} (from to added : ℕ) (k j : Kept S) : Type 0 where
@@ -84,6 +97,6 @@ pub record EditAt {S : Type 0} (from to added : ℕ) (k j : Kept S) : Type 0 whe
   pub front : j.front ≡ keep
   pub state : j.here.state ≡ mark.state
   pub marked : j.marked ≡ true
-  pub far : reach keep + j.here.len ≡ moved from to added (first_kept from to (reach keep + mark.len) (rest ++ k.aside))
+  pub far : reach keep + j.here.len ≡ place_after from to added (first_kept from to (reach keep + mark.len) (rest ++ k.aside))
   pub aside : j.aside ≡ kept_marks from to added (reach keep + mark.len) (rest ++ k.aside)
   pub behind : 0 < frontier_of k → Behind from k keep mark rest

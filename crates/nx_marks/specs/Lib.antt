@@ -11,3 +11,4 @@ pub mod Room
 pub mod Starting
 pub mod Walking
 pub mod Rejoining
+pub mod Keeping

@@ -3,6 +3,7 @@ use Rattle.std.specs.Prelude.{◌≡◌, ◌⊎◌, ℕ, ◌<◌, ◌≤◌, Lis
 use Rattle.nx_base.specs.Rules.{Rules}
 use Rattle.nx_marks.specs.Bound.{WillJoin}
 use Rattle.nx_marks.specs.Chain.{Kept, frontier_of}
+use Rattle.nx_marks.specs.Keeping.{KeepsMarks}
 use Rattle.nx_marks.specs.Right.{IsRight}
 use Rattle.nx_marks.specs.Taking.{joined}
 use Rattle.nx_marks.specs.declared.mark.Mark.{Mark}
@@ -20,6 +21,7 @@ pub record RejoinsOne {S M : Type 0} (is_state : S → Type 0) (means : S → M)
   pub right : (t : List ℕ) → IsUtf8 t → IsRight is_state means r t old → IsRight is_state means r t new
   pub further : frontier_of old ≤ frontier_of new
   pub joins : (t : List ℕ) → IsUtf8 t → WillJoin means r t 0 old → frontier_of new ≡ length t
+  pub keeps : (t : List ℕ) → IsUtf8 t → IsRight is_state means r t old → KeepsMarks means r t old new
   pub fewer : length new.aside < length old.aside
 
 -- until none is left at the frontier
@@ -27,5 +29,6 @@ pub record Rejoins {S M : Type 0} (is_state : S → Type 0) (means : S → M) (r
   pub right : (t : List ℕ) → IsUtf8 t → IsRight is_state means r t old → IsRight is_state means r t new
   pub further : frontier_of old ≤ frontier_of new
   pub joins : (t : List ℕ) → IsUtf8 t → IsRight is_state means r t old → WillJoin means r t 0 old → frontier_of new ≡ length t
+  pub keeps : (t : List ℕ) → IsUtf8 t → IsRight is_state means r t old → KeepsMarks means r t old new
   pub waits : 0 < old.here.len → new ≡ old
   pub settled : (0 < new.here.len) ⊎ (new.aside ≡ [])

@@ -1,7 +1,7 @@
 -- What is kept is right for a machine and a text.
 use Rattle.std.specs.Prelude.{◌≡◌, ℕ, ◌<◌, ◌^◌, true, false, List, [], ◌∷◌, length, IsUtf8}
 use Rattle.nx_base.specs.Rules.{Rules}
-use Rattle.nx_marks.specs.Chain.{Kept, MarksHold}
+use Rattle.nx_marks.specs.Chain.{Kept, MarksHold, is_mark}
 use Rattle.nx_marks.specs.Ruling.{is_due}
 use Rattle.nx_marks.specs.declared.mark.Mark.{Mark}
 
@@ -11,11 +11,17 @@ tags_behind [] = 0
 tags_behind (x ∷ []) = x.tags
 tags_behind (x ∷ y ∷ ys) = tags_behind (y ∷ ys)
 
+-- in none of these that is a mark a text run is pending
+abbrev pub NonePends : {S M : Type 0} → (S → M) → Rules M → List (Mark S) → Type 0
+NonePends means r [] = Unit {0}
+NonePends means r (x ∷ xs) = (is_mark x ≡ true → r.back (means x.state) ≡ 0) × NonePends means r xs
+
 -- the frontier is a mark where one is due; inside of segments none was (that is told with each segment)
 pub record MarkRule {S M : Type 0} (means : S → M) (r : Rules M) (k : Kept S) : Type 0 where
   pub rule : k.marked ≡ false → is_due r (means k.here.state) (tags_behind k.front) ≡ false
   pub some : k.marked ≡ false → 0 < length k.front
   pub mark : k.marked ≡ true → r.back (means k.here.state) ≡ 0
+  pub saved : NonePends means r k.aside
 
 pub record IsRight {S M : Type 0} (is_state : S → Type 0) (means : S → M) (r : Rules M) (t : List ℕ) (k : Kept S) : Type 0 where
   pub holds : MarksHold is_state means r t k

@@ -1,13 +1,13 @@
 -- Steps along what is kept, which leave its list of marks as it is.
 use Rattle.std.specs.Prelude.{◌≡◌, ◌⊎◌, ℕ, ◌+◌, ◌-◌, ◌^◌, ◌<◌, ◌≤◌, List, [], ◌∷◌, ◌++◌, length, nat_lt, if◌then◌else◌}
 use Rattle.nx_marks.specs.Chain.{Kept, all_of, frontier_of, reach}
-use Rattle.nx_marks.specs.Editing.{first_kept, kept_marks, moved, broken, split}
+use Rattle.nx_marks.specs.Editing.{first_kept, kept_marks, place_after, broken, split}
 use Rattle.nx_marks.specs.Taking.{let_go}
 use Rattle.nx_marks.specs.declared.mark.Mark.{Mark}
 
 -- so much farther from the next mark
 abbrev pub farther : {S : Type 0} → Mark S → ℕ → Mark S
-farther x len = record { state = x.state; len = x.len + len; tags = x.tags; faults = x.faults; whole = x.whole }
+farther x len = record { state = x.state; len = x.len + len; tags = x.tags; faults = x.faults; whole = x.whole; saved = x.saved }
 
 -- one mark back
 pub record StepsBack {S : Type 0} (old new : Kept S) : Type 0 where
@@ -102,7 +102,7 @@ cut_off from to added k =
     if nat_lt (frontier_of k + k.here.len) from then k
     else record {
       front = k.front;
-      here = broken k.here (moved from to added (first_kept from to (frontier_of k + k.here.len) k.aside) - frontier_of k);
+      here = broken k.here (place_after from to added (first_kept from to (frontier_of k + k.here.len) k.aside) - frontier_of k);
       marked = k.marked;
       aside = kept_marks from to added (frontier_of k + k.here.len) k.aside;
     }

@@ -5,11 +5,12 @@ ghost use Rattle.std.specs.List.{AllByRecursion};
 ghost use Rattle.nx_base.specs.Rules.{IsWithin};
 ghost use Rattle.nx_base.specs.Shifting.{placed};
 ghost use Rattle.nx_marks.specs.Chain.{AreWhole, FirstMeans, FaultsFit, OwnStates, all_of, faults_in, frontier_of, reach};
-ghost use Rattle.nx_marks.specs.Editing.{edit_kept};
+ghost use Rattle.nx_marks.specs.Editing.{edit_noted, noted};
 ghost use Rattle.nx_marks.specs.Frontier.{FrontierAfterEdit};
 ghost use Rattle.nx_marks.specs.Right.{IsRight, tags_behind};
 ghost use Rattle.nx_marks.specs.Before.{IsLast, LiesInFront};
 ghost use Rattle.nx_marks.specs.Bound.{WillJoin};
+ghost use Rattle.nx_marks.specs.Keeping.{KeepsMarks};
 ghost use Rattle.nx_marks.specs.Ruling.{is_due};
 ghost use Rattle.nx_marks.specs.Tags.{tag_of};
 ghost use Rattle.nx_base.specs.Tokens.{cut};
@@ -91,6 +92,7 @@ impl<S: Drop> Kept<S> {
                 tags: 0,
                 faults: Faults::new(alloc),
                 whole: false,
+                saved: false,
             },
             marked: true,
             aside: Vec::new(alloc),
@@ -200,6 +202,7 @@ impl<S: Drop> Kept<S> {
             .saturating_add(kept.saturating_sub(edit.to));
         self.here.len = moved.saturating_sub(self.at);
         self.here.tags = 0;
+        self.here.saved = self.here.is_mark();
         self.here.whole = false;
         clear(&mut self.here.faults);
     }
@@ -216,11 +219,18 @@ impl<S: Drop> Kept<S> {
         place
     }
 
+    /// Has the state at the frontier say whether it is a mark, since an edit may put it aside.
+    pub(crate) fn note(&mut self)
+        ensures { self.new ≡ noted self.old }
+    {
+        self.here.saved = self.marked;
+    }
+
     /// What an edit does: the frontier goes back before it, and the marks from there on are dropped or go aside.
     pub(crate) fn edit(&mut self, edit: &Edit)
         ensures frontier { FrontierAfterEdit edit.now.from (frontier_of self.old) (frontier_of self.new) }
         ensures edited { edit.now.from ≤ edit.now.to → Fits edit.now.from edit.now.to edit.now.added self.old → AreWhole self.old.front → self.old.here.whole ≡ false
-            → self.new ≡ edit_kept edit.now.from edit.now.to edit.now.added self.old }
+            → self.new ≡ edit_noted edit.now.from edit.now.to edit.now.added self.old }
     {
         if self.at < edit.from {
             self.edit_behind(edit);
@@ -234,7 +244,7 @@ impl<S: Drop> Kept<S> {
         requires { frontier_of self.old < edit.now.from }
         ensures frontier { FrontierAfterEdit edit.now.from (frontier_of self.old) (frontier_of self.new) }
         ensures edited { edit.now.from ≤ edit.now.to → Fits edit.now.from edit.now.to edit.now.added self.old → AreWhole self.old.front → self.old.here.whole ≡ false
-            → self.new ≡ edit_kept edit.now.from edit.now.to edit.now.added self.old }
+            → self.new ≡ edit_noted edit.now.from edit.now.to edit.now.added self.old }
     {
         let len = self.front.len();
         self.go_on(edit.from);
@@ -247,7 +257,7 @@ impl<S: Drop> Kept<S> {
         requires { edit.now.from ≤ frontier_of self.old }
         ensures frontier { FrontierAfterEdit edit.now.from (frontier_of self.old) (frontier_of self.new) }
         ensures edited { edit.now.from ≤ edit.now.to → Fits edit.now.from edit.now.to edit.now.added self.old → AreWhole self.old.front → self.old.here.whole ≡ false
-            → self.new ≡ edit_kept edit.now.from edit.now.to edit.now.added self.old }
+            → self.new ≡ edit_noted edit.now.from edit.now.to edit.now.added self.old }
     {
         self.go_back(edit.from);
         self.cut_off(edit);
@@ -378,6 +388,7 @@ impl<S: Drop> Kept<S> {
             tags: 0,
             faults: Faults::new(alloc),
             whole: true,
+            saved: true,
         });
         self.marked = false;
         Ok(())
@@ -417,6 +428,7 @@ pub(crate) fn begin_here<A: Machine>(
     ensures frontier { frontier_of kept.new ≡ frontier_of kept.old }
     ensures near { (n : ℕ) → WillJoin (A.means machine.now) (A.rules machine.now) text.now n kept.old → WillJoin (A.means machine.now) (A.rules machine.now) text.now n kept.new }
     ensures gap { kept.new.here.len ≡ kept.old.here.len }
+    ensures keeps { KeepsMarks (A.means machine.now) (A.rules machine.now) text.now kept.old kept.new }
 {
     let _len = text.len();
     if !kept.marked {
@@ -456,6 +468,7 @@ pub(crate) fn step<A: Machine>(
     ensures near { OnOk result ((n : ℕ) → WillJoin (A.means machine.old) (A.rules machine.old) text.now n kept.old → 0 < kept.old.here.len
         → (0 < n) × WillJoin (A.means machine.new) (A.rules machine.new) text.now (n - 1) kept.new) }
     ensures off { OnErr result (frontier_of kept.new ≡ frontier_of kept.old) }
+    ensures keeps { KeepsMarks (A.means machine.old) (A.rules machine.old) text.now kept.old kept.new }
 {
     let _len = text.len();
     let mut token = token;

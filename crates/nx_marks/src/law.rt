@@ -6,7 +6,7 @@ ghost use Rattle.nx_base.specs.Running.{CutsTo, after_all};
 ghost use Rattle.nx_base.specs.Text.{IsPlace, edited};
 ghost use Rattle.nx_marks.specs.Bound.{WillJoin};
 ghost use Rattle.nx_marks.specs.Chain.{AreWhole, FirstMeans, Kept, frontier_of};
-ghost use Rattle.nx_marks.specs.Editing.{EditAt, EditBehind, edit_kept};
+ghost use Rattle.nx_marks.specs.Editing.{EditAt, EditBehind, edit_kept, noted};
 ghost use Rattle.nx_marks.specs.Frontier.{IsBorder};
 ghost use Rattle.nx_marks.specs.Right.{IsRight, StaysRight};
 
@@ -26,7 +26,7 @@ pub fn frontier_is_border<A: Machine>()
 /// An edit at or before the frontier goes back to the last mark before it, or to the start, and keeps aside what it leaves.
 pub fn edits_go_back<S>()
     ensures { (from to added : ℕ) (kept : Kept S) → from ≤ to → AreWhole kept.front → kept.here.whole ≡ false → from ≤ frontier_of kept
-        → EditAt from to added kept (edit_kept from to added kept) }
+        → EditAt from to added (noted kept) (edit_kept from to added kept) }
 {}
 
 /// An edit behind the frontier changes what is aside alone.

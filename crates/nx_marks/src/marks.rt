@@ -8,6 +8,7 @@ ghost use Rattle.nx_marks.specs.Bound.{WillJoin, JoinsIn};
 ghost use Rattle.nx_marks.specs.Chain.{AreWhole, frontier_of};
 ghost use Rattle.nx_marks.specs.Editing.{edit_kept};
 ghost use Rattle.nx_marks.specs.Frontier.{FrontierAfterEdit, MovesOver};
+ghost use Rattle.nx_marks.specs.Keeping.{KeepsMarks};
 ghost use Rattle.nx_marks.specs.Right.{IsRight, IsRightForLength, IsRightForSome};
 ghost use Rattle.nx_marks.specs.Before.{IsMarkBefore};
 ghost use Rattle.nx_marks.specs.Walking.{Fits};
@@ -45,12 +46,14 @@ fn take<A: Machine>(
     requires right { IsRight (A.is_state machine.old) (A.means machine.old) (A.rules machine.old) text.now kept.old }
     requires rest { frontier_of kept.old < length text.now }
     requires token { token ≡ cut text.now (frontier_of kept.old) }
+    requires settled { (0 < kept.old.here.len) ⊎ (kept.old.aside ≡ []) }
     ensures later { A.later machine.old machine.new }
     ensures right { IsRight (A.is_state machine.new) (A.means machine.new) (A.rules machine.new) text.now kept.new }
     ensures on { OnOk result (frontier_of kept.new ≡ frontier_of kept.old + length token.bytes) }
     ensures near { OnOk result ((n : ℕ) → WillJoin (A.means machine.old) (A.rules machine.old) text.now n kept.old → 0 < kept.old.here.len
         → (0 < n) × WillJoin (A.means machine.new) (A.rules machine.new) text.now (n - 1) kept.new) }
     ensures off { OnErr result (frontier_of kept.new ≡ frontier_of kept.old) }
+    ensures keeps { KeepsMarks (A.means machine.old) (A.rules machine.old) text.now kept.old kept.new }
 {
     let _len = text.len();
     begin_here(alloc, machine, text, kept)?;
@@ -68,6 +71,7 @@ impl<A: Machine> Marks<A> {
             → IsRight (A.is_state machine.new) (A.means machine.new) (A.rules machine.new) text marks.kept) }
         ensures frontier { IfOk result (λ marks. frontier_of marks.kept ≡ 0) }
         ensures taken { IfOk result (λ marks. marks.taken ≡ 0) }
+        ensures none { IfOk result (λ marks. (marks.kept.front ≡ []) × (marks.kept.aside ≡ [])) }
     {
         let first = machine.start(alloc)?;
         Ok(Marks {
@@ -92,6 +96,7 @@ impl<A: Machine> Marks<A> {
             → self.old.kept.here.whole ≡ false → self.new.kept ≡ edit_kept edit.now.from edit.now.to edit.now.added self.old.kept }
         ensures taken { self.new.taken ≡ self.old.taken }
     {
+        self.kept.note();
         self.kept.edit(edit);
     }
 
@@ -104,12 +109,14 @@ impl<A: Machine> Marks<A> {
     ) -> Result<(), NoMemory>
         requires right { IsRight (A.is_state machine.old) (A.means machine.old) (A.rules machine.old) text.now self.old.kept }
         requires rest { frontier_of self.old.kept < length text.now }
+        requires settled { (0 < self.old.kept.here.len) ⊎ (self.old.kept.aside ≡ []) }
         ensures later { A.later machine.old machine.new }
         ensures right { IsRight (A.is_state machine.new) (A.means machine.new) (A.rules machine.new) text.now self.new.kept }
         ensures on { OnOk result (MovesOver text.now (frontier_of self.old.kept) 1 (frontier_of self.new.kept)) }
         ensures near { OnOk result ((n : ℕ) → JoinsIn (A.means machine.old) (A.rules machine.old) text.now n self.old.kept
             → (0 < n) × JoinsIn (A.means machine.new) (A.rules machine.new) text.now (n - 1) self.new.kept) }
         ensures settled { OnOk result ((0 < self.new.kept.here.len) ⊎ (self.new.kept.aside ≡ [])) }
+        ensures keeps { KeepsMarks (A.means machine.old) (A.rules machine.old) text.now self.old.kept self.new.kept }
         ensures off { OnErr result (frontier_of self.new.kept ≡ frontier_of self.old.kept) }
         ensures taken { self.new.taken ≡ self.old.taken }
         ensures step { steps.new ≡ steps.old + 1 }
@@ -143,6 +150,7 @@ impl<A: Machine> Marks<A> {
         ensures enough { OnOk result ((self.new.taken ≡ n) ⊎ (frontier_of self.new.kept ≡ length text.now)) }
         ensures bound { OnOk result ((count : ℕ) → WillJoin (A.means machine.old) (A.rules machine.old) text.now count self.old.kept → self.new.taken ≤ count) }
         ensures settled { OnOk result ((0 < self.new.kept.here.len) ⊎ (self.new.kept.aside ≡ [])) }
+        ensures keeps { KeepsMarks (A.means machine.old) (A.rules machine.old) text.now self.old.kept self.new.kept }
     {
         let len = text.len();
         self.taken = 0;
@@ -171,6 +179,7 @@ impl<A: Machine> Marks<A> {
         ensures none_aside { OnOk result (self.new.kept.aside ≡ []) }
         ensures bound { OnOk result ((count : ℕ) → WillJoin (A.means machine.old) (A.rules machine.old) text.now count self.old.kept
             → self.new.taken ≤ token_count text.now (frontier_of self.old.kept) (frontier_of self.old.kept + self.old.kept.here.len)) }
+        ensures keeps { KeepsMarks (A.means machine.old) (A.rules machine.old) text.now self.old.kept self.new.kept }
     {
         // A text has fewer bytes, so fewer tokens, than the greatest number.
         let _len = text.len();

@@ -1,6 +1,6 @@
 //! Joins the marks aside that the frontier reaches.
 
-ghost use Rattle.std.specs.Prelude.{◌≡◌, ◌⊎◌, ℕ, ◌+◌, ◌<◌, ◌≤◌, ◌^◌, [], length};
+ghost use Rattle.std.specs.Prelude.{◌≡◌, ◌⊎◌, ℕ, ◌+◌, ◌<◌, ◌≤◌, ◌^◌, ◌||◌, [], length};
 ghost use Rattle.nx_marks.specs.Chain.{FirstMeans, frontier_of};
 ghost use Rattle.nx_marks.specs.Right.{IsRightForSome};
 ghost use Rattle.nx_marks.specs.Rejoining.{Joins, RejoinsOne, Rejoins};
@@ -8,8 +8,15 @@ ghost use Rattle.nx_marks.specs.Rejoining.{Joins, RejoinsOne, Rejoins};
 use crate::kept::{Kept, is_due, next_is_same};
 use nx_base::machine::Machine;
 
+/// Whether one of two holds.
+fn either(a: bool, b: bool) -> bool
+    ensures { result ≡ (a || b) }
+{
+    a || b
+}
+
 /// Makes the first row aside, which begins at the frontier with a state that means the same, a part of the front. Where the row
-/// has a segment, its end is a mark where one is due.
+/// has a segment, its end is a mark where it was one, or where one is due.
 fn join<A: Machine>(machine: &A, kept: &mut Kept<A::State>)
     requires right { IsRightForSome (A.is_state machine.now) (A.means machine.now) (A.rules machine.now) kept.old }
     requires here { kept.old.here.len ≡ 0 }
@@ -20,10 +27,14 @@ fn join<A: Machine>(machine: &A, kept: &mut Kept<A::State>)
     let count = kept.front.len();
     kept.follow();
     if kept.front.len() == count {
+        let stays = either(kept.marked, kept.here.saved);
+        kept.marked = stays;
         return;
     }
     let tags = kept.last_tags();
-    kept.marked = is_due(machine, &kept.here.state, tags);
+    let due = is_due(machine, &kept.here.state, tags);
+    let marked = either(kept.here.saved, due);
+    kept.marked = marked;
 }
 
 /// Joins the first mark aside, which lies at the frontier, or drops it.

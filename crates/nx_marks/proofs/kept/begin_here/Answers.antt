@@ -5,6 +5,8 @@ use Rattle.nx_marks.specs.Right.{IsRight}
 use Rattle.nx_marks.proofs.Stepping.{own_states, begun_at}
 use Rattle.nx_marks.proofs.Taking.{begun_right}
 use Rattle.nx_marks.proofs.Bounding.{begun_near}
+use Rattle.nx_marks.specs.Keeping.{KeepsMarks}
+use Rattle.nx_marks.proofs.Keeping.{keeps_all, keeps_begun}
 use Rattle.nx_marks.proofs.kept.begin_here.Goals as goal
 
 pub copy-requires : goal.copy-requires
@@ -33,3 +35,24 @@ returns-clause-near g c = λ n w.
     let P : Kept _ → Type 0 = λ k. WillJoin (m.means a) (m.rules a) c.args.text.now n k in
     let meaning = c.in_ok-state.ensures.meaning ∙ ap (λ (k : Kept _). m.means a k.here.state) c.kept.view_is in
     subst P (sym c.in_ok-begin.ensures.ok) (begun_near (m.is_state a) (m.means a) (m.rules a) c.args.text.now c.args.kept.now c.in_ok-state.state n meaning w)
+
+pub returns-clause-keeps : goal.returns-clause-keeps
+returns-clause-keeps g c =
+    let m = g.A.Machine in
+    let a = c.args.machine.now in
+    let marked : c.args.kept.now.marked ≡ true = search rules in
+    let P : Kept _ → Type 0 = λ k. KeepsMarks (m.means a) (m.rules a) c.args.text.now c.args.kept.now k in
+    subst P (sym c.in_ok-begin.ensures.ok) (keeps_begun (m.means a) (m.rules a) c.args.text.now c.args.kept.now c.in_ok-state.state marked)
+
+pub returns-then-not-kept-clause-keeps : goal.returns-then-not-kept-clause-keeps
+returns-then-not-kept-clause-keeps g c = keeps_all (g.A.Machine.means c.args.machine.now) (g.A.Machine.rules c.args.machine.now) c.args.text.now c.args.kept.now
+
+pub returns-in_err-state-clause-keeps : goal.returns-in_err-state-clause-keeps
+returns-in_err-state-clause-keeps g c = keeps_all (g.A.Machine.means c.args.machine.now) (g.A.Machine.rules c.args.machine.now) c.args.text.now c.args.kept.now
+
+pub returns-in_err-begin-clause-keeps : goal.returns-in_err-begin-clause-keeps
+returns-in_err-begin-clause-keeps g c =
+    let m = g.A.Machine in
+    let a = c.args.machine.now in
+    let P : Kept _ → Type 0 = λ k. KeepsMarks (m.means a) (m.rules a) c.args.text.now c.args.kept.now k in
+    subst P (sym c.in_err-begin.ensures.err) (keeps_all (m.means a) (m.rules a) c.args.text.now c.args.kept.now)

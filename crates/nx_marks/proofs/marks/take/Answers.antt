@@ -3,6 +3,7 @@ use Rattle.nx_base.specs.Tokens.{cut}
 use Rattle.nx_marks.specs.Bound.{WillJoin}
 use Rattle.nx_marks.specs.Chain.{Kept, frontier_of}
 use Rattle.nx_marks.proofs.Moving.{passed, on_err}
+use Rattle.nx_marks.proofs.Keeping.{keeps_on, keeps_passing, still_settled}
 use Rattle.nx_marks.proofs.Stepping.{all_within}
 use Rattle.nx_marks.proofs.marks.take.Goals as goal
 
@@ -97,3 +98,27 @@ returns-in_err-step-clause-off g c =
     let p = passed (m.is_state a) (m.means a) (m.rules a) (g.met.A.Machine.rule_laws a) c.args.text.now c.len-len.ensures.utf8 k c.let_go.new.self c.len-count.result c.args.token c.begin_here.ensures.right is
     (omega (arith, c.requires.rest, c.begin_here.ensures.frontier)) c.len-count.ensures c.let_go.ensures in
     on_err _ (c.in_err-step.ensures.off ∙ p.at ∙ c.begin_here.ensures.frontier)
+
+pub returns-clause-keeps : goal.returns-clause-keeps
+returns-clause-keeps g c =
+    let m = g.A.Machine in
+    let a = c.args.machine.now in
+    let k = c.begin_here.new.kept in
+    let is : c.args.token ≡ cut c.args.text.now (frontier_of k) = c.requires.token ∙ ap (cut c.args.text.now) (sym c.begin_here.ensures.frontier) in
+    let first = c.begin_here.ensures.keeps in
+    let settled = still_settled c.args.kept.now k first.gone first.aside c.begin_here.ensures.gap c.requires.settled in
+    let second = keeps_passing (m.is_state a) (m.means a) (m.rules a) c.args.text.now (g.met.A.Machine.rule_laws a) k c.let_go.new.self c.len-count.result c.args.token c.len-len.ensures.utf8 c.begin_here.ensures.right is c.len-count.ensures settled c.let_go.ensures in
+    let both = keeps_on (m.means a) (m.rules a) c.args.text.now c.args.kept.now k c.let_go.new.self first second in
+    keeps_on (m.means a) (m.rules a) c.args.text.now c.args.kept.now c.let_go.new.self c.step.new.kept both c.step.ensures.keeps
+
+pub returns-in_err-step-clause-keeps : goal.returns-in_err-step-clause-keeps
+returns-in_err-step-clause-keeps g c =
+    let m = g.A.Machine in
+    let a = c.args.machine.now in
+    let k = c.begin_here.new.kept in
+    let is : c.args.token ≡ cut c.args.text.now (frontier_of k) = c.requires.token ∙ ap (cut c.args.text.now) (sym c.begin_here.ensures.frontier) in
+    let first = c.begin_here.ensures.keeps in
+    let settled = still_settled c.args.kept.now k first.gone first.aside c.begin_here.ensures.gap c.requires.settled in
+    let second = keeps_passing (m.is_state a) (m.means a) (m.rules a) c.args.text.now (g.met.A.Machine.rule_laws a) k c.let_go.new.self c.len-count.result c.args.token c.len-len.ensures.utf8 c.begin_here.ensures.right is c.len-count.ensures settled c.let_go.ensures in
+    let both = keeps_on (m.means a) (m.rules a) c.args.text.now c.args.kept.now k c.let_go.new.self first second in
+    keeps_on (m.means a) (m.rules a) c.args.text.now c.args.kept.now c.let_go.new.self c.step.new.kept both c.step.ensures.keeps

@@ -1,4 +1,4 @@
-use Rattle.std.proofs.Common.{◌≡◌, ◌<◌, length, ap, subst, sym, ◌∙◌, arith}
+use Rattle.std.proofs.Common.{◌≡◌, ◌||◌, ◌<◌, length, ap, subst, sym, ◌∙◌, arith}
 use Rattle.nx_marks.specs.Chain.{Kept}
 use Rattle.nx_marks.specs.Rejoining.{Joins}
 use Rattle.nx_marks.specs.Right.{tags_behind}
@@ -20,11 +20,12 @@ returns-then-len-count g c =
     let now = ap (λ (k : Kept _). length k.front) c.kept-2.view_is in
     let was = ap (λ (k : Kept _). length k.front) c.kept.view_is in
     let took = ap (λ (k : Kept _). length k.front) c.take_next.ensures.is in
-    joins_without (m.means a) (m.rules a) c.args.kept.now c.take_next.new.self c.follow.new.self c.take_next.ensures c.follow.ensures
-    (grind (arith, now, was, took, c.len.ensures, c.len-count.ensures, c.if-len-count.true))
+    let P : Kept _ → Type 0 = λ j. Joins (m.means a) (m.rules a) c.args.kept.now (record { front = j.front; here = j.here; marked = j.marked || j.here.saved; aside = j.aside }) in
+    rw c.either-stays.ensures (subst P (sym c.kept-2.view_is) (joins_without (m.means a) (m.rules a) c.args.kept.now c.take_next.new.self c.follow.new.self c.take_next.ensures c.follow.ensures
+    (grind (arith, now, was, took, c.len.ensures, c.len-count.ensures, c.if-len-count.true))))
 
-pub is_due-kept-inside-requires : goal.is_due-kept-inside-requires
-is_due-kept-inside-requires g c =
+pub is_due-due-requires : goal.is_due-due-requires
+is_due-due-requires g c =
     let m = g.A.Machine in
     let a = c.args.machine.now in
     let P : Kept _ → Type 0 = λ k. m.is_state a k.here.state in
@@ -41,7 +42,7 @@ returns g c =
     let took = ap (λ (k : Kept _). length k.front) c.take_next.ensures.is in
     let longer = row_longer c.args.kept.now c.take_next.new.self b c.take_next.ensures c.follow.ensures in
     let more : length c.args.kept.now.front < length b.front = grind (arith, now, was, took, longer, c.len.ensures, c.len-count.ensures, c.if-len-count.false) in
-    let due : c.is_due-kept-inside.result ≡ is_due (m.rules a) (m.means a b.here.state) (tags_behind b.front) =
-    c.is_due-kept-inside.ensures ∙ ap (λ (k : Kept _). is_due (m.rules a) (m.means a k.here.state) c.last_tags-tags.result) c.kept-2.view_is ∙ ap (is_due (m.rules a) (m.means a b.here.state)) c.last_tags-tags.ensures in
-    let P : Kept _ → Type 0 = λ j. Joins (m.means a) (m.rules a) c.args.kept.now (record { front = j.front; here = j.here; marked = c.is_due-kept-inside.result; aside = j.aside }) in
-    subst P (sym c.kept-2.view_is) (joins_with (m.means a) (m.rules a) c.args.kept.now c.take_next.new.self b c.is_due-kept-inside.result c.take_next.ensures c.follow.ensures more due)
+    let due : c.is_due-due.result ≡ is_due (m.rules a) (m.means a b.here.state) (tags_behind b.front) =
+    c.is_due-due.ensures ∙ ap (λ (k : Kept _). is_due (m.rules a) (m.means a k.here.state) c.last_tags-tags.result) c.kept-2.view_is ∙ ap (is_due (m.rules a) (m.means a b.here.state)) c.last_tags-tags.ensures in
+    let P : Kept _ → Type 0 = λ j. Joins (m.means a) (m.rules a) c.args.kept.now (record { front = j.front; here = j.here; marked = j.here.saved || c.is_due-due.result; aside = j.aside }) in
+    rw c.either-marked.ensures (subst P (sym c.kept-2.view_is) (joins_with (m.means a) (m.rules a) c.args.kept.now c.take_next.new.self b c.is_due-due.result c.take_next.ensures c.follow.ensures more due))

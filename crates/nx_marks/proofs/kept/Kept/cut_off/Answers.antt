@@ -1,6 +1,7 @@
 use Rattle.std.proofs.Common.{◌≡◌, ℕ, ◌+◌, ◌-◌, [], ◌∷◌, false, ap, subst, sym, arith}
 use Rattle.nx_marks.specs.Chain.{Kept, frontier_of, reach}
 use Rattle.nx_marks.specs.Walking.{DropsBetween, cut_off}
+use Rattle.nx_marks.specs.Editing.{broken}
 use Rattle.nx_marks.proofs.Backs.{reach-append}
 use Rattle.nx_marks.proofs.Cutting.{cut_there}
 use Rattle.nx_marks.proofs.kept.Kept.cut_off.Goals as goal
@@ -26,5 +27,5 @@ returns-clause-cut g c = λ ordered fits.
     let place = drops.far (omega arith) in
     let long : len ≡ edit.from + edit.added + (c.drop_between-kept.result - edit.to) - frontier_of k =
     grind (arith, c.saturating_sub-self-inside.ensures, c.saturating_add-moved.ensures, c.saturating_add.ensures, c.saturating_sub.ensures, at2, same, all, gone, gone2, place, new, c.self-2.invariant.1) in
-    let Q : Kept _ → Type 0 = λ j. record { front = j.front; here = record { state = j.here.state; len = len; tags = 0; faults = []; whole = false }; marked = j.marked; aside = j.aside } ≡ cut_off edit.from edit.to edit.added k in
-    rw c.clear.ensures (subst Q (sym c.self-2.view_is) (cut_there edit.from edit.to edit.added k d c.drop_between-kept.result len ordered (omega (arith, next, c.if-next-edit.false)) fits drops long))
+    let Q : Kept _ → Type 0 = λ j. record { front = j.front; here = broken j.here len; marked = j.marked; aside = j.aside } ≡ cut_off edit.from edit.to edit.added k in
+    rw (c.clear.ensures, c.is_mark-self-inside.ensures) (subst Q (sym c.self-2.view_is) (cut_there edit.from edit.to edit.added k d c.drop_between-kept.result len ordered (omega (arith, next, c.if-next-edit.false)) fits drops long))

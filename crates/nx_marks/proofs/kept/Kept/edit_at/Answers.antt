@@ -1,6 +1,6 @@
 use Rattle.std.proofs.Common.{◌≡◌, true, subst, sym}
 use Rattle.nx_marks.specs.Chain.{Kept}
-use Rattle.nx_marks.specs.Editing.{edit_kept}
+use Rattle.nx_marks.specs.Editing.{edit_noted}
 use Rattle.nx_marks.proofs.Cutting.{edited_at, fits_same}
 use Rattle.nx_marks.proofs.kept.Kept.edit_at.Goals as goal
 
@@ -10,5 +10,5 @@ returns-clause-edited g c = λ ordered fits whole ends.
     let edit = c.args.edit.now in
     let d = c.cut_off.new.self in
     let cut = c.cut_off.ensures.cut ordered (fits_same edit.from edit.to edit.added k c.go_back.new.self c.go_back.ensures.all fits) in
-    let Q : Kept _ → Type 0 = λ j. record { front = j.front; here = j.here; marked = true; aside = j.aside } ≡ edit_kept edit.from edit.to edit.added k in
+    let Q : Kept _ → Type 0 = λ j. record { front = j.front; here = j.here; marked = true; aside = j.aside } ≡ edit_noted edit.from edit.to edit.added k in
     subst Q (sym c.self.view_is) (edited_at edit.from edit.to edit.added k c.go_back.new.self d ordered c.requires whole c.go_back.ensures cut)

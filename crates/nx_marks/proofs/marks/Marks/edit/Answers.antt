@@ -6,6 +6,7 @@ use Rattle.nx_marks.specs.Right.{IsRight}
 use Rattle.nx_marks.specs.Walking.{Fits}
 use Rattle.nx_marks.proofs.Moving.{fits_text}
 use Rattle.nx_marks.proofs.Rules.{edit_right}
+use Rattle.nx_marks.proofs.Noting.{edited_from_noted, frontier_from_noted}
 use Rattle.nx_marks.proofs.marks.Marks.edit.Goals as goal
 
 pub returns-clause-right : goal.returns-clause-right
@@ -18,5 +19,13 @@ returns-clause-right g c = λ a t added utf8 added_utf8 f u o long small new h.
     let E : ℕ → Type 0 = λ n. IsRight (m.is_state a) (m.means a) (m.rules a) (edited t from to added) (edit_kept from to n k) in
     let P : Kept _ → Type 0 = λ i. IsRight (m.is_state a) (m.means a) (m.rules a) (edited t from to added) i in
     let fits = subst F (sym long) (fits_text (m.is_state a) (m.means a) (m.rules a) t added from to k utf8 added_utf8 f u o h small new) in
-    let done = c.edit.ensures.edited o fits h.holds.whole h.holds.ends in
+    let done = edited_from_noted from to c.args.edit.now.added k c.note.new.self c.edit.new.self c.note.ensures (c.edit.ensures.edited o) fits h.holds.whole h.holds.ends in
     subst P (sym done) (subst E (sym long) (edit_right (m.is_state a) (m.means a) (m.rules a) (g.met.A.Machine.rule_laws a) t added from to utf8 added_utf8 f u o k h))
+
+pub returns-clause-frontier : goal.returns-clause-frontier
+returns-clause-frontier g c = frontier_from_noted c.args.edit.now.from c.args.self.now.kept c.note.new.self c.edit.new.self c.note.ensures c.edit.ensures.frontier
+
+pub returns-clause-marks : goal.returns-clause-marks
+returns-clause-marks g c = λ ordered fits whole ends.
+    let edit = c.args.edit.now in
+    edited_from_noted edit.from edit.to edit.added c.args.self.now.kept c.note.new.self c.edit.new.self c.note.ensures (c.edit.ensures.edited ordered) fits whole ends

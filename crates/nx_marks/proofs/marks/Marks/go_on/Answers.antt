@@ -4,6 +4,7 @@ use Rattle.nx_base.specs.Tokens.{cut, CutAt}
 use Rattle.nx_base.specs.declared.token.Token.{Token}
 use Rattle.nx_marks.specs.Chain.{frontier_of}
 use Rattle.nx_marks.proofs.Moving.{one_token, moves_on, over_between, near_on}
+use Rattle.nx_marks.proofs.Keeping.{keeps_all, keeps_later}
 use Rattle.nx_marks.proofs.Reading.{frontier_place}
 use Rattle.nx_marks.proofs.marks.Marks.go_on.Goals as goal
 
@@ -36,3 +37,12 @@ returns-clause-near g c = λ n w.
     let b = c.take.new.machine in
     near_on (m.is_state b) (m.means b) (m.rules b) (g.met.A.Machine.rule_laws b) c.args.text.now c.len-len.ensures.utf8 (m.means a) (m.rules a) c.args.self.now.kept c.take.new.kept c.rejoin.new.kept n c.requires.rest c.in_ok-take.ensures.near
     c.rejoin.ensures c.take.ensures.right w
+
+pub returns-clause-keeps : goal.returns-clause-keeps
+returns-clause-keeps g c =
+    let m = g.A.Machine in
+    keeps_later m.later m.is_state m.means m.rules g.met.A.Machine.laws c.args.machine.now c.take.new.machine c.args.text.now c.args.self.now.kept c.take.new.kept c.rejoin.new.kept c.take.ensures.later c.requires.right c.take.ensures.keeps
+    (c.rejoin.ensures.keeps c.args.text.now c.len-len.ensures.utf8 c.take.ensures.right)
+
+pub returns-in_err-token-clause-keeps : goal.returns-in_err-token-clause-keeps
+returns-in_err-token-clause-keeps g c = keeps_all (g.A.Machine.means c.args.machine.now) (g.A.Machine.rules c.args.machine.now) c.args.text.now c.args.self.now.kept

@@ -2,6 +2,7 @@ use Rattle.std.proofs.Common.{◌≡◌, ℕ, ◌-◌, inr, subst, sym, arith}
 use Rattle.nx_marks.specs.Bound.{JoinsIn}
 use Rattle.nx_marks.specs.Chain.{frontier_of}
 use Rattle.nx_marks.specs.Frontier.{MovesOver}
+use Rattle.nx_marks.proofs.Keeping.{keeps_later}
 use Rattle.nx_marks.proofs.Moving.{moves_on, over_between, over_grows, over_reaches, smaller, within, rejoined}
 use Rattle.nx_marks.proofs.marks.Marks.slice.Goals as goal
 
@@ -25,6 +26,7 @@ loop-self-init g c =
           let P : ℕ → Type 0 = λ n. JoinsIn (m.means a) (m.rules a) t n j in
           (omega arith, subst P none (rejoined (m.is_state a) (m.means a) (m.rules a) (g.met.A.Machine.rule_laws a) t utf8 k j count c.rejoin.ensures c.requires.right w)));
       settled = c.rejoin.ensures.settled;
+      keeps = c.rejoin.ensures.keeps t utf8 c.requires.right;
     }
 
 pub loop-self-smaller : goal.loop-self-smaller
@@ -54,6 +56,7 @@ loop-self-preserved g c =
           let Q : ℕ → Type 0 = λ n. JoinsIn (m.means b) (m.rules b) c.args.text.now n c.go_on.new.self.kept in
           (omega (arith, c.go_on.ensures.taken), subst Q same on.1));
       settled = c.in_ok-go_on.ensures.settled;
+      keeps = keeps_later m.later m.is_state m.means m.rules g.met.A.Machine.laws c.args.machine.now c.loop-self.machine c.args.text.now c.args.self.now.kept c.loop-self.self.kept c.go_on.new.self.kept c.loop-self.invariant.later c.requires.right c.loop-self.invariant.keeps c.go_on.ensures.keeps;
     }
 
 pub returns-in_err-go_on-clause-frontier : goal.returns-in_err-go_on-clause-frontier
@@ -74,3 +77,8 @@ returns-after-loop-self-clause-enough g c =
     let b = c.loop-self.machine in
     let far = within (m.is_state b) (m.means b) (m.rules b) (g.met.A.Machine.rule_laws b) c.args.text.now c.len-len.ensures.utf8 c.loop-self.self.kept c.loop-self.invariant.right in
     inr (omega (arith, c.len-len.ensures.bytes, c.frontier.ensures, c.loop-self-test.false))
+
+pub returns-in_err-go_on-clause-keeps : goal.returns-in_err-go_on-clause-keeps
+returns-in_err-go_on-clause-keeps g c =
+    let m = g.A.Machine in
+    keeps_later m.later m.is_state m.means m.rules g.met.A.Machine.laws c.args.machine.now c.loop-self.machine c.args.text.now c.args.self.now.kept c.loop-self.self.kept c.go_on.new.self.kept c.loop-self.invariant.later c.requires.right c.loop-self.invariant.keeps c.go_on.ensures.keeps

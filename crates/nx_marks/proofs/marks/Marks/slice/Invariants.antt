@@ -3,6 +3,7 @@ use Rattle.nx_base.specs.Rules.{Rules}
 use Rattle.nx_marks.specs.Bound.{WillJoin, JoinsIn}
 use Rattle.nx_marks.specs.Chain.{Kept, frontier_of}
 use Rattle.nx_marks.specs.Frontier.{MovesOver}
+use Rattle.nx_marks.specs.Keeping.{KeepsMarks}
 use Rattle.nx_marks.specs.Right.{IsRight}
 use Rattle.nx_marks.proofs.marks.Marks.slice.Given as goal
 
@@ -17,6 +18,7 @@ pub record GoesOn {Self S M : Type 0} (later_than : Self → Self → Type 0) (i
   pub counted : steps ≡ steps_first + taken
   pub bound : (count : ℕ) → WillJoin (means first) (rules first) text count old → (taken ≤ count) × JoinsIn (means now) (rules now) text (count - taken) kept
   pub settled : (0 < kept.here.len) ⊎ (kept.aside ≡ [])
+  pub keeps : KeepsMarks (means first) (rules first) text old kept
 
 abbrev pub invariant-loop-self : goal.invariant-loop-self
 invariant-loop-self g l =
