@@ -1,7 +1,12 @@
+pub mod Allowed
+pub mod Asking
 pub mod Carets
+pub mod Counting
 pub mod Edited
 pub mod Filing
 pub mod Holding
+pub mod Locating
+pub mod OfferTexts
 pub mod Pieces
 pub mod Reading
 pub mod Replacing

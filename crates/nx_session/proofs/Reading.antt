@@ -26,6 +26,8 @@ use Rattle.nx_recovery.proofs.Details.{faults_are_text}
 use Rattle.nx_session.specs.Reading.{grammar_of, followed}
 use Rattle.rng_core.specs.Meaning.{language_of}
 use Rattle.rng_core.specs.Patterns.{Language}
+use Rattle.rng_core.specs.Soundness.{IsSound}
+use Rattle.rng_core.specs.declared.grammar.Grammar.{Grammar}
 use Rattle.rng_kept.specs.Live.{IsLive}
 
 -- ---- reading leaves the schema
@@ -51,9 +53,14 @@ later_live old new h live =
     let P : Option Language → Type 0 = λ o. IfSome o IsLive in
     subst P (sym (later_followed old new h)) live
 
+pub later_sound : (old new : Option Plain) → IsLater old new → IfSome (grammar_of old) IsSound → IfSome (grammar_of new) IsSound
+later_sound old new h sound =
+    let P : Option Grammar → Type 0 = λ o. IfSome o IsSound in
+    subst P (sym (later_grammar old new h)) sound
+
 -- ---- the machine finds the faults of the text
 
-schema_followed : (matcher : Option Plain) → followed matcher ≡ option_map language_of (grammar_of matcher)
+pub schema_followed : (matcher : Option Plain) → followed matcher ≡ option_map language_of (grammar_of matcher)
 schema_followed None = refl
 schema_followed (Some plain) = refl
 

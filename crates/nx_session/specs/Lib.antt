@@ -1,9 +1,13 @@
+pub mod Asking
 pub mod Documents
+pub mod Done
 pub mod Editing
 pub mod Editor
 pub mod Faults
 pub mod LargeDocuments
+pub mod Locating
 pub mod Moving
+pub mod Premises
 pub mod Step
 pub mod Validating
 pub mod Reading

@@ -10,6 +10,7 @@ use Rattle.nx_recover.specs.declared.state.RecoverState.{RecoverState}
 use Rattle.nx_marks.specs.Chain.{Kept}
 use Rattle.nx_marks.specs.Right.{IsRight}
 use Rattle.rng_core.specs.Patterns.{Language}
+use Rattle.rng_core.specs.Soundness.{IsSound}
 use Rattle.rng_core.specs.declared.grammar.Grammar.{Grammar}
 use Rattle.rng_kept.specs.Live.{IsLive}
 use Rattle.rng_live.specs.Schemas.{schema_language}
@@ -27,10 +28,11 @@ IsReadRight text matcher kept = IsRight (state_by (λ (plain : Plain) ways. IsSt
     (means_by (λ (plain : Plain) ways. residual_of ways) matcher)
     (rules_by (λ (plain : Plain). schema_language plain.schema) matcher) text kept
 
--- and the grammar is live
+-- and the grammar is live and sound
 pub record IsWellKept (text : List ℕ) (matcher : Option Plain) (kept : Kept (RecoverState (List OneWay))) : Type 0 where
   pub read : IsReadRight text matcher kept
   pub live : IfSome (followed matcher) IsLive
+  pub sound : IfSome (grammar_of matcher) IsSound
 
 -- so it is between two commands, and the caret stands at a place
 pub record IsKept (text : List ℕ) (caret : ℕ) (matcher : Option Plain) (kept : Kept (RecoverState (List OneWay))) : Type 0 where

@@ -97,12 +97,15 @@ IsRefusedSchema uri_text before after cause =
     ⊎ ((cause ≡ NoMemory) × (after.faults ≡ before.faults))
     ⊎ ((uri : List ℕ) × Joins work_folder uri_text uri × IsRefusedFor before.map uri before.faults after.faults cause)
 
--- the document is held against the schema of the file from now on, and nothing of its text is read; a refused command leaves all
--- as it was, the schema that was held before, too
+-- the document is held against the schema of the file under the URI from now on, and nothing of its text is read
+abbrev pub HoldsFile : List ℕ → EditorState → FilesState → EditorState → FilesState → Type 0
+HoldsFile uri old before new after =
+    (schema : Grammar) × GivesSchema before.map uri schema × (new ≡ with_schema old (Some schema)) × (after ≡ before)
+
+-- the document is held against the schema of the file; a refused command leaves all as it was, the schema that was held before, too
 abbrev pub SchemaFileStep : List ℕ → EditorState → FilesState → Reply → EditorState → FilesState → Type 0
 SchemaFileStep uri_text old before Silent new after =
-    (uri : List ℕ) × (schema : Grammar) × Joins work_folder uri_text uri × GivesSchema before.map uri schema
-    × (new ≡ with_schema old (Some schema)) × (after ≡ before)
+    (uri : List ℕ) × Joins work_folder uri_text uri × HoldsFile uri old before new after
 SchemaFileStep uri_text old before (Refused cause) new after =
     (new ≡ old) × (after.map ≡ before.map) × IsRefusedSchema uri_text before after cause
 SchemaFileStep uri_text old before reply new after = ⊥

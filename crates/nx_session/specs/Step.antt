@@ -3,7 +3,7 @@ use Rattle.std.specs.Prelude.{◌≡◌, ℕ, ◌⊎◌, List, [], None}
 use Rattle.nx_script.specs.Grammar.{IsLine}
 use Rattle.nx_script.specs.declared.command.Command.{Command}
 use Rattle.nx_script.specs.declared.command.Command.TheVariants.{Nothing, OpenFile, Save, Insert, Delete, Print, Errors, Slice, Stats}
-use Rattle.nx_script.specs.declared.command.Command.TheVariants.{SchemaFile, SchemaNone, Goto, Move, Next, Previous}
+use Rattle.nx_script.specs.declared.command.Command.TheVariants.{SchemaFile, SchemaNone, SchemaAuto, Complete, Goto, Move, Next, Previous}
 use Rattle.nx_script.specs.declared.command.Command.TheVariants.{Position, View, Close, Make}
 use Rattle.nx_script.specs.declared.reply.Reply.{Reply}
 use Rattle.nx_script.specs.declared.reply.Reply.TheVariants.{Silent, Refused}
@@ -11,8 +11,10 @@ use Rattle.nx_script.specs.declared.reply.Refusal.{Refusal}
 use Rattle.nx_script.specs.declared.reply.Refusal.TheVariants.{BadCommand, NoMemory}
 use Rattle.nx_base.specs.declared.edit.Edit.{Edit}
 use Rattle.nx_session.specs.Editor.{EditorState, FilesState, World, edit_of}
+use Rattle.nx_session.specs.Asking.{CompleteStep}
 use Rattle.nx_session.specs.Editing.{InsertStep, DeleteStep, PrintStep}
 use Rattle.nx_session.specs.Documents.{OpenStep, SaveStep, MakeStep}
+use Rattle.nx_session.specs.Locating.{SchemaAutoStep}
 use Rattle.nx_session.specs.Moving.{GotoStep, NextStep, PreviousStep, PositionStep, MoveStep}
 use Rattle.nx_session.specs.Schemas.{SchemaFileStep, HoldStep}
 use Rattle.nx_session.specs.Validating.{ErrorsStep, SliceStep, StatsStep}
@@ -38,6 +40,10 @@ OnText step edit old reply new =
 abbrev pub OnFiles : (EditorState → FilesState → Reply → EditorState → FilesState → Type 0) → World → Reply → World → Type 0
 OnFiles step old reply new =
     step old.editor old.files reply new.editor new.files × (new.views ≡ old.views) × (new.steps ≡ old.steps)
+
+-- a step of a command on files for which tokens are cut, however many
+abbrev pub OnFilesAndTags : (EditorState → FilesState → Reply → EditorState → FilesState → Type 0) → World → Reply → World → Type 0
+OnFilesAndTags step old reply new = step old.editor old.files reply new.editor new.files × (new.views ≡ old.views)
 
 -- a step of a command on files that edits the whole text, where it is done
 abbrev pub OnDocument : (EditorState → FilesState → Reply → EditorState → FilesState → Type 0) → World → Reply → World → Type 0
@@ -77,6 +83,8 @@ Step old (Slice count) reply new = OnTokens (SliceStep count) old reply new
 Step old Stats reply new = OnEditor StatsStep old reply new
 Step old (SchemaFile uri) reply new = OnFiles (SchemaFileStep uri) old reply new
 Step old SchemaNone reply new = OnEditor (HoldStep None) old reply new
+Step old SchemaAuto reply new = OnFilesAndTags SchemaAutoStep old reply new
+Step old (Complete at) reply new = OnTags (CompleteStep at) old reply new
 Step old (Goto at) reply new = OnEditor (GotoStep at) old reply new
 Step old (Move way) reply new = OnTags (MoveStep way) old reply new
 Step old Next reply new = OnEditor NextStep old reply new

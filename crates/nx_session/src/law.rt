@@ -1,7 +1,12 @@
 //! Laws of the editor. Nothing here runs.
 
+ghost use Rattle.nx_session.specs.Done.{AllowedCommandsAreDone, AllowedLinesAreDone, FaultsAreCounted};
 ghost use Rattle.nx_session.specs.Faults.{TextsGiveText};
 ghost use Rattle.nx_session.specs.Step.{RefusalsLeaveTheDocument};
+
+use nx_host::uri::joins_is_decided;
+use nx_script::read::lines_are_one_command;
+use rng_simplify::law::{composed_are_passed, simplified_is_not_broken};
 
 /// A refused command leaves the text, the caret, the document's URI and the schema.
 pub fn refusals_leave_the_document()
@@ -11,4 +16,27 @@ pub fn refusals_leave_the_document()
 /// The names, strings and details that a text gives are text.
 pub fn texts_give_text()
     ensures { TextsGiveText }
+{}
+
+/// Where what a command asks of the world holds, and no call on files fails, it is done; or it is a command that takes memory, and
+/// there was none.
+pub fn allowed_commands_are_done()
+    ensures { AllowedCommandsAreDone }
+{
+    joins_is_decided();
+    composed_are_passed();
+    simplified_is_not_broken();
+}
+
+/// So it is with a line that is such a command.
+pub fn allowed_lines_are_done()
+    ensures { AllowedLinesAreDone }
+{
+    lines_are_one_command();
+    allowed_commands_are_done();
+}
+
+/// No command lowers the count of the files' faults.
+pub fn faults_are_counted()
+    ensures { FaultsAreCounted }
 {}

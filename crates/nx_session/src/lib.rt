@@ -10,6 +10,7 @@
 //! before.
 #![tactic(auto)]
 
+mod document_uri;
 mod large_document;
 pub mod law;
 pub mod session;

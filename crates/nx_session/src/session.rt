@@ -7,14 +7,17 @@ ghost use Rattle.nx_session.specs.Editor.{new_editor, files_state, world};
 ghost use Rattle.nx_session.specs.Step.{Step};
 ghost use Rattle.nx_session.specs.Viewing.{ViewsAreText};
 
+mod asking;
 mod documents;
 mod editing;
+mod locating;
 mod moving;
 mod reading;
 mod schemas;
 mod validating;
 mod viewing;
 
+use crate::document_uri::DocumentUri;
 use deriv_plain::plain::Plain;
 use nx_base::memory::NoMemory;
 use nx_base::sequence::Bytes;
@@ -42,7 +45,7 @@ pub struct Session {
     text: Text,
     /// A place of the text, as a byte offset.
     caret: usize,
-    document: Bytes,
+    document: DocumentUri,
     /// The URI text of the rules by which schemas are located.
     rules: Option<Bytes>,
     /// Reads the text for its faults.
@@ -82,14 +85,14 @@ impl Session {
     pub fn new(alloc: Global, rules: Option<Bytes>) -> Result<Session, NoMemory>
         ensures { IfOk result (λ session. session ≡ new_editor rules) }
     {
-        let document = Bytes::from_vec(Vec::from_slice(alloc, UNTITLED.as_bytes())?);
+        let untitled = Vec::from_slice(alloc, UNTITLED.as_bytes())?;
         let mut machine = Recover::new(None);
         let marks = begun(alloc, &mut machine)?;
         Ok(Session {
             alloc,
             text: Text::new(alloc),
             caret: 0,
-            document,
+            document: DocumentUri::new(Bytes::from_vec(untitled)),
             rules,
             machine,
             marks,
@@ -162,7 +165,9 @@ impl Session {
             Command::Slice(count) => self.slice(*count, steps),
             Command::Stats => Ok(Reply::Taken(self.marks.taken())),
             Command::SchemaFile(uri) => self.hold_schema_file(uri, files),
-            Command::SchemaNone => self.hold_schema(None),
+            Command::SchemaNone => self.hold_none(),
+            Command::SchemaAuto => self.locate_schema(files, steps),
+            Command::Complete(at) => self.complete(*at, steps),
             Command::Goto(at) => self.go_to(*at),
             Command::Move(way) => self.move_along(*way, steps),
             Command::Next => self.next(),

@@ -2,4 +2,6 @@
 #![tactic(auto)]
 
 #[cfg(test)]
+mod located;
+#[cfg(test)]
 mod tests;

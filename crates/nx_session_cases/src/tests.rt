@@ -15,7 +15,7 @@ use std::sync::ledger::{Blank, Ledger};
 use std::test::Fail;
 
 /// Lines, how long the text is behind each, where the caret is, and whether a schema is held.
-const LINES: [(&str, usize, usize, bool); 29] = [
+const LINES: [(&str, usize, usize, bool); 31] = [
     ("insert 0 \"é<b>\"", 5, 0, false),
     ("slice 1", 5, 0, false),
     ("goto 3", 5, 3, false),
@@ -41,6 +41,8 @@ const LINES: [(&str, usize, usize, bool); 29] = [
     ("open \"none.xml\"", 5, 1, false),
     ("schema \"d.rnc\"", 5, 1, true),
     ("errors", 5, 1, true),
+    ("complete 2", 5, 1, true),
+    ("complete 6", 5, 1, true),
     ("schema \"d.xml\"", 5, 1, true),
     ("make 7 1", 76, 0, true),
     ("schema none", 76, 0, false),

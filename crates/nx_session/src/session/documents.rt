@@ -1,6 +1,6 @@
 //! Commands on files.
 
-ghost use Rattle.std.specs.Prelude.{◌≡◌, map, IsUtf8, IfOk, string_bytes};
+ghost use Rattle.std.specs.Prelude.{◌≡◌, map, IsAscii, IsUtf8, IfOk, string_bytes};
 ghost use Rattle.nx_script.specs.Replies.{reply_of, ReplyIsText};
 ghost use Rattle.nx_session.specs.Editor.{files_state, opened};
 ghost use Rattle.nx_session.specs.Documents.{OpenStep, OpensBytes, SaveStep, MakeStep};
@@ -9,6 +9,7 @@ ghost use Rattle.nx_session.specs.LargeDocuments.{large_document};
 ghost use Rattle.nx_views.specs.States.{moved_view};
 
 use super::Session;
+use crate::document_uri::DocumentUri;
 use crate::large_document::large_document;
 use nx_base::edit::Edit;
 use nx_base::memory::NoMemory;
@@ -70,7 +71,8 @@ impl Session {
         bytes: &Bytes,
         views: &mut Vec<Box<dyn View>>,
     ) -> Result<Reply, Refusal>
-        requires { IsUtf8 uri }
+        requires utf8 { IsUtf8 uri }
+        requires ascii { IsAscii uri }
         ensures step { OpensBytes uri bytes.now self.old (reply_of result) self.new }
         ensures views { MovesViews (whole_edit self.old self.new) (map (λ b. state b) views.old.items) (reply_of result) (map (λ b. state b) views.new.items) }
         ensures views_text { ViewsAreText (map (λ b. state b) views.old.items) → ViewsAreText (map (λ b. state b) views.new.items) }
@@ -81,7 +83,7 @@ impl Session {
         };
         let text = text_with(self.alloc, content)?;
         self.show(text, views);
-        self.document = uri;
+        self.document = DocumentUri::new(uri);
         Ok(Reply::Silent)
     }
 

@@ -2,18 +2,25 @@
 
 ghost use Rattle.std.specs.Prelude.{◌≡◌, ◌⊎◌, ℕ, ◌+◌, ◌≤◌, List, length, option_map, IsUtf8, IfOk, IfSome, OnOk};
 ghost use Rattle.std.specs.List.{AllByRecursion};
+ghost use Rattle.nx_base.specs.Text.{IsPlace};
 ghost use Rattle.nx_base.specs.declared.fault.Fault.{Fault};
 ghost use Rattle.nx_marks.specs.Chain.{frontier_of};
 ghost use Rattle.nx_marks.specs.Frontier.{IsBorder, MovesOver};
 ghost use Rattle.nx_recover.specs.Faults.{AreFaultsOf};
+ghost use Rattle.nx_script.specs.Replies.{OffersAreText};
+ghost use Rattle.nx_session.specs.Asking.{AreOffersAt};
 ghost use Rattle.nx_session.specs.Reading.{grammar_of, followed, IsWellKept};
 ghost use Rattle.rng_core.specs.Meaning.{language_of};
+ghost use Rattle.rng_core.specs.Soundness.{IsSound};
 ghost use Rattle.rng_kept.specs.Live.{IsLive};
 
 use deriv_plain::plain::Plain;
 use nx_base::fault::Faults;
 use nx_base::memory::NoMemory;
+use nx_base::offer::Offers;
 use nx_base::steps::Steps;
+use nx_complete::law::offers_are_exact;
+use nx_complete::place::offers;
 use nx_marks::law::{frontier_is_border, later_machines_keep_it_right};
 use nx_marks::marks::Marks;
 use nx_recover::recover::Recover;
@@ -26,7 +33,8 @@ pub(super) fn begun(
     alloc: Global,
     machine: &mut Recover<Plain>,
 ) -> Result<Marks<Recover<Plain>>, NoMemory>
-    requires { IfSome (followed machine.old.matcher) IsLive }
+    requires live { IfSome (followed machine.old.matcher) IsLive }
+    requires sound { IfSome (grammar_of machine.old.matcher) IsSound }
     ensures well { IfOk result (λ marks. (text : List ℕ) → IsUtf8 text → IsWellKept text machine.new.matcher marks.kept) }
     ensures grammar { grammar_of machine.new.matcher ≡ grammar_of machine.old.matcher }
     ensures frontier { IfOk result (λ marks. frontier_of marks.kept ≡ 0) }
@@ -97,4 +105,27 @@ pub(super) fn found(
     let len = text.len();
     let faults = marks.faults(machine, len)?;
     Ok(faults)
+}
+
+/// What may stand at a place of the text. Reading goes on from the last mark in front of it, or at the start.
+pub(super) fn offered<L: Ledger>(
+    alloc: Global,
+    machine: &mut Recover<Plain>,
+    marks: &Marks<Recover<Plain>>,
+    text: &Text,
+    at: usize,
+    steps: &mut Steps<L>,
+) -> Result<Offers, NoMemory>
+    requires well { IsWellKept text.now machine.old.matcher marks.now.kept }
+    requires place { IsPlace text.now at }
+    ensures well { IsWellKept text.now machine.new.matcher marks.now.kept }
+    ensures grammar { grammar_of machine.new.matcher ≡ grammar_of machine.old.matcher }
+    ensures offers { IfOk result (AreOffersAt (option_map language_of (grammar_of machine.old.matcher)) text.now at) }
+    ensures text { IfOk result OffersAreText }
+{
+    later_machines_keep_it_right::<Recover<Plain>>();
+    offers_are_exact();
+    let _len = text.len();
+    let (from, state) = marks.mark_before(machine, at.saturating_sub(1))?;
+    offers(alloc, machine, from, &state, text, at, steps)
 }

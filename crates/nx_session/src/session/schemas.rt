@@ -1,11 +1,11 @@
 //! Commands on the schema that the document is held against.
 
-ghost use Rattle.std.specs.Prelude.{◌≡◌, ℕ, List, Option, Ok, Err, IsUtf8, IfSome, IfErr};
+ghost use Rattle.std.specs.Prelude.{◌≡◌, ℕ, List, Option, None, Ok, Err, IsUtf8, IfSome, IfErr, OnOk, OnErr};
 ghost use Rattle.nx_host.specs.Files.{FileMap};
 ghost use Rattle.nx_script.specs.Replies.{reply_of, RefusalIsText, ReplyIsText};
-ghost use Rattle.nx_session.specs.Editor.{files_state};
+ghost use Rattle.nx_session.specs.Editor.{files_state, with_schema};
 ghost use Rattle.nx_session.specs.Reading.{grammar_of, followed};
-ghost use Rattle.nx_session.specs.Schemas.{UsesGrammar, IsRefusedFor, SchemaAnswers, SchemaFileStep, HoldStep};
+ghost use Rattle.nx_session.specs.Schemas.{UsesGrammar, IsRefusedFor, SchemaAnswers, HoldsFile, SchemaFileStep, HoldStep};
 ghost use Rattle.rng_core.specs.Soundness.{IsSound};
 ghost use Rattle.rng_core.specs.declared.grammar.Grammar.{Grammar};
 ghost use Rattle.rng_kept.specs.Live.{IsLive};
@@ -16,6 +16,7 @@ use super::Session;
 use super::reading::begun;
 use deriv_plain::plain::Plain;
 use nx_base::cause::Cause;
+use nx_base::memory::NoMemory;
 use nx_base::sequence::Bytes;
 use nx_host::files::Files;
 use nx_host::uri::{self, WORK_FOLDER};
@@ -113,23 +114,45 @@ impl Session {
         ensures text { ReplyIsText (reply_of result) }
     {
         let uri = uri::join(self.alloc, WORK_FOLDER, text_of(uri_text))?;
-        match schema_at(self.alloc, text_of(&uri), files) {
-            Ok(schema) => self.hold_schema(Some(Plain::new(schema))),
-            Err(cause) => Err(cause),
-        }
+        self.hold_file(text_of(&uri), files)?;
+        Ok(Reply::Silent)
+    }
+
+    /// Holds the document against no schema from now on.
+    pub(super) fn hold_none(&mut self) -> Result<Reply, Refusal>
+        ensures step { HoldStep None self.old (reply_of result) self.new }
+        ensures text { ReplyIsText (reply_of result) }
+    {
+        self.hold_schema(None)?;
+        Ok(Reply::Silent)
+    }
+
+    /// Holds the document against the schema of the file under the URI from now on.
+    pub(super) fn hold_file<F: Files>(&mut self, uri: &str, files: &mut F) -> Result<(), Refusal>
+        ensures held { OnOk result (HoldsFile uri.now self.old (files_state (F.told files.old) (F.faults files.old))
+            self.new (files_state (F.told files.new) (F.faults files.new))) }
+        ensures refused { IfErr result (IsRefusedFor (F.told files.old) uri.now (F.faults files.old) (F.faults files.new)) }
+        ensures stays { OnErr result (self.new ≡ self.old) }
+        ensures map { F.told files.new ≡ F.told files.old }
+        ensures text { IfErr result RefusalIsText }
+    {
+        let schema = schema_at(self.alloc, uri, files)?;
+        self.hold_schema(Some(Plain::new(schema)))?;
+        Ok(())
     }
 
     /// Follows the document with this matcher from now on, or with none. The old one stays until the new one has begun.
-    pub(super) fn hold_schema(&mut self, matcher: Option<Plain>) -> Result<Reply, Refusal>
-        requires { IfSome (followed matcher) IsLive }
-        ensures step { HoldStep (grammar_of matcher) self.old (reply_of result) self.new }
-        ensures text { ReplyIsText (reply_of result) }
+    pub(super) fn hold_schema(&mut self, matcher: Option<Plain>) -> Result<(), NoMemory>
+        requires live { IfSome (followed matcher) IsLive }
+        requires sound { IfSome (grammar_of matcher) IsSound }
+        ensures held { OnOk result (self.new ≡ with_schema self.old (grammar_of matcher)) }
+        ensures stays { OnErr result (self.new ≡ self.old) }
     {
         let _len = self.text.len();
         let mut machine = Recover::new(matcher);
         let marks = begun(self.alloc, &mut machine)?;
         self.machine = machine;
         self.marks = marks;
-        Ok(Reply::Silent)
+        Ok(())
     }
 }

@@ -15,6 +15,7 @@ invariant_of-self g c =
     record {
       well = record {
         live = c.self.invariant.well.live;
+        sound = c.self.invariant.well.sound;
         read = subst Q (sym done.1)
             (c.edit.ensures.right c.self.inside.machine c.self.inside.text [] c.len-len.ensures.utf8 IsUtf8-nil done.0.start done.0.end done.0.ordered refl (omega (arith, c.len-len.ensures.bytes)) (omega (arith, ap (λ (t : List ℕ). length t) done.1, c.len-new_len.ensures.bytes)) c.self.invariant.well.read);
       };

@@ -8,7 +8,7 @@ use Rattle.nx_session.proofs.session.Session.hold_schema.Goals as goal
 pub invariant_of-self : goal.invariant_of-self
 invariant_of-self c = record { well = c.in_ok-marks.ensures.well c.self.inside.text c.len-len.ensures.utf8; place = c.self.invariant.place }
 
-pub returns-clause-step : goal.returns-clause-step
-returns-clause-step c =
+pub returns-clause-held : goal.returns-clause-held
+returns-clause-held c =
     rw (← c.self.view_is) (begun_anew (seen c.self.inside.text c.self.inside.caret c.self.inside.document c.self.inside.machine.matcher c.self.inside.rules (frontier_of c.self.inside.marks.kept) c.self.inside.marks.taken) (grammar_of c.begun.new.machine.matcher) (grammar_of c.args.matcher) (frontier_of c.in_ok-marks.marks.kept) c.in_ok-marks.marks.taken
     (c.begun.ensures.grammar ∙ ap grammar_of c.new-machine.ensures) c.in_ok-marks.ensures.frontier c.in_ok-marks.ensures.taken)

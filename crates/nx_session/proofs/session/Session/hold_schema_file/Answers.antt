@@ -1,8 +1,7 @@
-use Rattle.std.proofs.Common.{Some, Err, refl, ap, inr}
+use Rattle.std.proofs.Common.{Err, refl, ap, inr}
 use Rattle.std.proofs.lemmas.Result.{err_from_is_err_and}
 use Rattle.nx_session.specs.Editor.{files_state}
-use Rattle.nx_session.proofs.Filing.{same-files}
-use Rattle.nx_session.proofs.Using.{unjoined, unheld}
+use Rattle.nx_session.proofs.Using.{unjoined}
 use Rattle.nx_session.proofs.session.Session.hold_schema_file.Goals as goal
 
 pub returns-in_err-uri-clause-step : goal.returns-in_err-uri-clause-step
@@ -17,15 +16,15 @@ returns-in_err-uri-clause-step g c =
           (λ bad. rw c.text_of.ensures at c.in_err-uri.ensures.bad (ap (λ fault. Err fault) bad)) refl,
     )
 
-pub returns-in-Ok-clause-step : goal.returns-in-Ok-clause-step
-returns-in-Ok-clause-step g c =
-    let f = g.F.Files in
-    let before = files_state (f.told c.args.files.now) (f.faults c.args.files.now) in
-    let after = files_state (f.told c.schema_at.new.files) (f.faults c.schema_at.new.files) in
-    unheld c.args.uri_text.now c.in_ok-uri.uri (Some c.new.result.schema.grammar) c.in-Ok.schema.grammar c.args.self.now c.hold_schema.new.self before after _
-    (rw c.text_of.ensures at c.in_ok-uri.ensures.joined) (rw c.text_of-2.ensures at c.in-Ok.ensures.answers.0)
-    (same-files after before c.schema_at.ensures.map c.in-Ok.ensures.answers.1) (ap (λ schema. Some schema.grammar) c.new.ensures) c.hold_schema.ensures.step
+pub returns-in_err-hold_file-clause-step : goal.returns-in_err-hold_file-clause-step
+returns-in_err-hold_file-clause-step g c =
+    let refusal = err_from_is_err_and c.from_residual-in_err-hold_file.result c.from_residual-in_err-hold_file.ensures.1 in
+    rw (refusal.1, refusal.2) (
+      c.in_err-hold_file.ensures.stays,
+      c.in_err-hold_file.ensures.map,
+      inr (inr (c.in_ok-uri.uri, rw c.text_of.ensures at c.in_ok-uri.ensures.joined, rw c.text_of-2.ensures at c.in_err-hold_file.ensures.refused)),
+    )
 
 pub returns-clause-step : goal.returns-clause-step
 returns-clause-step g c =
-    (refl, c.schema_at.ensures.map, inr (inr (c.in_ok-uri.uri, rw c.text_of.ensures at c.in_ok-uri.ensures.joined, rw c.text_of-2.ensures at c.in-Err.ensures.answers)))
+    (c.in_ok-uri.uri, rw c.text_of.ensures at c.in_ok-uri.ensures.joined, rw c.text_of-2.ensures at c.in_ok-hold_file.ensures.held)

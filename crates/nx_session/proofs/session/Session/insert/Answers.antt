@@ -16,6 +16,7 @@ invariant_of-self g c =
     record {
       well = record {
         live = c.self.invariant.well.live;
+        sound = c.self.invariant.well.sound;
         read = subst Q (sym done.1) (rw c.text_of.ensures
             (c.edit.ensures.right c.self.inside.machine c.self.inside.text c.args.added.now c.len-len.ensures.utf8 c.requires done.0 done.0 (omega arith) c.len.ensures (omega (arith, c.len-len.ensures.bytes)) (omega (arith, ap (λ (t : List ℕ). length t) is, c.len-new_len.ensures.bytes)) c.self.invariant.well.read));
       };

@@ -13,6 +13,7 @@ invariant_of-self g c =
     record {
       well = record {
         live = c.self.invariant.well.live;
+        sound = c.self.invariant.well.sound;
         read = subst Q (edited_whole text c.args.text c.len.result c.len.ensures.bytes)
             (c.edit.ensures.right c.self.inside.machine text c.args.text c.len.ensures.utf8 c.len-2.ensures.utf8 (IsCharBoundary-start text c.len.ensures.utf8)
             (subst P (sym c.len.ensures.bytes) (IsCharBoundary-end text)) (omega arith) c.len-2.ensures.bytes (omega (arith, c.len.ensures.bytes)) (omega (arith, ap (λ (t : List ℕ). length t) (edited_whole text c.args.text c.len.result c.len.ensures.bytes), c.len-2.ensures.bytes)) c.self.invariant.well.read);

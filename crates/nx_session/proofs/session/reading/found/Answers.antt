@@ -1,17 +1,19 @@
 use Rattle.std.proofs.Common.{sym}
-use Rattle.nx_session.proofs.Reading.{are_faults, details_text, later_grammar, later_live}
+use Rattle.nx_session.proofs.Reading.{are_faults, details_text, later_grammar, later_live, later_sound}
 use Rattle.nx_session.proofs.session.reading.found.Goals as goal
 
 pub returns-clause-well : goal.returns-clause-well
 returns-clause-well c = record {
   read = c.later_machines_keep_it_right.ensures c.args.machine.now c.faults.new.machine c.args.text.now c.args.marks.now.kept c.faults.ensures.later c.requires.well.read;
   live = later_live c.args.machine.now.matcher c.faults.new.machine.matcher c.faults.ensures.later c.requires.well.live;
+  sound = later_sound c.args.machine.now.matcher c.faults.new.machine.matcher c.faults.ensures.later c.requires.well.sound;
 }
 
 pub returns-in_err-faults-clause-well : goal.returns-in_err-faults-clause-well
 returns-in_err-faults-clause-well c = record {
   read = c.later_machines_keep_it_right.ensures c.args.machine.now c.faults.new.machine c.args.text.now c.args.marks.now.kept c.faults.ensures.later c.requires.well.read;
   live = later_live c.args.machine.now.matcher c.faults.new.machine.matcher c.faults.ensures.later c.requires.well.live;
+  sound = later_sound c.args.machine.now.matcher c.faults.new.machine.matcher c.faults.ensures.later c.requires.well.sound;
 }
 
 pub returns-clause-grammar : goal.returns-clause-grammar
