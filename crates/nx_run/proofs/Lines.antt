@@ -1,5 +1,5 @@
 -- A line that ends a run, where the output refuses it.
-use Rattle.std.proofs.Common.{◌≡◌, ℕ, List, [], Option, Err, refl, sym, subst, inl, inr}
+use Rattle.std.proofs.Common.{ℕ, List, [], Option, Err, refl, sym, subst, inl, inr}
 use Rattle.nx_host.specs.declared.out.OutFault.{OutFault}
 use Rattle.nx_host.specs.declared.out.OutFault.TheVariants.{Failed, NoMemory}
 use Rattle.nx_host.specs.Out.{Appends, Writes, CountsOutFault}

@@ -1,37 +1,36 @@
 -- A script that is being played: what was played and written so far, and how it goes on.
-use Rattle.std.proofs.Common.{◌≡◌, ℕ, suc, ◌+◌, ◌<◌, ◌≤◌, ◌||◌, cond, ◌==◌, Bool, true, false, List, [], ◌∷◌, ◌++◌, length, Option, Some, None, Result, Ok, Err, refl, sym, ap, ◌∙◌, subst, arith, append_assoc, length-append, inl, inr}
+use Rattle.std.proofs.Common.{◌≡◌, ℕ, ◌+◌, ◌||◌, cond, Bool, true, false, List, [], ◌∷◌, ◌++◌, length, Option, Some, None, Result, Ok, Err, refl, sym, ap, ◌∙◌, subst, arith, append_assoc, length-append, inl, inr}
 use Rattle.std.specs.List.{AllByRecursion, list_any}
-use Rattle.std.proofs.lemmas.Bool.Decides.{Decides-eqb}
 use Rattle.std.proofs.lemmas.List.Folds.{list_any-append}
 use Rattle.std.proofs.lemmas.List.{append-nil}
 use Rattle.nx_host.specs.Count.{Rose}
 use Rattle.nx_host.specs.declared.out.OutFault.{OutFault}
 use Rattle.nx_host.specs.declared.out.OutFault.TheVariants.{Failed, NoMemory}
 use Rattle.nx_host.specs.Out.{Appends, AppendsPrefix, WritesInParts, CountsOutFault}
-use Rattle.nx_script.specs.Lines.{lines_of}
 use Rattle.nx_script.specs.Printing.{reply_text}
 use Rattle.nx_script.specs.declared.reply.Reply.{Reply}
 use Rattle.nx_run.specs.declared.status.Status.{Status}
 use Rattle.nx_run.specs.declared.status.Status.TheVariants.{Done, Refused, Memory}
 use Rattle.nx_script.specs.Replies.{ReplyIsText}
 use Rattle.nx_session.specs.Editor.{EditorState, World, world, new_editor}
-use Rattle.nx_session.specs.Step.{LineStep}
 use Rattle.nx_session.specs.Viewing.{ViewsAreText}
+use Rattle.nx_words.specs.Words.{CommandLine}
 use Rattle.nx_run.specs.Codes.{stop_status}
 use Rattle.nx_run.specs.Output.{OutState}
 use Rattle.nx_run.specs.Surroundings.{Surroundings, begun_in}
-use Rattle.nx_run.specs.Play.{Plays, texts_from, wants_memory, is_refusal, IsWhole, IsCutOff, IsPlayOf}
+use Rattle.nx_run.specs.Turns.{Turn, turns_of, first_number}
+use Rattle.nx_run.specs.Play.{TurnStep, Plays, texts_from, wants_memory, is_refusal, IsWhole, IsCutOff, IsPlayOf}
 
--- a play goes on by one line
-pub plays-push : (old : World) (lines : List (List ℕ)) (answers : List Reply) (mid new : World) (line : List ℕ) (answer : Reply) →
-    Plays old lines answers mid → LineStep mid line answer new → Plays old (lines ++ line ∷ []) (answers ++ answer ∷ []) new
-plays-push old [] [] mid new line answer played step =
-    let P : World → Type 0 = λ w. LineStep w line answer new in
+-- a play goes on by one turn
+pub plays-push : (old : World) (turns : List Turn) (answers : List Reply) (mid new : World) (turn : Turn) (answer : Reply) →
+    Plays old turns answers mid → TurnStep mid turn answer new → Plays old (turns ++ turn ∷ []) (answers ++ answer ∷ []) new
+plays-push old [] [] mid new turn answer played step =
+    let P : World → Type 0 = λ w. TurnStep w turn answer new in
     (new, subst P played step, refl)
-plays-push old (l ∷ ls) (a ∷ more) mid new line answer played step =
-    (played.0, played.1, plays-push played.0 ls more mid new line answer played.2 step)
-plays-push old [] (a ∷ more) mid new line answer played step = absurd played
-plays-push old (l ∷ ls) [] mid new line answer played step = absurd played
+plays-push old (t ∷ ts) (a ∷ more) mid new turn answer played step =
+    (played.0, played.1, plays-push played.0 ts more mid new turn answer played.2 step)
+plays-push old [] (a ∷ more) mid new turn answer played step = absurd played
+plays-push old (t ∷ ts) [] mid new turn answer played step = absurd played
 
 -- the text of one more reply comes behind the others
 pub texts_from-push : (number : ℕ) (answers : List Reply) (answer : Reply) →
@@ -75,78 +74,81 @@ all-push : (answers : List Reply) (answer : Reply) → AllByRecursion ReplyIsTex
 all-push [] answer h k = (k, tt)
 all-push (a ∷ more) answer h k = (h.0, all-push more answer h.1 k)
 
--- the lines so far were played, and the texts of their replies written
-pub record IsPlaying (script : List ℕ) (old now : Surroundings) (before after : OutState) (editor : EditorState) (number : ℕ) (rest : List ℕ) (memory refusal : Bool) : Type 0 where
-  pub front : List (List ℕ)
+-- the turns so far were played, and the texts of their replies written; these are left, of which the next has this number
+pub record IsPlaying (asked : CommandLine) (script : List ℕ) (old now : Surroundings) (before after : OutState) (editor : EditorState) (left : List Turn) (number : ℕ) (memory refusal : Bool) : Type 0 where
+  pub front : List Turn
   pub answers : List Reply
-  pub lines : lines_of script ≡ front ++ lines_of rest
-  pub played : Plays (begun_in old) front answers (placed editor now)
+  pub turns : turns_of asked.schema script ≡ front ++ left
+  pub played : Plays (begun_in asked.rules old) front answers (placed editor now)
   pub are_text : ViewsAreText old.views → AllByRecursion ReplyIsText answers
   pub views_text : ViewsAreText old.views → ViewsAreText now.views
-  pub counted : number ≡ length answers
-  pub written : Appends before.bytes (texts_from 1 answers) after.bytes
+  pub counted : number ≡ first_number asked.schema + length answers
+  pub written : Appends before.bytes (texts_from (first_number asked.schema) answers) after.bytes
   pub no_fault : after.faults ≡ before.faults
   pub memory_is : memory ≡ list_any wants_memory answers
   pub refusal_is : refusal ≡ list_any is_refusal answers
-  pub within : number + length rest ≤ length script
 
 -- nothing was played yet
-pub play-begun : (script : List ℕ) (files : Surroundings) (out : OutState) (editor : EditorState) → editor ≡ new_editor None →
-    IsPlaying script files files out out editor 0 script false false
-play-begun script files out editor begun = record {
+pub play-begun : (asked : CommandLine) (script : List ℕ) (old : Surroundings) (out : OutState) (editor : EditorState) (rules : Option (List ℕ)) (left : List Turn) (number : ℕ) →
+    rules ≡ asked.rules → editor ≡ new_editor rules → left ≡ turns_of asked.schema script → number ≡ first_number asked.schema →
+    IsPlaying asked script old old out out editor left number false false
+play-begun asked script old out editor rules left number same begun all first = record {
   front = [];
   answers = [];
-  lines = refl;
-  played = ap (λ e. placed e files) begun;
+  turns = sym all;
+  played = ap (λ e. placed e old) (begun ∙ ap new_editor same);
   are_text = λ h. tt;
   views_text = λ h. h;
-  counted = refl;
+  counted = omega (arith, first);
   written = appends-nil out.bytes;
   no_fault = refl;
   memory_is = refl;
   refusal_is = refl;
-  within = omega arith;
 }
 
--- one more line was played, and the text of its reply was written
-pub play-more : (script : List ℕ) (old now next : Surroundings) (before after last : OutState) (editor new : EditorState) (number : ℕ) (rest line following : List ℕ)
-    (memory refusal memory' refusal' : Bool) (answer : Reply) →
-    IsPlaying script old now before after editor number rest memory refusal →
-    lines_of rest ≡ line ∷ lines_of following → length following < length rest →
-    LineStep (placed editor now) line answer (placed new next) → (ViewsAreText now.views → ReplyIsText answer) → (ViewsAreText now.views → ViewsAreText next.views) →
-    Appends after.bytes (reply_text (number + 1) answer) last.bytes → last.faults ≡ after.faults →
+-- the turns, of which one is played next
+next-turn : (turns front left following : List Turn) (turn : Turn) → turns ≡ front ++ left → left ≡ turn ∷ following →
+    turns ≡ (front ++ turn ∷ []) ++ following
+next-turn turns front left following turn h cut = h ∙ ap (λ ts. front ++ ts) cut ∙ sym (append_assoc front (turn ∷ []) following)
+
+-- one more turn was played, and the text of its reply was written
+pub play-more : (asked : CommandLine) (script : List ℕ) (old now next : Surroundings) (before after last : OutState) (editor new : EditorState)
+    (left following : List Turn) (number number' : ℕ) (turn : Turn) (memory refusal memory' refusal' : Bool) (answer : Reply) →
+    IsPlaying asked script old now before after editor left number memory refusal →
+    left ≡ turn ∷ following → number' ≡ number + 1 →
+    TurnStep (placed editor now) turn answer (placed new next) → (ViewsAreText now.views → ReplyIsText answer) → (ViewsAreText now.views → ViewsAreText next.views) →
+    Appends after.bytes (reply_text number answer) last.bytes → last.faults ≡ after.faults →
     memory' ≡ (memory || wants_memory answer) → refusal' ≡ (refusal || is_refusal answer) →
-    IsPlaying script old next before last new (number + 1) following memory' refusal'
-play-more script old now next before after last editor new number rest line following memory refusal memory' refusal' answer h cut shorter step text views wrote quiet m r = record {
-  front = h.front ++ line ∷ [];
+    IsPlaying asked script old next before last new following number' memory' refusal'
+play-more asked script old now next before after last editor new left following number number' turn memory refusal memory' refusal' answer h cut count step text views wrote quiet m r = record {
+  front = h.front ++ turn ∷ [];
   answers = h.answers ++ answer ∷ [];
-  lines = h.lines ∙ ap (λ x. h.front ++ x) cut ∙ sym (append_assoc h.front (line ∷ []) (lines_of following));
-  played = plays-push (begun_in old) h.front h.answers (placed editor now) (placed new next) line answer h.played step;
+  turns = next-turn (turns_of asked.schema script) h.front left following turn h.turns cut;
+  played = plays-push (begun_in asked.rules old) h.front h.answers (placed editor now) (placed new next) turn answer h.played step;
   are_text = λ k. all-push h.answers answer (h.are_text k) (text (h.views_text k));
   views_text = λ k. views (h.views_text k);
-  counted = omega (arith, h.counted, length-append h.answers (answer ∷ []));
+  counted = omega (arith, count, h.counted, length-append h.answers (answer ∷ []));
   written =
-      let numbered : number + 1 ≡ 1 + length h.answers = omega (arith, h.counted) in
+      let first = first_number asked.schema in
       let P : List ℕ → Type 0 = λ x. Appends before.bytes x last.bytes in
-      subst P (ap (λ n. texts_from 1 h.answers ++ reply_text n answer) numbered ∙ sym (texts_from-push 1 h.answers answer))
-      (appends-more before.bytes after.bytes last.bytes (texts_from 1 h.answers) (reply_text (number + 1) answer) h.written wrote);
+      subst P (ap (λ n. texts_from first h.answers ++ reply_text n answer) h.counted ∙ sym (texts_from-push first h.answers answer))
+      (appends-more before.bytes after.bytes last.bytes (texts_from first h.answers) (reply_text number answer) h.written wrote);
   no_fault = quiet ∙ h.no_fault;
   memory_is = m ∙ ap (λ b. b || wants_memory answer) h.memory_is ∙ sym (list_any-push wants_memory h.answers answer);
   refusal_is = r ∙ ap (λ b. b || is_refusal answer) h.refusal_is ∙ sym (list_any-push is_refusal h.answers answer);
-  within = omega (arith, h.within, shorter);
 }
 
--- every line was played
-pub play-ended : (script : List ℕ) (old now : Surroundings) (before after : OutState) (editor : EditorState) (number : ℕ) (rest : List ℕ) (memory refusal : Bool) (status : Status) →
-    IsPlaying script old now before after editor number rest memory refusal → rest ≡ [] →
+-- every turn was played
+pub play-ended : (asked : CommandLine) (script : List ℕ) (old now : Surroundings) (before after : OutState) (editor : EditorState) (left : List Turn) (number : ℕ) (memory refusal : Bool) (status : Status) →
+    IsPlaying asked script old now before after editor left number memory refusal → left ≡ [] →
     status ≡ cond memory Memory (cond refusal Refused Done) →
-    IsWhole script old now before.bytes after.bytes status
-play-ended script old now before after editor number rest memory refusal status h none ended = record {
+    IsWhole asked script old now before.bytes after.bytes status
+play-ended asked script old now before after editor left number memory refusal status h none ended = record {
   answers = h.answers;
   end_world = placed editor now;
   played =
-      let P : List (List ℕ) → Type 0 = λ ls. Plays (begun_in old) ls h.answers (placed editor now) in
-      let all : h.front ≡ lines_of script = sym (append-nil h.front) ∙ ap (λ r. h.front ++ lines_of r) (sym none) ∙ sym h.lines in
+      let P : List Turn → Type 0 = λ ts. Plays (begun_in asked.rules old) ts h.answers (placed editor now) in
+      let all : h.front ≡ turns_of asked.schema script = sym (append-nil h.front) ∙ ap (λ r. h.front ++ r) (sym none) ∙ sym h.turns in
       subst P all h.played;
   left = refl;
   are_text = h.are_text;
@@ -155,50 +157,43 @@ play-ended script old now before after editor number rest memory refusal status 
       ∙ ap (λ b. cond (list_any wants_memory h.answers) Memory (cond b Refused Done)) h.refusal_is;
 }
 
--- nothing is left
-pub no-rest : (rest : List ℕ) → (length rest == 0) ≡ true → rest ≡ []
-no-rest [] h = refl
-no-rest (byte ∷ bytes) h = absurd (let none : suc (length bytes) ≡ 0 = (Decides-eqb (suc (length bytes)) 0).0 h in omega arith)
-
 -- so the play is whole, whatever the status
-pub play-done : (script : List ℕ) (old now : Surroundings) (before after : OutState) (editor : EditorState) (number : ℕ) (rest : List ℕ)
-    (memory refusal : Bool) (status : Status) → IsPlaying script old now before after editor number rest memory refusal → rest ≡ [] →
-    status ≡ cond memory Memory (cond refusal Refused Done) → IsPlayOf script old now before after status
-play-done script old now before after editor number rest memory refusal status h none ended =
-    let Q : Status → Type 0 = λ s. IsPlayOf script old now before after s in
+pub play-done : (asked : CommandLine) (script : List ℕ) (old now : Surroundings) (before after : OutState) (editor : EditorState) (left : List Turn) (number : ℕ)
+    (memory refusal : Bool) (status : Status) → IsPlaying asked script old now before after editor left number memory refusal → left ≡ [] →
+    status ≡ cond memory Memory (cond refusal Refused Done) → IsPlayOf asked script old now before after status
+play-done asked script old now before after editor left number memory refusal status h none ended =
+    let Q : Status → Type 0 = λ s. IsPlayOf asked script old now before after s in
     subst Q (sym ended) (by_tally memory refusal
-    (play-ended script old now before after editor number rest memory refusal (cond memory Memory (cond refusal Refused Done)) h none refl))
+    (play-ended asked script old now before after editor left number memory refusal (cond memory Memory (cond refusal Refused Done)) h none refl))
   where
-    by_tally : (m r : Bool) → IsWhole script old now before.bytes after.bytes (cond m Memory (cond r Refused Done)) →
-        IsPlayOf script old now before after (cond m Memory (cond r Refused Done))
+    by_tally : (m r : Bool) → IsWhole asked script old now before.bytes after.bytes (cond m Memory (cond r Refused Done)) →
+        IsPlayOf asked script old now before after (cond m Memory (cond r Refused Done))
     by_tally true r w = (inl w, h.no_fault)
     by_tally false true w = (w, h.no_fault)
     by_tally false false w = (w, h.no_fault)
 
--- one more line was played, and only a part of its reply's text was written
-pub play-stopped : (script : List ℕ) (old now next : Surroundings) (before after last : OutState) (editor new : EditorState) (number : ℕ) (rest line following : List ℕ)
-    (memory refusal : Bool) (answer : Reply) →
-    IsPlaying script old now before after editor number rest memory refusal →
-    lines_of rest ≡ line ∷ lines_of following →
-    LineStep (placed editor now) line answer (placed new next) → (ViewsAreText now.views → ReplyIsText answer) →
-    AppendsPrefix after.bytes (reply_text (number + 1) answer) last.bytes →
-    IsCutOff script old next before.bytes last.bytes
-play-stopped script old now next before after last editor new number rest line following memory refusal answer h cut step text wrote = record {
-  front = h.front ++ line ∷ [];
-  rest = lines_of following;
+-- one more turn was played, and only a part of its reply's text was written
+pub play-stopped : (asked : CommandLine) (script : List ℕ) (old now next : Surroundings) (before after last : OutState) (editor new : EditorState)
+    (left following : List Turn) (number : ℕ) (turn : Turn) (memory refusal : Bool) (answer : Reply) →
+    IsPlaying asked script old now before after editor left number memory refusal →
+    left ≡ turn ∷ following →
+    TurnStep (placed editor now) turn answer (placed new next) → (ViewsAreText now.views → ReplyIsText answer) →
+    AppendsPrefix after.bytes (reply_text number answer) last.bytes →
+    IsCutOff asked script old next before.bytes last.bytes
+play-stopped asked script old now next before after last editor new left following number turn memory refusal answer h cut step text wrote = record {
+  front = h.front ++ turn ∷ [];
+  rest = following;
   answers = h.answers;
   last = answer;
   end_world = placed new next;
-  lines = h.lines ∙ ap (λ x. h.front ++ x) cut ∙ sym (append_assoc h.front (line ∷ []) (lines_of following));
-  played = plays-push (begun_in old) h.front h.answers (placed editor now) (placed new next) line answer h.played step;
+  turns = next-turn (turns_of asked.schema script) h.front left following turn h.turns cut;
+  played = plays-push (begun_in asked.rules old) h.front h.answers (placed editor now) (placed new next) turn answer h.played step;
   left = refl;
   are_text = λ k. all-push h.answers answer (h.are_text k) (text (h.views_text k));
   part = wrote.0;
   missing = wrote.1;
-  parted =
-      let numbered : length h.answers + 1 ≡ number + 1 = omega (arith, h.counted) in
-      ap (λ n. reply_text n answer) numbered ∙ wrote.2;
-  written = appends-more before.bytes after.bytes last.bytes (texts_from 1 h.answers) wrote.0 h.written wrote.3;
+  parted = ap (λ n. reply_text n answer) (sym h.counted) ∙ wrote.2;
+  written = appends-more before.bytes after.bytes last.bytes (texts_from (first_number asked.schema) h.answers) wrote.0 h.written wrote.3;
 }
 
 -- ---- what a write answers
@@ -210,15 +205,15 @@ pub refused-part : (result : Answer) (fault : OutFault) (before after : Option (
 refused-part result fault before after text e h = let P : Answer → Type 0 = λ r. WritesInParts r before text after in subst P e h
 
 -- the play ends where a write was refused
-pub play-refused : (script : List ℕ) (old new : Surroundings) (before was after : OutState) (result : Answer) (fault : OutFault) (status : Status) →
-    result ≡ Err fault → was.faults ≡ before.faults → IsCutOff script old new before.bytes after.bytes → CountsOutFault result was.faults after.faults →
-    status ≡ stop_status fault → IsPlayOf script old new before after status
-play-refused script old new before was after result fault status e quiet cut counts ended =
+pub play-refused : (asked : CommandLine) (script : List ℕ) (old new : Surroundings) (before was after : OutState) (result : Answer) (fault : OutFault) (status : Status) →
+    result ≡ Err fault → was.faults ≡ before.faults → IsCutOff asked script old new before.bytes after.bytes → CountsOutFault result was.faults after.faults →
+    status ≡ stop_status fault → IsPlayOf asked script old new before after status
+play-refused asked script old new before was after result fault status e quiet cut counts ended =
     let P : Answer → Type 0 = λ r. CountsOutFault r was.faults after.faults in
-    let Q : Status → Type 0 = λ s. IsPlayOf script old new before after s in
+    let Q : Status → Type 0 = λ s. IsPlayOf asked script old new before after s in
     subst Q (sym ended) (by_fault fault (subst P e counts))
   where
-    by_fault : (x : OutFault) → CountsOutFault {A = Unit {0}} (Err x) was.faults after.faults → IsPlayOf script old new before after (stop_status x)
+    by_fault : (x : OutFault) → CountsOutFault {A = Unit {0}} (Err x) was.faults after.faults → IsPlayOf asked script old new before after (stop_status x)
     by_fault Failed rose = let R : ℕ → Type 0 = λ n. Rose n after.faults in (cut, subst R quiet rose)
     by_fault NoMemory same = (inr (inl cut), same ∙ quiet)
 

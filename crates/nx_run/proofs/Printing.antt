@@ -17,10 +17,10 @@ use Rattle.nx_run.specs.declared.status.Status.TheVariants.{Done, Refused, Words
 use Rattle.nx_session.specs.Viewing.{ViewsAreText}
 use Rattle.nx_run.specs.Output.{OutState}
 use Rattle.nx_run.specs.Surroundings.{Surroundings}
-use Rattle.nx_run.specs.Words.{usage_line}
 use Rattle.nx_run.specs.Script.{refusal_line}
+use Rattle.nx_run.specs.Turns.{first_number}
 use Rattle.nx_run.specs.Play.{texts_from}
-use Rattle.nx_run.specs.Run.{IsRunOf, IsToTheEnd}
+use Rattle.nx_run.specs.Run.{IsRunOf, IsToTheEnd, usage_line}
 
 texts_are_text : (number : ℕ) (answers : List Reply) → AllByRecursion ReplyIsText answers → IsUtf8 (texts_from number answers)
 texts_are_text number [] h = IsUtf8-nil
@@ -48,9 +48,11 @@ behind (Some old) (Some new) front text h e f t =
 pub runs_print_text : (words : List (List ℕ)) (old new : Surroundings) (before after : OutState) (status : Status) (front : List ℕ) →
     IsRunOf words old new before after status → IsToTheEnd status → ViewsAreText old.views → before.bytes ≡ Some front → IsUtf8 front → WritesText after.bytes
 runs_print_text words old new before after Done front h whole views e f =
-    behind before.bytes after.bytes front (texts_from 1 h.play.0.answers) h.play.0.written e f (texts_are_text 1 h.play.0.answers (h.play.0.are_text views))
+    let first = first_number h.asked.schema in
+    behind before.bytes after.bytes front (texts_from first h.play.0.answers) h.play.0.written e f (texts_are_text first h.play.0.answers (h.play.0.are_text views))
 runs_print_text words old new before after Refused front h whole views e f =
-    behind before.bytes after.bytes front (texts_from 1 h.play.0.answers) h.play.0.written e f (texts_are_text 1 h.play.0.answers (h.play.0.are_text views))
+    let first = first_number h.asked.schema in
+    behind before.bytes after.bytes front (texts_from first h.play.0.answers) h.play.0.written e f (texts_are_text first h.play.0.answers (h.play.0.are_text views))
 runs_print_text words old new before after Words front h whole views e f = behind before.bytes after.bytes front usage_line h.said.0 e f (word_text usage_line refl)
 runs_print_text words old new before after Script front h whole views e f = behind before.bytes after.bytes front (refusal_line h.cause) h.said.0 e f (refusal_is_text h.cause)
 runs_print_text words old new before after Output front h whole views e f = absurd whole

@@ -1,7 +1,8 @@
 pub mod Codes
 pub mod Output
 pub mod Surroundings
-pub mod Words
 pub mod Script
+pub mod Turns
 pub mod Play
 pub mod Run
+pub mod Allowed

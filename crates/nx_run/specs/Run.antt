@@ -1,5 +1,5 @@
 -- A whole run of the program: its words, the files, the views, an output and the count of tokens before and after it, and its status.
-use Rattle.std.specs.Prelude.{◌≡◌, ℕ, ◌⊎◌, List, Some, IsUtf8}
+use Rattle.std.specs.Prelude.{◌≡◌, ℕ, ◌⊎◌, List, codes, Some, IsUtf8}
 use Rattle.nx_host.specs.Count.{Rose}
 use Rattle.nx_host.specs.Out.{Appends, AppendsPrefix}
 use Rattle.nx_run.specs.declared.script.ScriptRefusal.{ScriptRefusal}
@@ -8,7 +8,7 @@ use Rattle.nx_run.specs.declared.status.Status.TheVariants.{Done, Refused, Words
 use Rattle.nx_run.specs.Output.{OutState}
 use Rattle.nx_session.specs.Viewing.{ViewsAreText}
 use Rattle.nx_run.specs.Surroundings.{Surroundings}
-use Rattle.nx_run.specs.Words.{NamesScript, usage_line}
+use Rattle.nx_words.specs.Words.{CommandLine, Asks}
 use Rattle.nx_run.specs.Script.{IsScript, HoldsOfScript, refusal_line}
 use Rattle.nx_run.specs.Play.{IsPlayOf, IsUnbegun}
 
@@ -24,34 +24,38 @@ FailsLine line before after = AppendsPrefix before.bytes line after.bytes × Ros
 abbrev pub StarvesLine : List ℕ → OutState → OutState → Type 0
 StarvesLine line before after = AppendsPrefix before.bytes line after.bytes × (after.faults ≡ before.faults)
 
--- the words name no script, which the usage line says
+-- what is written where the words are out of form
+abbrev pub usage_line : List ℕ
+usage_line = codes "usage: nxml [--schema URI] [--rules URI] SCRIPT\n"
+
+-- the words are out of form, which the usage line says
 pub record IsMisused (words : List (List ℕ)) (old new : Surroundings) (says : List ℕ → Type 0) : Type 0 where
-  pub words_are_wrong : (word : List ℕ) → NamesScript words word → ⊥
+  pub words_are_wrong : (asked : CommandLine) → Asks words asked → ⊥
   pub all_stays : new ≡ old
   pub said : says usage_line
 
 -- the words name a script that can't be read, which a line says
 pub record IsUnread (words : List (List ℕ)) (old new : Surroundings) (says : List ℕ → Type 0) : Type 0 where
-  pub word : List ℕ
-  pub named : NamesScript words word
+  pub asked : CommandLine
+  pub asks : Asks words asked
   pub cause : ScriptRefusal
-  pub holds : HoldsOfScript cause word old.files new.files
+  pub holds : HoldsOfScript cause asked.script old.files new.files
   pub same_views : new.views ≡ old.views
   pub no_steps : new.steps ≡ old.steps
   pub said : says (refusal_line cause)
 
 -- the words name a script that was played
 pub record IsPlayed (words : List (List ℕ)) (old new : Surroundings) (before after : OutState) (status : Status) : Type 0 where
-  pub word : List ℕ
-  pub named : NamesScript words word
+  pub asked : CommandLine
+  pub asks : Asks words asked
   pub script : List ℕ
-  pub is_script : IsScript word old.files script
-  pub play : IsPlayOf script old new before after status
+  pub is_script : IsScript asked.script old.files script
+  pub play : IsPlayOf asked script old new before after status
 
--- the words name a script, and there was no memory to read it
+-- the words name a script, and there was no memory to read it, or the words
 pub record IsStarved (words : List (List ℕ)) (old new : Surroundings) (before after : OutState) : Type 0 where
-  pub word : List ℕ
-  pub named : NamesScript words word
+  pub asked : CommandLine
+  pub asks : Asks words asked
   pub unbegun : IsUnbegun old new before.bytes after.bytes
   pub no_fault : after.faults ≡ before.faults
 

@@ -1,5 +1,5 @@
 -- What a run finds around it, and leaves.
-use Rattle.std.specs.Prelude.{ℕ, List, None}
+use Rattle.std.specs.Prelude.{ℕ, List, Option}
 use Rattle.nx_session.specs.Editor.{FilesState, World, world, new_editor}
 use Rattle.nx_views.specs.States.{ViewState}
 
@@ -12,9 +12,9 @@ pub record Surroundings : Type 0 where
 abbrev pub surroundings : FilesState → List ViewState → ℕ → Surroundings
 surroundings files views steps = record { files = files; views = views; steps = steps }
 
--- a new editor in them, which is given no rules
-abbrev pub begun_in : Surroundings → World
-begun_in old = world (new_editor None) old.files old.views old.steps
+-- a new editor in them, which is given the URI text of rules, or none
+abbrev pub begun_in : Option (List ℕ) → Surroundings → World
+begun_in rules old = world (new_editor rules) old.files old.views old.steps
 
 -- those of an editor's world
 abbrev pub around : World → Surroundings

@@ -1,24 +1,28 @@
-//! A script played line by line.
+//! A script played turn by turn.
 
-ghost use Rattle.std.specs.Prelude.{◌≡◌, ◌||◌, map, if◌then◌else◌};
+ghost use Rattle.std.specs.Prelude.{◌≡◌, ◌||◌, map, option_map, IfOk, if◌then◌else◌};
 ghost use Rattle.nx_script.specs.Replies.{ReplyIsText};
 ghost use Rattle.nx_session.specs.Editor.{files_state, world};
-ghost use Rattle.nx_session.specs.Step.{LineStep};
 ghost use Rattle.nx_session.specs.Viewing.{ViewsAreText};
+ghost use Rattle.nx_words.specs.Call.{call_line};
 ghost use Rattle.nx_run.specs.Output.{out_state};
 ghost use Rattle.nx_run.specs.Surroundings.{surroundings};
-ghost use Rattle.nx_run.specs.Play.{IsPlayOf, wants_memory, is_refusal};
+ghost use Rattle.nx_run.specs.Turns.{turn_of};
+ghost use Rattle.nx_run.specs.Play.{IsPlayOf, TurnStep, wants_memory, is_refusal};
 
 use crate::status::Status;
+use crate::turns::{Turn, Turns};
+use nx_base::memory::NoMemory;
+use nx_base::sequence::Bytes;
 use nx_base::steps::Steps;
 use nx_host::files::Files;
 use nx_host::out::Out;
-use nx_script::line::split_line;
-use nx_script::read::{ScriptFault, read_line};
+use nx_script::read::ScriptFault;
 use nx_script::reply::{Refusal, Reply};
 use nx_script::write::write_reply;
 use nx_session::session::Session;
 use nx_views::view::View;
+use nx_words::call::Call;
 use std::alloc::Global;
 use std::sync::ledger::Ledger;
 
@@ -50,53 +54,66 @@ impl Tally {
     }
 }
 
-/// The editor's answer to a line.
+/// The editor's answer to a turn.
 fn answer<F: Files, L: Ledger>(
     alloc: Global,
     session: &mut Session,
-    line: &str,
+    turn: Turn<'_>,
     files: &mut F,
     views: &mut Vec<Box<dyn View>>,
     steps: &mut Steps<L>,
 ) -> Reply
-    ensures step { LineStep (world session.old (files_state (F.told files.old) (F.faults files.old)) (map (λ b. state b) views.old.items) steps.old) line.now result
+    ensures step { TurnStep (world session.old (files_state (F.told files.old) (F.faults files.old)) (map (λ b. state b) views.old.items) steps.old) (turn_of turn.entry) result
         (world session.new (files_state (F.told files.new) (F.faults files.new)) (map (λ b. state b) views.new.items) steps.new) }
     ensures text { ViewsAreText (map (λ b. state b) views.old.items) → ReplyIsText result }
     ensures views { ViewsAreText (map (λ b. state b) views.old.items) → ViewsAreText (map (λ b. state b) views.new.items) }
 {
-    match read_line(alloc, line) {
+    match turn.command(alloc) {
         Ok(command) => session.apply(&command, files, views, steps),
         Err(ScriptFault::BadCommand) => Reply::Refused(Refusal::BadCommand),
         Err(ScriptFault::NoMemory) => Reply::Refused(Refusal::NoMemory),
     }
 }
 
-/// Plays the script from a new editor, and writes the text of each reply.
+/// A copy of a text, where there is one.
+fn copied(alloc: Global, text: Option<&str>) -> Result<Option<Bytes>, NoMemory>
+    ensures { IfOk result (λ copy. copy ≡ option_map (λ text. text.now) text.entry) }
+{
+    match text {
+        Some(text) => Ok(Some(Bytes::from_vec(Vec::from_slice(alloc, text.as_bytes())?))),
+        None => Ok(None),
+    }
+}
+
+/// Plays the script from a new editor, and writes the text of each reply. The schema that the words name is held before the first
+/// line, as by a line with the number 0; the text of the rules is the editor's.
 pub fn play<F: Files, O: Out, L: Ledger>(
     alloc: Global,
+    call: &Call<'_>,
     script: &str,
     files: &mut F,
     out: &mut O,
     views: &mut Vec<Box<dyn View>>,
     steps: &mut Steps<L>,
 ) -> Status
-    ensures { IsPlayOf script.now (surroundings (files_state (F.told files.old) (F.faults files.old)) (map (λ b. state b) views.old.items) steps.old)
+    ensures { IsPlayOf (call_line call.now) script.now
+        (surroundings (files_state (F.told files.old) (F.faults files.old)) (map (λ b. state b) views.old.items) steps.old)
         (surroundings (files_state (F.told files.new) (F.faults files.new)) (map (λ b. state b) views.new.items) steps.new)
         (out_state (O.told out.old) (O.faults out.old)) (out_state (O.told out.new) (O.faults out.new)) result }
 {
-    let Ok(mut session) = Session::new(alloc, None) else {
+    let Ok(rules) = copied(alloc, call.rules) else {
+        return Status::Memory;
+    };
+    let Ok(mut session) = Session::new(alloc, rules) else {
         return Status::Memory;
     };
     let mut tally = Tally {
         memory: false,
         refusal: false,
     };
-    let mut number: u64 = 0;
-    let mut rest = script;
-    while !rest.is_empty() {
-        let (line, following) = split_line(rest);
-        number += 1;
-        let reply = answer(alloc, &mut session, line, files, views, steps);
+    let mut turns = Turns::new(call.schema, script);
+    while let Some((number, turn)) = turns.take_next() {
+        let reply = answer(alloc, &mut session, turn, files, views, steps);
         tally.note(&reply);
         let written = write_reply(alloc, out, number, &reply);
         drop(reply);
@@ -104,7 +121,6 @@ pub fn play<F: Files, O: Out, L: Ledger>(
             Ok(()) => {}
             Err(fault) => return Status::from(fault),
         }
-        rest = following;
     }
     tally.status()
 }

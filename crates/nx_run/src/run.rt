@@ -10,7 +10,6 @@ ghost use Rattle.nx_run.specs.Script.{refusal_line};
 use crate::play::play;
 use crate::script::{FetchFault, ScriptRefusal, fetch_script};
 use crate::status::Status;
-use crate::words::{USAGE, script_word};
 use nx_base::memory::NoMemory;
 use nx_base::sequence::Bytes;
 use nx_base::steps::Steps;
@@ -18,11 +17,17 @@ use nx_host::files::Files;
 use nx_host::out::Out;
 use nx_host::utf8::text_of;
 use nx_views::view::View;
+use nx_words::call::read_call;
+use nx_words::text::texts_of;
 use std::alloc::Global;
 use std::sync::ledger::Ledger;
 
+/// The line that is written where the words are out of form.
+const USAGE: &str = "usage: nxml [--schema URI] [--rules URI] SCRIPT\n";
+
 /// Runs the script that the words name, and writes what it asks for. The words are those behind the
-/// program's name. Each listing of faults is shown to the views. The steps rise by the tokens that were cut.
+/// program's name, `[--schema URI] [--rules URI] SCRIPT`. Each listing of faults is shown to the views. The
+/// steps rise by the tokens that were cut.
 pub fn run<F: Files, O: Out, L: Ledger>(
     alloc: Global,
     words: &[Bytes],
@@ -36,11 +41,18 @@ pub fn run<F: Files, O: Out, L: Ledger>(
         (surroundings (files_state (F.told files.new) (F.faults files.new)) (map (λ b. state b) views.new.items) steps.new)
         (out_state (O.told out.old) (O.faults out.old)) (out_state (O.told out.new) (O.faults out.new)) result }
 {
-    let Some(word) = script_word(words) else {
-        return write_line(alloc, USAGE, Status::Words, out);
+    let texts = match texts_of(alloc, words) {
+        Ok(Some(texts)) => texts,
+        Ok(None) => return write_line(alloc, USAGE, Status::Words, out),
+        Err(NoMemory) => return Status::Memory,
     };
-    match fetch_script(alloc, word, files) {
-        Ok(script) => play(alloc, text_of(&script), files, out, views, steps),
+    let call = match read_call(alloc, texts.as_slice()) {
+        Ok(Some(call)) => call,
+        Ok(None) => return write_line(alloc, USAGE, Status::Words, out),
+        Err(NoMemory) => return Status::Memory,
+    };
+    match fetch_script(alloc, call.script, files) {
+        Ok(script) => play(alloc, &call, text_of(&script), files, out, views, steps),
         Err(FetchFault::Refused(cause)) => refuse(alloc, cause, out),
         Err(FetchFault::NoMemory) => Status::Memory,
     }

@@ -12,7 +12,7 @@ pub enum Status {
     Done,
     /// The script was read to its end, and some command was refused, none for want of memory.
     Refused,
-    /// The words name no script.
+    /// The words are out of form.
     Words,
     /// The script can't be read.
     Script,

@@ -166,7 +166,7 @@ const ROWS: [Row; 27] = [
 ];
 
 /// The documents beside a script, of which two are no text, and schemas.
-const DOCUMENTS: [(&str, &[u8]); 17] = [
+const DOCUMENTS: [(&str, &[u8]); 25] = [
     ("file:///work/b.xml", b"a\xE2\x82A"),
     ("file:///work/c.xml", b"a\xE2\x82"),
     ("file:///work/d.xml", b"<d/>\n"),
@@ -208,7 +208,38 @@ const DOCUMENTS: [(&str, &[u8]); 17] = [
         b"element b { xsd:boolean \"true\" }",
     ),
     ("file:///work/gone.rnc", b"start = external \"http://[\""),
+    (
+        "file:///work/on.rnc",
+        b"element a { attribute x { \"on\" | \"off\" } }",
+    ),
+    ("file:///work/star.rnc", b"element * { empty }"),
+    (
+        "file:///work/others.rnc",
+        b"namespace n = \"u\"\nelement n:* - n:a { empty }\n",
+    ),
+    (
+        "file:///work/endless.rnc",
+        b"start = element a { b? }\nb = element b { b }\n",
+    ),
+    ("file:///work/r.xml", LOOPING_RULES),
+    ("file:///work/d/schemas.xml", RULES),
+    ("file:///work/d/docbook.rnc", b"element book { empty }"),
+    (
+        "file:///work/d/book.xml",
+        b"<!DOCTYPE book SYSTEM \"book.dtd\" [ <!-- it's > --> ]>\n<book/>\n",
+    ),
 ];
+
+const LOOPING_RULES: &[u8] =
+    b"<locatingRules xmlns=\"http://thaiopensource.com/ns/locating-rules/1.0\"><include rules=\"r.xml\"/></locatingRules>";
+
+const RULES: &[u8] = b"<locatingRules xmlns=\"http://thaiopensource.com/ns/locating-rules/1.0\">\n\
+<transformURI fromPattern=\"*.xml\" toPattern=\"*.rnc\"/>\n\
+<uri pattern=\"*.xsl\" typeId=\"XSLT\"/>\n\
+<namespace ns=\"http://www.w3.org/1999/xhtml\" uri=\"xhtml.rnc\"/>\n\
+<documentElement localName=\"book\" typeId=\"DocBook\"/>\n\
+<typeId id=\"DocBook\" uri=\"docbook.rnc\"/>\n\
+</locatingRules>\n";
 
 const SECTIONS: &[u8] =
     b"start = element doc { attribute id { xsd:NCName }, element title { text }, element para { (text | element em { text })* }* }";
@@ -332,8 +363,8 @@ const VALIDATED: [(&str, &str, Status); 24] = [
     ),
     (
         "schema auto\nschema \"m.rnc\"\ninsert 0 \"<doc id='a'><title/></doc>\"\nerrors\n",
-        "line 1 refused: BadCommand\nerrors: 0\n",
-        Status::Refused,
+        "schema none\nerrors: 0\n",
+        Status::Done,
     ),
 ];
 
@@ -385,6 +416,84 @@ const WALKED: [(&str, &str, Status); 9] = [
         Status::Done,
     ),
 ];
+
+/// Scripts that ask what may stand at places, what they print and how they end.
+const COMPLETED: [(&str, &str, Status); 11] = [
+    (
+        "schema \"s1.rnc\"\ninsert 0 \"<doc id='a'><\"\ncomplete 13\ninsert 12 \"<title/>\"\ncomplete 21\ninsert 21 \"/\"\ncomplete 22\ncomplete 2\n",
+        "offers: 1\nname title\noffers: 1\nname para\noffers: 1\nend doc\noffers: 1\nname doc\n",
+        Status::Done,
+    ),
+    (
+        "schema \"endless.rnc\"\ninsert 0 \"<a><\"\ncomplete 4\ninsert 4 \"/\"\ncomplete 5\n",
+        "offers: 0\noffers: 1\nend a\n",
+        Status::Done,
+    ),
+    (
+        "schema \"s1.rnc\"\ninsert 0 \"<doc \"\ncomplete 5\n",
+        "offers: 1\nname id\n",
+        Status::Done,
+    ),
+    (
+        "schema \"on.rnc\"\ninsert 0 \"<a x='\"\ncomplete 6\n",
+        "offers: 2\nvalue off\nvalue on\n",
+        Status::Done,
+    ),
+    (
+        "schema \"star.rnc\"\ninsert 0 \"<\"\ncomplete 1\n",
+        "offers: 1\nany-else\n",
+        Status::Done,
+    ),
+    (
+        "schema \"others.rnc\"\ninsert 0 \"<\"\ncomplete 1\n",
+        "offers: 1\nany-in u\n",
+        Status::Done,
+    ),
+    (
+        "schema \"s1.rnc\"\ninsert 0 \"<doc id='a'>x\"\ncomplete 13\ncomplete 0\n",
+        "offers: none\noffers: none\n",
+        Status::Done,
+    ),
+    (
+        "insert 0 \"é<\"\ncomplete 3\ncomplete 1\nschema \"s1.rnc\"\ncomplete 4\nschema none\ncomplete 999999999999999999\n",
+        "offers: none\nline 3 refused: BadPosition 1 3\nline 5 refused: BadPosition 4 3\nline 7 refused: BadPosition 999999999999999999 3\n",
+        Status::Refused,
+    ),
+    (
+        "schema \"s1.rnc\"\ninsert 0 \"<doc id='a'><title/><foo><\"\ncomplete 26\ncomplete 21\ncomplete 11\n",
+        "offers: none\noffers: 1\nname para\noffers: none\n",
+        Status::Done,
+    ),
+    (
+        "schema \"xy.rnc\"\ninsert 0 \"<a y='1' \"\ncomplete 9\ncomplete 3\n",
+        "offers: 1\nname x\noffers: 2\nname x\nname y\n",
+        Status::Done,
+    ),
+    (
+        "schema \"b.rnc\"\ninsert 0 \"<a><b/><b/><b/><b/><b/><b/><b/><b/><b/><b/><b/><b/><b/><b/><b/><b/><b/><b/><b/>\
+         <b/><b/><b/><b/><b/><b/><b/><b/><b/><b/><b/><b/><b/><b/><b/><b/><b/><b/><b/></a>\"\ncomplete 157\nerrors\ncomplete 157\ncomplete 156\n\
+         insert 71 \"<!--x-->\"\ncomplete 165\ncomplete 5\ngoto 3\ninsert 3 \"<\"\ncomplete 4\n",
+        "offers: 1\nend a\nerrors: 0\noffers: 1\nend a\noffers: 1\nname b\noffers: 1\nend a\noffers: 1\nname b\noffers: 1\nname b\n",
+        Status::Done,
+    ),
+];
+
+#[test]
+fn places_are_completed(rt: HostRuntime) {
+    for (script, output, status) in &COMPLETED {
+        assert_eq!(rt;
+            played(
+                rt.alloc(),
+                &["run.nxs"],
+                script.as_bytes(),
+                *output,
+                *status
+            ),
+            "as told",
+            "{script:?}"
+        );
+    }
+}
 
 /// The script, and documents beside it.
 fn files_with(alloc: Global, script: &[u8]) -> Result<SureFiles, NoMemory> {
@@ -735,12 +844,92 @@ fn failing_files_are_told(rt: HostRuntime) {
     }
 }
 
+/// Words with options, the script, what is printed and how the run ends.
+const ASKED: [(&[&str], &str, &str, Status); 9] = [
+    (
+        &["--schema=s1.rnc", "run.nxs"],
+        "errors\n",
+        "errors: 1\n0-0 NoRoot\n",
+        Status::Done,
+    ),
+    (
+        &["run.nxs", "--schema", "none.rnc"],
+        "",
+        "line 0 refused: Absent file:///work/none.rnc\n",
+        Status::Refused,
+    ),
+    (
+        &["--rules", "r.xml", "--schema", "s1.rnc", "--", "run.nxs"],
+        "insert 0 \"<foo/>\"\nerrors\nschema none\nerrors\nerase",
+        "errors: 1\n0-6 Unknown foo\nerrors: 0\nline 5 refused: BadCommand\n",
+        Status::Refused,
+    ),
+    (
+        &["run.nxs", "--schema=http://["],
+        "insert 0 \"<foo/>\"\nerrors\nprint 1\n",
+        "line 0 refused: BadUri\nerrors: 0\nline 3 refused: BadCommand\n",
+        Status::Refused,
+    ),
+    (
+        &["--schema=n.rnc", "run.nxs"],
+        "stats\n",
+        "line 0 refused: Unreadable NothingValid\ntaken 0\n",
+        Status::Refused,
+    ),
+    (
+        &["run.nxs", "--rules=http://["],
+        "stats\n",
+        "taken 0\n",
+        Status::Done,
+    ),
+    (
+        &["--rules=http://[", "run.nxs"],
+        "schema auto\n",
+        "line 1 refused: BadUri\n",
+        Status::Refused,
+    ),
+    (
+        &["--rules", "r.xml", "run.nxs"],
+        "schema auto\n",
+        "line 1 refused: BadRules Loop file:///work/r.xml\n",
+        Status::Refused,
+    ),
+    (
+        &["--rules", "d/schemas.xml", "run.nxs"],
+        "open \"d/book.xml\"\nschema auto\nerrors\n",
+        "schema file:///work/d/docbook.rnc\nerrors: 0\n",
+        Status::Done,
+    ),
+];
+
+#[test]
+fn options_are_followed(rt: HostRuntime) {
+    for (texts, script, output, status) in &ASKED {
+        assert_eq!(rt;
+            played(rt.alloc(), *texts, script.as_bytes(), *output, *status),
+            "as told",
+            "{output:?}"
+        );
+    }
+}
+
 /// Words that name no script that can be read, and what is printed. The script that is there is no text.
-const MISNAMED: [(&[&str], &str, Status); 7] = [
+const MISNAMED: [(&[&str], &str, Status); 10] = [
     (&[], USAGE_LINE, Status::Words),
     (&["--help"], USAGE_LINE, Status::Words),
     (&["run.nxs", "more"], USAGE_LINE, Status::Words),
     (&[""], USAGE_LINE, Status::Words),
+    (&["--rules"], USAGE_LINE, Status::Words),
+    (
+        &["--schema", "a", "--schema", "b", "run.nxs"],
+        USAGE_LINE,
+        Status::Words,
+    ),
+    (
+        &["--", "-x.nxs"],
+        "script refused: Absent\n",
+        Status::Script,
+    ),
     (&["none.nxs"], "script refused: Absent\n", Status::Script),
     (&["http://["], "script refused: BadUri\n", Status::Script),
     (&["run.nxs"], "script refused: NotUtf8 3\n", Status::Script),
