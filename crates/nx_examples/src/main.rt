@@ -10,6 +10,7 @@ use nx_base::steps::Steps;
 use nx_host::disk::{DiskFiles, StdOut};
 use nx_run::run::run;
 use nx_run::status::Status;
+use nx_views::pane::{FaultPane, LimitedPane};
 use nx_views::view::View;
 use rng_core::grammar::Grammar;
 use rng_live::prune::prune;
@@ -20,7 +21,10 @@ use std::io;
 use std::marker::Brand;
 use std::sync::ledger::{Blank, Ledger};
 
-/// The scripts, in the folder that the program is called in.
+/// The most faults that the second view takes before it closes, as in `nxml`.
+const MOST_SHOWN: u64 = 1000;
+
+/// The scripts, in the folder that the program is called in. They are called by their names alone.
 const SCRIPTS: [&str; 8] = [
     "examples/first.nxs",
     "examples/manual.nxs",
@@ -31,6 +35,9 @@ const SCRIPTS: [&str; 8] = [
     "examples/configuration-schema.nxs",
     "examples/languages-schema.nxs",
 ];
+
+/// The words of a whole session, in which rules find the schema. The script stands last.
+const SESSION: [&str; 3] = ["--rules", "examples/schemas.xml", "examples/session.nxs"];
 
 /// The schemas, there, too. Each element that is left in a schema has a definition: 12 of manual-inlines.rnc, 12 of
 /// manual-blocks.rnc, each but for the one that is replaced, and 15 of manual.rnc; 10 of config.rnc; 2 of languages.rnc. The
@@ -56,11 +63,9 @@ const SCHEMAS: [&str; 13] = [
 fn main(rt: HostRuntime) -> io::Result<()> {
     for script in &SCRIPTS {
         let script = *script;
-        println!(rt; "== {script}")?;
-        let word = Bytes::from_vec(Vec::from_slice(rt.alloc(), script.as_bytes())?);
-        let code = run_here::<Brand>(&rt, &[word], Blank::new(1)).code();
-        println!(rt; "== status {code}")?;
+        run_script(&rt, script, &[script])?;
     }
+    run_script(&rt, "examples/session.nxs", &SESSION)?;
     for schema in &SCHEMAS {
         let schema = *schema;
         judge_schema(&rt, schema)?;
@@ -68,25 +73,32 @@ fn main(rt: HostRuntime) -> io::Result<()> {
     Ok(())
 }
 
-/// The run over the machine's files and output, as `nxml` runs a script. Its count of tokens is for the proof alone, and takes
-/// nothing.
-fn run_here<L: Ledger>(rt: &HostRuntime, words: &[Bytes], blank: Blank) -> Status
+/// Runs the script as `nxml` would that is called with these words, and prints how it ended.
+fn run_script(rt: &HostRuntime, script: &str, words: &[&str]) -> io::Result<()> {
+    println!(rt; "== {script}")?;
+    let mut given: Vec<Bytes> = Vec::new(rt.alloc());
+    for word in words {
+        given.push(Bytes::from_vec(Vec::from_slice(rt.alloc(), word.as_bytes())?))?;
+    }
+    let code = run_here::<Brand>(rt, given.as_slice(), Blank::new(1))?.code();
+    println!(rt; "== status {code}")
+}
+
+/// The run over the machine's files and output, with the two views of `nxml`. Its count of tokens is for the proof alone, and
+/// takes nothing.
+fn run_here<L: Ledger>(rt: &HostRuntime, words: &[Bytes], blank: Blank) -> io::Result<Status>
     requires name { blank.name ≡ L.name }
     requires parts { blank.parts ≡ L.parts }
     requires some { 0 < L.parts }
 {
     let mut files = DiskFiles::new(rt);
     let mut out = StdOut::new(rt);
-    let mut views: Vec<Box<dyn View>> = Vec::new(rt.alloc());
+    let alloc = rt.alloc();
+    let mut views: Vec<Box<dyn View>> = Vec::new(alloc);
+    views.push(Box::new(alloc, FaultPane::new(alloc))?)?;
+    views.push(Box::new(alloc, LimitedPane::new(alloc, MOST_SHOWN))?)?;
     let mut steps = Steps::<L>::new(blank);
-    run(
-        rt.alloc(),
-        words,
-        &mut files,
-        &mut out,
-        &mut views,
-        &mut steps,
-    )
+    Ok(run(alloc, words, &mut files, &mut out, &mut views, &mut steps))
 }
 
 /// Prints what becomes of the schema.

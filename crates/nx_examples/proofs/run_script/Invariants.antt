@@ -1,4 +1,4 @@
-use Rattle.nx_examples.proofs.main.Given as goal
+use Rattle.nx_examples.proofs.run_script.Given as goal
 
 abbrev pub ghosts-run_here : goal.ghosts-run_here
 ghosts-run_here a = record { name = a.blank.name; parts = a.blank.parts }
