@@ -1,4 +1,4 @@
--- The state at the frontier says whether it is a mark, before an edit.
+-- The state at the frontier says that it is no mark, before an edit.
 use Rattle.std.proofs.Common.{◌≡◌, ℕ, ◌+◌, ◌-◌, ◌<◌, ◌^◌, false, List, ◌∷◌, ◌++◌, subst, arith}
 use Rattle.nx_marks.specs.Chain.{AreWhole, Kept, frontier_of}
 use Rattle.nx_marks.specs.Editing.{edit_kept, edit_noted, noted}

@@ -1,5 +1,6 @@
 -- In no mark a text run is pending.
 use Rattle.std.proofs.Common.{◌≡◌, ◌⊎◌, inl, inr, ℕ, ◌+◌, ◌<◌, ◌-◌, Bool, true, false, ◌||◌, nat_lt, List, [], ◌∷◌, ◌++◌, refl, sym, ap, subst, ◌∙◌, arith}
+use Rattle.std.proofs.lemmas.Bool.{false≢true}
 use Rattle.std.specs.Prelude.{if◌then◌else◌}
 use Rattle.nx_base.specs.Rules.{Rules}
 use Rattle.nx_marks.specs.Chain.{Chain, AreWhole, Kept, all_of, is_mark, reach}
@@ -73,7 +74,7 @@ module _ {S M : Type 0} (means : S → M) (r : Rules M) where
   pends-front is_state t p (x ∷ xs) ys w h g =
       ((λ _. (whole-link means r t p x.whole x (xs ++ ys) w.0 h.1.0).segment.back), pends-front is_state t (p + x.len) xs ys w.1 h.1.1 g)
 
-  -- where the frontier's state says whether it is a mark
-  pub pends-all : (is_state : S → Type 0) (t : List ℕ) (k : Kept S) → IsRight is_state means r t k → k.here.saved ≡ k.marked → NonePends means r (all_of k)
+  -- where the frontier's state says that it is none
+  pub pends-all : (is_state : S → Type 0) (t : List ℕ) (k : Kept S) → IsRight is_state means r t k → k.here.saved ≡ false → NonePends means r (all_of k)
   pends-all is_state t k h e =
-      pends-front is_state t 0 k.front (k.here ∷ k.aside) h.holds.whole h.holds.chain ((λ yes. h.rule.mark (sym e ∙ (sym (or-none k.here.whole k.here.saved h.holds.ends) ∙ yes))), h.rule.saved)
+      pends-front is_state t 0 k.front (k.here ∷ k.aside) h.holds.whole h.holds.chain ((λ yes. absurd (false≢true (sym e ∙ (sym (or-none k.here.whole k.here.saved h.holds.ends) ∙ yes)))), h.rule.saved)

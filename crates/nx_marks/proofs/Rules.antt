@@ -123,7 +123,7 @@ marked-all k marked from to added (x ∷ xs) z zs = split-marked marked _ (kept_
 -- the law of an edit, with the rule of marks
 module _ {S M : Type 0} (is_state : S → Type 0) (means : S → M) (r : Rules M) (laws : RulesLaws r) (t added : List ℕ) (from to : ℕ)
     (utf8 : IsUtf8 t) (added_utf8 : IsUtf8 added) (f : IsPlace t from) (o : IsPlace t to) (le : from ≤ to) where
-  edit_rule : (k : Kept S) → IsRight is_state means r t k → k.here.saved ≡ k.marked → MarkRule means r (edit_noted from to (length added) k)
+  edit_rule : (k : Kept S) → IsRight is_state means r t k → k.here.saved ≡ false → MarkRule means r (edit_noted from to (length added) k)
   edit_rule k h same = by (nat_lt (frontier_of k) from) refl
     where
       pends : (marked : Bool) → NonePends means r (split_all k marked (edit_all from to (length added) (all_of k))).aside
@@ -144,7 +144,7 @@ module _ {S M : Type 0} (is_state : S → Type 0) (means : S → M) (r : Rules M
             saved = pends true;
           })
 
-  noted_right : (k : Kept S) → IsRight is_state means r t k → k.here.saved ≡ k.marked → IsRight is_state means r (edited t from to added) (edit_noted from to (length added) k)
+  noted_right : (k : Kept S) → IsRight is_state means r t k → k.here.saved ≡ false → IsRight is_state means r (edited t from to added) (edit_noted from to (length added) k)
   noted_right k h same = record { holds = edit_holds is_state means r t added from to utf8 added_utf8 f o le k h.holds; rule = edit_rule k h same }
 
   pub edit_right : (k : Kept S) → IsRight is_state means r t k → IsRight is_state means r (edited t from to added) (edit_kept from to (length added) k)

@@ -54,11 +54,11 @@ abbrev pub split_all : {S : Type 0} → Kept S → Bool → List (Mark S) → Ke
 split_all k marked [] = k
 split_all k marked (x ∷ xs) = split marked x xs
 
--- the state at the frontier says whether it is a mark, since it may go aside
+-- the state at the frontier is no mark where it goes aside: a row ends there
 abbrev pub noted : {S : Type 0} → Kept S → Kept S
 noted k = record {
   front = k.front;
-  here = record { state = k.here.state; len = k.here.len; tags = k.here.tags; faults = k.here.faults; whole = k.here.whole; saved = k.marked };
+  here = record { state = k.here.state; len = k.here.len; tags = k.here.tags; faults = k.here.faults; whole = k.here.whole; saved = false };
   marked = k.marked;
   aside = k.aside;
 }

@@ -219,11 +219,11 @@ impl<S: Drop> Kept<S> {
         place
     }
 
-    /// Has the state at the frontier say whether it is a mark, since an edit may put it aside.
+    /// Has the state at the frontier say that it is no mark, since an edit may put it aside, where a row ends with it.
     pub(crate) fn note(&mut self)
         ensures { self.new ≡ noted self.old }
     {
-        self.here.saved = self.marked;
+        self.here.saved = false;
     }
 
     /// What an edit does: the frontier goes back before it, and the marks from there on are dropped or go aside.
