@@ -22,5 +22,5 @@ abbrev pub CompleteStep : ℕ → EditorState → Reply → EditorState → Type
 CompleteStep at old (Offered answer) new = IsPlace old.text at × AreOffersAt (schema_of old) old.text at answer × (new ≡ old)
 CompleteStep at old (Refused (BadPosition wrong len)) new =
     ¬ (IsPlace old.text at) × (wrong ≡ at) × (len ≡ length old.text) × (new ≡ old)
-CompleteStep at old (Refused NoMemory) new = new ≡ old
+CompleteStep at old (Refused NoMemory) new = IsPlace old.text at × (new ≡ old)
 CompleteStep at old reply new = ⊥
