@@ -239,7 +239,7 @@ const RULES: &[u8] = b"<locatingRules xmlns=\"http://thaiopensource.com/ns/locat
 <namespace ns=\"http://www.w3.org/1999/xhtml\" uri=\"xhtml.rnc\"/>\n\
 <documentElement localName=\"book\" typeId=\"DocBook\"/>\n\
 <typeId id=\"DocBook\" uri=\"docbook.rnc\"/>\n\
-</locatingRules>\n";
+</locatingRules>";
 
 const SECTIONS: &[u8] =
     b"start = element doc { attribute id { xsd:NCName }, element title { text }, element para { (text | element em { text })* }* }";
@@ -772,12 +772,19 @@ fn saved_texts_are_there(rt: HostRuntime) -> Result<(), Fail> {
 const INCLUDING: &str =
     "schema \"s1.rnc\"\nschema \"m.rnc\"\ninsert 0 \"<doc id='a'><title>T</title><para>x<em>y</em></para></doc>\"\nerrors\n";
 
-/// What becomes of that script where the call on files with this number fails.
-fn included_failing(alloc: Global, number: u64, output: &str, status: Status) -> &'static str {
+/// What becomes of a run with these words, beside the documents, where the call on files with this number fails.
+fn failing_at(
+    alloc: Global,
+    number: u64,
+    texts: &[&str],
+    script: &str,
+    output: &str,
+    status: Status,
+) -> &'static str {
     let Ok(mut files) = MemFiles::new(alloc, &[number]) else {
         return "no memory";
     };
-    if files.add(SCRIPT, INCLUDING.as_bytes()).is_err() {
+    if files.add(SCRIPT, script.as_bytes()).is_err() {
         return "no memory";
     }
     for (uri, bytes) in &DOCUMENTS {
@@ -786,7 +793,7 @@ fn included_failing(alloc: Global, number: u64, output: &str, status: Status) ->
         }
     }
     let mut out = SureOut::new(alloc);
-    let ended = run_words(alloc, &["run.nxs"], &mut files, &mut out);
+    let ended = run_words(alloc, texts, &mut files, &mut out);
     compared(out.bytes(), ended, output, status)
 }
 
@@ -795,15 +802,84 @@ fn included_failing(alloc: Global, number: u64, output: &str, status: Status) ->
 fn failing_schemas_are_told(rt: HostRuntime) {
     for number in 3..5u64 {
         assert_eq!(rt;
-            included_failing(
+            failing_at(
                 rt.alloc(),
                 number,
+                &["run.nxs"],
+                INCLUDING,
                 "line 2 refused: Failed\nerrors: 0\n",
                 Status::Refused
             ),
             "as told"
         );
     }
+}
+
+const LOCATING: &str = "open \"d/book.xml\"\nschema auto\nerrors\n";
+
+const BY_RULES: [&str; 3] = ["--rules", "d/schemas.xml", "run.nxs"];
+
+/// Each call on files that fails, what is printed and how the run ends: the script, the document and the rules are fetched, a file
+/// beside the document is asked for, and the schema is fetched.
+const UNLOCATED: [(u64, &str, Status); 5] = [
+    (1, "script refused: Failed\n", Status::Script),
+    (
+        2,
+        "line 1 refused: Failed\nschema none\nerrors: 1\n0-0 NoRoot\n",
+        Status::Refused,
+    ),
+    (3, "line 2 refused: Failed\nerrors: 0\n", Status::Refused),
+    (4, "line 2 refused: Failed\nerrors: 0\n", Status::Refused),
+    (5, "line 2 refused: Failed\nerrors: 0\n", Status::Refused),
+];
+
+#[test]
+fn failing_rules_are_told(rt: HostRuntime) {
+    for (number, output, status) in &UNLOCATED {
+        assert_eq!(rt;
+            failing_at(rt.alloc(), *number, &BY_RULES, LOCATING, *output, *status),
+            "as told",
+            "{output:?}"
+        );
+    }
+}
+
+/// What becomes of that script where the rules are these bytes.
+fn located_by(alloc: Global, rules: &[u8]) -> &'static str {
+    let mut files = SureFiles::new(alloc);
+    let added = [
+        (SCRIPT, LOCATING.as_bytes()),
+        ("file:///work/d/book.xml", b"<book/>\n"),
+        ("file:///work/d/schemas.xml", rules),
+    ];
+    for (uri, bytes) in &added {
+        if files.add(*uri, *bytes).is_err() {
+            return "no memory";
+        }
+    }
+    let mut out = SureOut::new(alloc);
+    let ended = run_words(alloc, &BY_RULES, &mut files, &mut out);
+    compared(
+        out.bytes(),
+        ended,
+        "line 2 refused: BadRules Malformed file:///work/d/schemas.xml\nerrors: 0\n",
+        Status::Refused,
+    )
+}
+
+/// Rules that are cut off anywhere are malformed.
+#[test]
+fn rules_that_are_cut_off_are_refused(rt: HostRuntime) -> Result<(), Fail> {
+    let mut front = Vec::new(rt.alloc());
+    for byte in RULES {
+        assert_eq!(rt;
+            located_by(rt.alloc(), front.as_slice()),
+            "as told",
+            "{front:?}"
+        );
+        front.push(*byte)?;
+    }
+    Ok(())
 }
 
 const FILING: &str = "insert 0 \"x\"\nsave \"o.xml\"\nopen \"run.nxs\"\ndelete 1 59\nprint\n";
