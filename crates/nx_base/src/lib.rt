@@ -19,8 +19,6 @@ pub mod offer;
 pub mod printed_name;
 pub mod sequence;
 pub mod steps;
-#[cfg(test)]
-mod tests;
 pub mod token;
 pub mod way;
 

@@ -41,7 +41,8 @@ mutual
     by_empty : {scope : List Binding} {tag : Token} {rest : List Token} {name : Name} {attributes : List trees.Attribute} →
         tag.kind ≡ kinds.Empty → IsLegalTag scope tag name attributes →
         Element scope (tag ∷ rest) rest (record { name = name; attributes = attributes; children = nil })
-    by_tags : {scope : List Binding} {tag end : Token} {inner rest : List Token} {name : Name} {attributes : List trees.Attribute} {children : Children} →
+    by_tags : {scope : List Binding} {tag end : Token} {inner rest : List Token} {name : Name}
+        {attributes : List trees.Attribute} {children : Children} →
         tag.kind ≡ kinds.Start → IsLegalTag scope tag name attributes → Content (in_force scope tag) inner (end ∷ rest) children →
         EndsElement tag end → Element scope (tag ∷ inner) rest (record { name = name; attributes = attributes; children = children })
 

@@ -52,7 +52,8 @@ Answers offered (Some f) answers.Nowhere = ⊥
 Answers offered (Some f) (answers.List offers) = AreOffers (offered f) offers
 
 -- behind these items, by the open elements and the frame there
-pub record AnswersBehind (g : Language) (all : List Item) (offered : List (Open Frame) → Frame → Offer → Type 0) (answer : Offers) : Type 0 where
+pub record AnswersBehind (g : Language) (all : List Item) (offered : List (Open Frame) → Frame → Offer → Type 0)
+    (answer : Offers) : Type 0 where
   pub here : Option Frame
   pub elements : List (Open Frame)
   pub behind : LevelsBehind g (Some (document_frame g)) [] all here elements

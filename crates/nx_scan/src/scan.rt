@@ -245,6 +245,3 @@ pub fn scan_token<L: Ledger>(
         bytes,
     }))
 }
-
-#[cfg(test)]
-mod tests;

@@ -22,7 +22,8 @@ fn feeds_below(feeds: &[usize], at: usize) -> usize
 /// How many of the line feeds are farther from the end than a number of bytes.
 fn feeds_beyond(feeds: &[usize], left: usize) -> usize
     ensures bound { result ≤ length feeds.now }
-    ensures count { (text : List ℕ) (at : ℕ) → feeds.now ≡ feeds_to_end text → at ≤ length text → left ≡ length text - at → result ≡ count_by is_line_feed (take at text) }
+    ensures count { (text : List ℕ) (at : ℕ) → feeds.now ≡ feeds_to_end text → at ≤ length text →
+        left ≡ length text - at → result ≡ count_by is_line_feed (take at text) }
 {
     feeds.partition_point(|feed| *feed > left)
 }

@@ -1,14 +1,14 @@
 //! The lists, and where edits move things: each call once, with memory to be had.
 
-use crate::character::{is_name, is_nc_name};
-use crate::character_code::{char_of_code, code_of_digits};
-use crate::edit::{Edit, moved};
-use crate::equal::Equal;
-use crate::fault::{Fault, Faults, Kind, Span};
-use crate::memory::NoMemory;
-use crate::name::{Name, Names};
-use crate::offer::{Offer, OfferList};
-use crate::sequence::{Bytes, Sequence, TryCopy};
+use nx_base::character::{is_name, is_nc_name};
+use nx_base::character_code::{char_of_code, code_of_digits};
+use nx_base::edit::{Edit, moved};
+use nx_base::equal::Equal;
+use nx_base::fault::{Fault, Faults, Kind, Span};
+use nx_base::memory::NoMemory;
+use nx_base::name::{Name, Names};
+use nx_base::offer::{Offer, OfferList};
+use nx_base::sequence::{Bytes, Sequence, TryCopy};
 use std::alloc::Global;
 use std::test::Fail;
 

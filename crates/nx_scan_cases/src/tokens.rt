@@ -1,11 +1,11 @@
 ghost use Rattle.std.specs.Prelude.{◌≡◌, ◌<◌};
 
-use crate::scan::scan_token;
 use nx_base::steps::Steps;
 use nx_base::token::TokenKind;
 use nx_base::token::TokenKind::{
     Bad, Bom, Cdata, Comment, Decl, Doctype, Empty, End, Pi, Start, Unclosed,
 };
+use nx_scan::scan::scan_token;
 use nx_text::text::Text;
 use std::alloc::Global;
 use std::marker::Brand;

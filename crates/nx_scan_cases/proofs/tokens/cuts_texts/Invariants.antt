@@ -1,4 +1,4 @@
-use Rattle.nx_scan.proofs.scan.tests.cuts_texts.Given as goal
+use Rattle.nx_scan_cases.proofs.tokens.cuts_texts.Given as goal
 
 abbrev pub ghosts-is_cut : goal.ghosts-is_cut
 ghosts-is_cut g a = record { name = a.blank.name; parts = a.blank.parts }
