@@ -40,7 +40,7 @@ fn text_of(bytes: &[u8]) -> &str
 }
 
 /// Whether a text is of a type, and no except takes it away.
-pub(crate) fn is_data(datatype: &Datatype, excepts: &Excepts, text: &str) -> bool
+pub fn is_data(datatype: &Datatype, excepts: &Excepts, text: &str) -> bool
     requires { IsTrue (list_all (is_sound_except datatype.now) excepts.now) }
     ensures { result ≡ strings.is_data datatype.now excepts.now text.now }
 {
@@ -51,7 +51,7 @@ pub(crate) fn is_data(datatype: &Datatype, excepts: &Excepts, text: &str) -> boo
 }
 
 /// Whether a text is of a type and has the value of a literal.
-pub(crate) fn is_value(datatype: &Datatype, wanted: &Bytes, text: &str) -> bool
+pub fn is_value(datatype: &Datatype, wanted: &Bytes, text: &str) -> bool
     requires text { IsTrue (is_utf8 wanted.now) }
     requires accepted { Accepts datatype.now wanted.now }
     ensures { result ≡ strings.is_value datatype.now wanted.now text.now }
@@ -63,7 +63,7 @@ pub(crate) fn is_value(datatype: &Datatype, wanted: &Bytes, text: &str) -> bool
 }
 
 /// Whether a type has a member that no except takes away, and that is one token where one is asked for.
-fn has_member(datatype: &Datatype, excepts: &Excepts, one_token: bool) -> bool
+pub fn has_member(datatype: &Datatype, excepts: &Excepts, one_token: bool) -> bool
     requires few { length excepts.now ≤ most_excepts }
     requires made { IsTrue (is_well_made datatype.now) }
     requires sound { IsTrue (list_all (is_sound_except datatype.now) excepts.now) }
@@ -76,11 +76,7 @@ fn has_member(datatype: &Datatype, excepts: &Excepts, one_token: bool) -> bool
 }
 
 /// Whether a type has such a member that doesn't collapse to nothing.
-pub(crate) fn has_solid(
-    alloc: Global,
-    datatype: &Datatype,
-    excepts: &Excepts,
-) -> Result<bool, NoMemory>
+pub fn has_solid(alloc: Global, datatype: &Datatype, excepts: &Excepts) -> Result<bool, NoMemory>
     requires few { length excepts.now ≤ 128 }
     requires made { IsTrue (is_well_made datatype.now) }
     requires sound { IsTrue (list_all (is_sound_except datatype.now) excepts.now) }
@@ -101,7 +97,7 @@ pub(crate) fn is_solid(datatype: &Datatype, wanted: &Bytes) -> bool
 }
 
 /// Whether some text of one token has the value.
-fn has_one_token(alloc: Global, datatype: &Datatype, wanted: &Bytes) -> Result<bool, NoMemory>
+pub fn has_one_token(alloc: Global, datatype: &Datatype, wanted: &Bytes) -> Result<bool, NoMemory>
     requires { IsTrue (is_utf8 wanted.now) }
     ensures { IfOk result (λ found. found ≡ is_some (one_token_of datatype.now wanted.now)) }
 {

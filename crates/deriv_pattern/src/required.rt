@@ -26,7 +26,7 @@ fn has_others(alloc: Global, class: &NameClass, name: &Name) -> Result<bool, NoM
 
 /// Whether the class has the name, and no other one that an attribute can have.
 #[tactic(auto, using(crate::proofs::Needed::only_told))]
-fn has_only(alloc: Global, class: &NameClass, name: &Name) -> Result<bool, NoMemory>
+pub fn has_only(alloc: Global, class: &NameClass, name: &Name) -> Result<bool, NoMemory>
     ensures { IfOk result (λ found. found ≡ s.has_only (class_of class.now) name.now) }
 {
     if !class.has_attribute(name) {
@@ -72,7 +72,7 @@ pub fn needs(alloc: Global, name: &Name, p: &Pat) -> Result<bool, NoMemory>
 }
 
 /// Adds the names that a class mentions. A choice of very many names nests to the left, so the left side is gone down in a loop.
-fn add_mentioned(names: &mut Names, class: &NameClass) -> Result<(), NoMemory>
+pub fn add_mentioned(names: &mut Names, class: &NameClass) -> Result<(), NoMemory>
     ensures { OnOk result (names.new ≡ names.old ++ names_in (class_of class.now)) }
 {
     let mut left = class;

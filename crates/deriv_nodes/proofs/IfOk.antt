@@ -1,0 +1,6 @@
+-- What is said of a value that is given.
+use Rattle.std.proofs.Common.{Result, Ok, Err, IfOk}
+
+pub if_ok : {T E : Type 0} {P Q : T → Type 0} (r : Result T E) → IfOk r P → ((x : T) → P x → Q x) → IfOk r Q
+if_ok (Ok x) p f = f x p
+if_ok (Err e) p f = tt

@@ -1,0 +1,5 @@
+pub mod Reading
+pub mod Single
+pub mod IfOk
+pub mod Growing
+pub mod Opening

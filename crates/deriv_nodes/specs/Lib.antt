@@ -1,0 +1,7 @@
+pub mod Codes
+pub mod Alike
+pub mod Shapes
+pub mod Numbers
+pub mod Reading
+pub mod Seen
+pub mod Opened

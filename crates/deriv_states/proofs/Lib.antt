@@ -1,0 +1,4 @@
+pub mod Table
+pub mod Alike
+pub mod Places
+pub mod Carried

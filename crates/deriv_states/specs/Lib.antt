@@ -1,0 +1,5 @@
+pub mod Tables
+pub mod Places
+pub mod Parts
+pub mod Codes
+pub mod Steps

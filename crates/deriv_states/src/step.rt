@@ -1,0 +1,98 @@
+//! One step of all ways to go on.
+
+ghost use Rattle.std.specs.Prelude.{◌≡◌, ◌<◌, length, IfOk, []};
+ghost use Rattle.rng_kept.specs.Merging as merging;
+ghost use Rattle.deriv_states.specs.Places.{IsState, IsThere, LaterPlaces, state_in, way_in};
+ghost use Rattle.deriv_states.specs.Steps.{way_step, HasContents};
+
+use crate::branch::{Branch, Row};
+use crate::states::States;
+use nx_base::memory::NoMemory;
+use nx_base::name::Name;
+use rng_core::grammar::Def;
+use std::alloc::Global;
+
+/// What a matcher goes on by.
+#[derive(Clone, Copy)]
+pub enum Step<'a> {
+    /// An element's name; the definitions are those of the schema.
+    Enter(&'a [Def], &'a Name),
+    /// Children that are left out and an element's name.
+    EnterSkip(&'a [Def], &'a Name),
+    /// An attribute: its name and its value.
+    Attribute(&'a Name, &'a str),
+    /// An attribute of the name, whatever its value.
+    AttributeAny(&'a Name),
+    /// The end of a start tag.
+    TagEnd,
+    /// Attributes that are missing and the end of a start tag.
+    TagEndMissing,
+    /// A string.
+    Chars(&'a str),
+    /// Some string that isn't blank.
+    CharsAny,
+    /// An element's end.
+    Leave,
+    /// Children that are left out and an element's end.
+    LeaveSkip,
+}
+
+impl States {
+    /// The ways to go on behind a step from one way.
+    fn ways_from(&mut self, alloc: Global, step: &Step, way: Branch) -> Result<usize, NoMemory>
+        requires way { IsThere self.old way }
+        requires contents { HasContents self.old step.now }
+        ensures later { LaterPlaces self.old self.new }
+        ensures made { IfOk result (IsState self.new (way_step step.now (way_in self.old way))) }
+    {
+        match step {
+            Step::Enter(defs, name) => self.enter_way(alloc, way, defs, name),
+            Step::EnterSkip(defs, name) => self.skip_way(alloc, way, defs, name),
+            Step::Attribute(name, value) => self.attribute_way(alloc, way, name, value),
+            Step::AttributeAny(name) => self.any_value_way(alloc, way, name),
+            Step::TagEnd => self.tag_end_way(alloc, way),
+            Step::TagEndMissing => self.missing_way(alloc, way),
+            Step::Chars(text) => self.chars_way(alloc, way, text),
+            Step::CharsAny => self.any_string_way(alloc, way),
+            Step::Leave => self.leave_way(way),
+            Step::LeaveSkip => self.leave_skip_way(way),
+        }
+    }
+
+    /// The state with what is behind a step from each way of another state.
+    #[tactic(auto, using(crate::proofs::Carried::ways))]
+    fn stepped_onto(
+        &mut self,
+        alloc: Global,
+        step: &Step,
+        done: usize,
+        ways: usize,
+    ) -> Result<usize, NoMemory>
+        requires done { done < length self.old.states }
+        requires ways { ways < length self.old.states }
+        requires contents { HasContents self.old step.now }
+        ensures later { LaterPlaces self.old self.new }
+        ensures made { IfOk result (IsState self.new
+            (merging.stepped (way_step step.now) (state_in self.old.states done) (state_in self.old.states ways))) }
+    {
+        match self.row(ways) {
+            Row::End => Ok(done),
+            Row::Way(one, more) => {
+                let behind = self.ways_from(alloc, step, one)?;
+                let both = self.with_ways(done, behind)?;
+                self.stepped_onto(alloc, step, both, more)
+            }
+        }
+    }
+
+    /// The state behind a step.
+    pub fn stepped(&mut self, alloc: Global, step: &Step, state: usize) -> Result<usize, NoMemory>
+        requires state { state < length self.old.states }
+        requires contents { HasContents self.old step.now }
+        ensures later { LaterPlaces self.old self.new }
+        ensures made { IfOk result (IsState self.new (merging.stepped (way_step step.now) [] (state_in self.old.states state))) }
+    {
+        let end = self.end()?;
+        self.stepped_onto(alloc, step, end, state)
+    }
+}
