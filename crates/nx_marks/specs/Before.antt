@@ -38,7 +38,8 @@ pub record LiesInFront {S : Type 0} (at : ℕ) (front : List (Mark S)) (index pl
   pub next : (later ≡ []) ⊎ (at < place + mark.len)
 
 -- the last mark at or before a place and the frontier, or the start, where the state means what the tokens before it lead to
-pub record IsMarkBefore {S M : Type 0} (is_state : S → Type 0) (means : S → M) (r : Rules M) (t : List ℕ) (at : ℕ) (k : Kept S) (place : ℕ) (state : S) : Type 0 where
+pub record IsMarkBefore {S M : Type 0} (is_state : S → Type 0) (means : S → M) (r : Rules M) (t : List ℕ)
+    (at : ℕ) (k : Kept S) (place : ℕ) (state : S) : Type 0 where
   pub mark : Mark S
   pub last : IsLast at place k mark
   pub same : means state ≡ means mark.state

@@ -15,7 +15,8 @@ FirstMeans means m [] = ⊥
 FirstMeans means m (x ∷ xs) = means x.state ≡ m
 
 -- the segment of a mark at p, whose state means m, is that of these tokens
-pub record Segment {M : Type 0} (r : Rules M) (t : List ℕ) (p : ℕ) (m : M) (len tags : ℕ) (faults : List Fault) (ks : List Lexeme) : Type 0 where
+pub record Segment {M : Type 0} (r : Rules M) (t : List ℕ) (p : ℕ) (m : M)
+    (len tags : ℕ) (faults : List Fault) (ks : List Lexeme) : Type 0 where
   pub back : r.back m ≡ 0
   pub cuts : CutsTo t p ks (p + len)
   pub tags_are : tags ≡ tags_in ks
@@ -25,7 +26,8 @@ pub record Segment {M : Type 0} (r : Rules M) (t : List ℕ) (p : ℕ) (m : M) (
 -- where a mark's segment is whole, it is right, and leads to the next mark
 abbrev pub Link : {S M : Type 0} → (S → M) → Rules M → List ℕ → ℕ → Bool → Mark S → List (Mark S) → Type 0
 Link means r t p false x xs = Unit {0}
-Link means r t p true x xs = (ks : List Lexeme) × (Segment r t p (means x.state) x.len x.tags x.faults ks × FirstMeans means (after_all r (means x.state) ks) xs)
+Link means r t p true x xs = (ks : List Lexeme) × (Segment r t p (means x.state) x.len x.tags x.faults ks
+    × FirstMeans means (after_all r (means x.state) ks) xs)
 
 -- marks, the first of them at p. A row is a run of whole marks and the next one, the state where it ends
 abbrev pub Chain : {S M : Type 0} → (S → Type 0) → (S → M) → Rules M → List ℕ → ℕ → List (Mark S) → Type 0

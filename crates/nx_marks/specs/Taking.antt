@@ -35,7 +35,14 @@ longer x token more = record {
 abbrev pub took : {S M : Type 0} → (S → M) → Rules M → Kept S → List (Mark S) → Mark S → Lexeme → S → Kept S
 took means r k before x token s = record {
   front = before ++ longer x token (placed (x.len - r.back (means k.here.state)) (r.gives (means k.here.state) token)) ∷ [];
-  here = record { state = s; len = k.here.len - length token.bytes; tags = k.here.tags; faults = k.here.faults; whole = k.here.whole; saved = k.here.saved };
+  here = record {
+    state = s;
+    len = k.here.len - length token.bytes;
+    tags = k.here.tags;
+    faults = k.here.faults;
+    whole = k.here.whole;
+    saved = k.here.saved;
+  };
   marked = is_due r (means s) (x.tags + tag_of token.kind);
   aside = k.aside;
 }
@@ -45,7 +52,14 @@ abbrev pub let_go : {S : Type 0} → ℕ → Mark S → List (Mark S) → Bool �
 let_go n here front marked [] = record { front = front; here = record { state = here.state; len = n; tags = here.tags; faults = here.faults; whole = here.whole; saved = here.saved }; marked = marked; aside = [] }
 let_go n here front marked (y ∷ ys) =
     if nat_le n here.len then record { front = front; here = here; marked = marked; aside = y ∷ ys }
-    else let_go n (record { state = here.state; len = here.len + y.len; tags = here.tags; faults = here.faults; whole = here.whole; saved = here.saved }) front marked ys
+    else let_go n (record {
+      state = here.state;
+      len = here.len + y.len;
+      tags = here.tags;
+      faults = here.faults;
+      whole = here.whole;
+      saved = here.saved;
+    }) front marked ys
 
 -- whether the end of a row that is joined is a mark: it was one, or the frontier was, where the row has no segment, or one is due
 abbrev pub marked_behind : {S M : Type 0} → (S → M) → Rules M → Bool → Mark S → List (Mark S) → Bool

@@ -20,6 +20,7 @@ ghost use Rattle.nx_marks.specs.Walking.{StepsBack, StepsOn, DropsNext, DropsBet
 ghost use Rattle.nx_marks.specs.Walking.{GoesBack, GoesOn, ComesBack, Follows, Fits, cut_off};
 
 use crate::mark::Mark;
+use crate::stored::{Stored, copied, step_stored};
 use nx_base::edit::Edit;
 use nx_base::fault::Faults;
 use nx_base::machine::Machine;
@@ -53,7 +54,8 @@ impl<S> Model for Kept<S> {
 
     ghost view = { λ k. record { front = k.front.items; here = k.here; marked = k.marked; aside = reverse k.aside.items } };
 
-    ghost invariant = { λ k. HasRoom (vec_len k.front) (vec_len k.aside) (vec_capacity k.front) (vec_capacity k.aside) × (k.at ≡ reach k.front.items) };
+    ghost invariant = { λ k. HasRoom (vec_len k.front) (vec_len k.aside) (vec_capacity k.front) (vec_capacity k.aside)
+        × (k.at ≡ reach k.front.items) };
 }
 
 /// Drops all faults.
@@ -81,7 +83,7 @@ fn add_faults(faults: &mut Faults, more: &Faults, place: usize) -> Result<(), No
 
 impl<S: Drop> Kept<S> {
     /// Nothing is taken yet.
-    pub(crate) fn start(alloc: Global, state: S) -> Kept<S>
+    pub(crate) fn start(alloc: Global, state: Stored<S>) -> Kept<S>
         ensures { result ≡ started state }
     {
         Kept {
@@ -111,7 +113,7 @@ impl<S: Drop> Kept<S> {
     pub(crate) fn state(&self) -> &S
         ensures { result.now ≡ self.now.here.state }
     {
-        &self.here.state
+        self.here.state.get()
     }
 
     /// Goes one mark back.
@@ -187,7 +189,8 @@ impl<S: Drop> Kept<S> {
     fn cut_off(&mut self, edit: &Edit)
         requires before { (frontier_of self.old < edit.now.from) ⊎ (frontier_of self.old ≡ 0) }
         requires there { (self.old.aside ≡ []) ⊎ (edit.now.from ≤ frontier_of self.old + self.old.here.len) }
-        ensures cut { edit.now.from ≤ edit.now.to → Fits edit.now.from edit.now.to edit.now.added self.old → self.new ≡ cut_off edit.now.from edit.now.to edit.now.added self.old }
+        ensures cut { edit.now.from ≤ edit.now.to → Fits edit.now.from edit.now.to edit.now.added self.old
+            → self.new ≡ cut_off edit.now.from edit.now.to edit.now.added self.old }
         ensures front { self.new.front ≡ self.old.front }
         ensures marked { self.new.marked ≡ self.old.marked }
     {
@@ -229,7 +232,8 @@ impl<S: Drop> Kept<S> {
     /// What an edit does: the frontier goes back before it, and the marks from there on are dropped or go aside.
     pub(crate) fn edit(&mut self, edit: &Edit)
         ensures frontier { FrontierAfterEdit edit.now.from (frontier_of self.old) (frontier_of self.new) }
-        ensures edited { edit.now.from ≤ edit.now.to → Fits edit.now.from edit.now.to edit.now.added self.old → AreWhole self.old.front → self.old.here.whole ≡ false
+        ensures edited { edit.now.from ≤ edit.now.to → Fits edit.now.from edit.now.to edit.now.added self.old
+            → AreWhole self.old.front → self.old.here.whole ≡ false
             → self.new ≡ edit_noted edit.now.from edit.now.to edit.now.added self.old }
     {
         if self.at < edit.from {
@@ -243,7 +247,8 @@ impl<S: Drop> Kept<S> {
     fn edit_behind(&mut self, edit: &Edit)
         requires { frontier_of self.old < edit.now.from }
         ensures frontier { FrontierAfterEdit edit.now.from (frontier_of self.old) (frontier_of self.new) }
-        ensures edited { edit.now.from ≤ edit.now.to → Fits edit.now.from edit.now.to edit.now.added self.old → AreWhole self.old.front → self.old.here.whole ≡ false
+        ensures edited { edit.now.from ≤ edit.now.to → Fits edit.now.from edit.now.to edit.now.added self.old
+            → AreWhole self.old.front → self.old.here.whole ≡ false
             → self.new ≡ edit_noted edit.now.from edit.now.to edit.now.added self.old }
     {
         let len = self.front.len();
@@ -256,7 +261,8 @@ impl<S: Drop> Kept<S> {
     fn edit_at(&mut self, edit: &Edit)
         requires { edit.now.from ≤ frontier_of self.old }
         ensures frontier { FrontierAfterEdit edit.now.from (frontier_of self.old) (frontier_of self.new) }
-        ensures edited { edit.now.from ≤ edit.now.to → Fits edit.now.from edit.now.to edit.now.added self.old → AreWhole self.old.front → self.old.here.whole ≡ false
+        ensures edited { edit.now.from ≤ edit.now.to → Fits edit.now.from edit.now.to edit.now.added self.old
+            → AreWhole self.old.front → self.old.here.whole ≡ false
             → self.new ≡ edit_noted edit.now.from edit.now.to edit.now.added self.old }
     {
         self.go_back(edit.from);
@@ -379,9 +385,10 @@ impl<S: Drop> Kept<S> {
         ensures ok { OnOk result (self.new ≡ begun self.old state) }
         ensures err { OnErr result (self.new ≡ self.old) }
     {
+        let fresh = Stored::new(alloc, state)?;
         self.front.reserve(self.aside.len() + 1)?;
         self.aside.reserve(self.front.len() + 1)?;
-        let mark = mem::replace(&mut self.here.state, state);
+        let mark = mem::replace(&mut self.here.state, fresh);
         self.front.push_reserved(Mark {
             state: mark,
             len: 0,
@@ -401,17 +408,18 @@ pub(crate) fn next_is_same<A: Machine>(machine: &A, kept: &Kept<A::State>) -> bo
     ensures { IsTrue result ↔ FirstMeans (A.means machine.now) (A.means machine.now kept.now.here.state) kept.now.aside }
 {
     match kept.aside.last() {
-        Some(mark) => machine.same(&mark.state, &kept.here.state),
+        Some(mark) => machine.same(mark.state.get(), kept.here.state.get()),
         None => false,
     }
 }
 
 /// Whether a mark is saved behind a token: no text run is pending, and as many tags lie since the last mark as elements are open,
 /// and 16 at the least.
-pub(crate) fn is_due<A: Machine>(machine: &A, state: &A::State, tags: usize) -> bool
+pub(crate) fn is_due<A: Machine>(machine: &A, state: &Stored<A::State>, tags: usize) -> bool
     requires { A.is_state machine.now state.now }
     ensures { result ≡ is_due (A.rules machine.now) (A.means machine.now state.now) tags }
 {
+    let state = state.get();
     machine.may_mark(state) && machine.depth(state).max(16) <= tags
 }
 
@@ -426,7 +434,8 @@ pub(crate) fn begin_here<A: Machine>(
     ensures right { IsRight (A.is_state machine.now) (A.means machine.now) (A.rules machine.now) text.now kept.new }
     ensures unmarked { OnOk result (kept.new.marked ≡ false) }
     ensures frontier { frontier_of kept.new ≡ frontier_of kept.old }
-    ensures near { (n : ℕ) → WillJoin (A.means machine.now) (A.rules machine.now) text.now n kept.old → WillJoin (A.means machine.now) (A.rules machine.now) text.now n kept.new }
+    ensures near { (n : ℕ) → WillJoin (A.means machine.now) (A.rules machine.now) text.now n kept.old
+        → WillJoin (A.means machine.now) (A.rules machine.now) text.now n kept.new }
     ensures gap { kept.new.here.len ≡ kept.old.here.len }
     ensures keeps { KeepsMarks (A.means machine.now) (A.rules machine.now) text.now kept.old kept.new }
 {
@@ -434,7 +443,7 @@ pub(crate) fn begin_here<A: Machine>(
     if !kept.marked {
         return Ok(());
     }
-    let state = machine.copy(alloc, &kept.here.state)?;
+    let state = copied(alloc, machine, &kept.here.state)?;
     kept.begin(alloc, state)?;
     Ok(())
 }
@@ -477,7 +486,13 @@ pub(crate) fn step<A: Machine>(
     };
     // The faults of a segment are counted from its mark.
     token.from = last.len;
-    match machine.step(alloc, &mut kept.here.state, &token, &mut last.faults) {
+    match step_stored(
+        alloc,
+        machine,
+        &mut kept.here.state,
+        &token,
+        &mut last.faults,
+    ) {
         Ok(()) => {
             let len = token.bytes.len();
             last.len += len;

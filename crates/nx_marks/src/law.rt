@@ -31,15 +31,18 @@ pub fn edits_go_back<S>()
 
 /// An edit behind the frontier changes what is aside alone.
 pub fn edits_behind_change_what_is_aside<A: Machine>()
-    ensures { (machine : A) (text : List ℕ) (from to added : ℕ) (kept : Kept A.State) → IsRight (A.is_state machine) (A.means machine) (A.rules machine) text kept
+    ensures { (machine : A) (text : List ℕ) (from to added : ℕ) (kept : Kept A.State)
+        → IsRight (A.is_state machine) (A.means machine) (A.rules machine) text kept
         → frontier_of kept < from → EditBehind from to added kept (edit_kept from to added kept) }
 {}
 
 /// Behind one edit of a text that is read to its end, the row of the first mark behind the edit reaches the new end. So where tokens
 /// lead from the frontier to that mark, and to what its state means, it will be joined.
 pub fn one_edit_keeps_the_row<A: Machine>()
-    ensures { (machine : A) (text added : List ℕ) (from to : ℕ) (kept : Kept A.State) (left : List Lexeme) → IsUtf8 text → IsUtf8 added → IsPlace text from
-        → IsPlace text to → from ≤ to → IsRight (A.is_state machine) (A.means machine) (A.rules machine) text kept → frontier_of kept ≡ length text
+    ensures { (machine : A) (text added : List ℕ) (from to : ℕ) (kept : Kept A.State) (left : List Lexeme) → IsUtf8 text
+        → IsUtf8 added → IsPlace text from
+        → IsPlace text to → from ≤ to → IsRight (A.is_state machine) (A.means machine) (A.rules machine) text kept
+        → frontier_of kept ≡ length text
         → kept.aside ≡ [] → to < length text
         → CutsTo (edited text from to added) (frontier_of (edit_kept from to (length added) kept)) left
         (frontier_of (edit_kept from to (length added) kept) + (edit_kept from to (length added) kept).here.len)

@@ -20,5 +20,6 @@ pub mod law;
 pub mod mark;
 pub mod marks;
 mod rows;
+pub mod stored;
 
 pub use marks::Marks;

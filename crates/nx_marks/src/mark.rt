@@ -3,6 +3,7 @@
 ghost use Rattle.std.specs.Prelude.{◌≡◌};
 ghost use Rattle.nx_marks.specs.Chain.{is_mark};
 
+use crate::stored::Stored;
 use nx_base::fault::Faults;
 
 /// A state at a place, how many bytes on the next one is, and what lies between: where `whole`, the tags and the faults of the
@@ -11,7 +12,7 @@ use nx_base::fault::Faults;
 /// ends was kept without. What is `whole` is a mark.
 #[derive(Drop)]
 pub struct Mark<S> {
-    pub state: S,
+    pub state: Stored<S>,
     pub len: usize,
     pub tags: usize,
     pub faults: Faults,

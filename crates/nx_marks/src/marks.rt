@@ -15,6 +15,7 @@ ghost use Rattle.nx_marks.specs.Walking.{Fits};
 
 use crate::kept::{Kept, begin_here, step};
 use crate::rows::rejoin;
+use crate::stored::{Stored, copied};
 use nx_base::edit::Edit;
 use nx_base::fault::Faults;
 use nx_base::machine::Machine;
@@ -76,7 +77,7 @@ impl<A: Machine> Marks<A> {
         let first = machine.start(alloc)?;
         Ok(Marks {
             alloc,
-            kept: Kept::start(alloc, first),
+            kept: Kept::start(alloc, Stored::new(alloc, first)?),
             taken: 0,
         })
     }
@@ -92,7 +93,8 @@ impl<A: Machine> Marks<A> {
             → IsRight (A.is_state a) (A.means a) (A.rules a) text self.old.kept
             → IsRight (A.is_state a) (A.means a) (A.rules a) (edited text edit.now.from edit.now.to added) self.new.kept }
         ensures frontier { FrontierAfterEdit edit.now.from (frontier_of self.old.kept) (frontier_of self.new.kept) }
-        ensures marks { edit.now.from ≤ edit.now.to → Fits edit.now.from edit.now.to edit.now.added self.old.kept → AreWhole self.old.kept.front
+        ensures marks { edit.now.from ≤ edit.now.to → Fits edit.now.from edit.now.to edit.now.added self.old.kept
+            → AreWhole self.old.kept.front
             → self.old.kept.here.whole ≡ false → self.new.kept ≡ edit_kept edit.now.from edit.now.to edit.now.added self.old.kept }
         ensures taken { self.new.taken ≡ self.old.taken }
     {
@@ -148,7 +150,8 @@ impl<A: Machine> Marks<A> {
         ensures frontier { frontier_of self.old.kept ≤ frontier_of self.new.kept }
         ensures on { OnOk result (MovesOver text.now (frontier_of self.old.kept) self.new.taken (frontier_of self.new.kept)) }
         ensures enough { OnOk result ((self.new.taken ≡ n) ⊎ (frontier_of self.new.kept ≡ length text.now)) }
-        ensures bound { OnOk result ((count : ℕ) → WillJoin (A.means machine.old) (A.rules machine.old) text.now count self.old.kept → self.new.taken ≤ count) }
+        ensures bound { OnOk result ((count : ℕ) → WillJoin (A.means machine.old) (A.rules machine.old) text.now count self.old.kept
+            → self.new.taken ≤ count) }
         ensures settled { OnOk result ((0 < self.new.kept.here.len) ⊎ (self.new.kept.aside ≡ [])) }
         ensures keeps { KeepsMarks (A.means machine.old) (A.rules machine.old) text.now self.old.kept self.new.kept }
     {
@@ -204,11 +207,12 @@ impl<A: Machine> Marks<A> {
     /// The last mark at or before both a place and the frontier, or the start: its byte offset, and a copy of its state.
     pub fn mark_before(&self, machine: &A, at: usize) -> Result<(usize, A::State), NoMemory>
         requires { IsRightForSome (A.is_state machine.now) (A.means machine.now) (A.rules machine.now) self.now.kept }
-        ensures { IfOk result (λ found. (text : List ℕ) → IsUtf8 text → IsRight (A.is_state machine.now) (A.means machine.now) (A.rules machine.now) text self.now.kept
+        ensures { IfOk result (λ found. (text : List ℕ) → IsUtf8 text
+            → IsRight (A.is_state machine.now) (A.means machine.now) (A.rules machine.now) text self.now.kept
             → IsMarkBefore (A.is_state machine.now) (A.means machine.now) (A.rules machine.now) text at self.now.kept found.0 found.1) }
     {
         let (place, mark) = self.kept.mark_before(at);
-        let state = machine.copy(self.alloc, &mark.state)?;
+        let state = copied(self.alloc, machine, &mark.state)?;
         Ok((place, state))
     }
 

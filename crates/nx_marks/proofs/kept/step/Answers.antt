@@ -14,8 +14,8 @@ use Rattle.nx_marks.proofs.Keeping.{keeps_took, keeps_same, standing-same}
 use Rattle.nx_marks.proofs.Walking.{at_last}
 use Rattle.nx_marks.proofs.kept.step.Goals as goal
 
-pub step-requires-clause-state : goal.step-requires-clause-state
-step-requires-clause-state g c =
+pub step_stored-requires-clause-state : goal.step_stored-requires-clause-state
+step_stored-requires-clause-state g c =
     let m = g.A.Machine in
     let a = c.args.machine.now in
     let K : Kept _ = record { front = c.kept.inside.front.items; here = c.kept.inside.here; marked = c.kept.inside.marked; aside = reverse c.kept.inside.aside.items } in
@@ -28,8 +28,8 @@ step-requires-clause-state g c =
     let d = ready (m.is_state a) (m.means a) (m.rules a) c.args.text.now K c.pop.new.self.items c.in-Some.last c.args.token (g.met.A.Machine.rule_laws a) c.len-len.ensures.utf8 right c.in-Some.ensures.items rest is in
     d.own
 
-pub step-requires-clause-place : goal.step-requires-clause-place
-step-requires-clause-place g c =
+pub step_stored-requires-clause-place : goal.step_stored-requires-clause-place
+step_stored-requires-clause-place g c =
     let m = g.A.Machine in
     let a = c.args.machine.now in
     let K : Kept _ = record { front = c.kept.inside.front.items; here = c.kept.inside.here; marked = c.kept.inside.marked; aside = reverse c.kept.inside.aside.items } in
@@ -42,8 +42,8 @@ step-requires-clause-place g c =
     let d = ready (m.is_state a) (m.means a) (m.rules a) c.args.text.now K c.pop.new.self.items c.in-Some.last c.args.token (g.met.A.Machine.rule_laws a) c.len-len.ensures.utf8 right c.in-Some.ensures.items rest is in
     d.back
 
-pub step-requires-clause-room : goal.step-requires-clause-room
-step-requires-clause-room g c =
+pub step_stored-requires-clause-room : goal.step_stored-requires-clause-room
+step_stored-requires-clause-room g c =
     let m = g.A.Machine in
     let a = c.args.machine.now in
     let K : Kept _ = record { front = c.kept.inside.front.items; here = c.kept.inside.here; marked = c.kept.inside.marked; aside = reverse c.kept.inside.aside.items } in
@@ -56,8 +56,8 @@ step-requires-clause-room g c =
     let d = ready (m.is_state a) (m.means a) (m.rules a) c.args.text.now K c.pop.new.self.items c.in-Some.last c.args.token (g.met.A.Machine.rule_laws a) c.len-len.ensures.utf8 right c.in-Some.ensures.items rest is in
     (let n = d.at in let f = d.fits in omega (arith, c.len-len.ensures.bytes))
 
-pub step-requires-clause-text : goal.step-requires-clause-text
-step-requires-clause-text g c =
+pub step_stored-requires-clause-text : goal.step_stored-requires-clause-text
+step_stored-requires-clause-text g c =
     let m = g.A.Machine in
     let a = c.args.machine.now in
     let K : Kept _ = record { front = c.kept.inside.front.items; here = c.kept.inside.here; marked = c.kept.inside.marked; aside = reverse c.kept.inside.aside.items } in
@@ -70,8 +70,8 @@ step-requires-clause-text g c =
     let d = ready (m.is_state a) (m.means a) (m.rules a) c.args.text.now K c.pop.new.self.items c.in-Some.last c.args.token (g.met.A.Machine.rule_laws a) c.len-len.ensures.utf8 right c.in-Some.ensures.items rest is in
     d.utf8
 
-pub step-requires-clause-kind : goal.step-requires-clause-kind
-step-requires-clause-kind g c =
+pub step_stored-requires-clause-kind : goal.step_stored-requires-clause-kind
+step_stored-requires-clause-kind g c =
     let m = g.A.Machine in
     let a = c.args.machine.now in
     let K : Kept _ = record { front = c.kept.inside.front.items; here = c.kept.inside.here; marked = c.kept.inside.marked; aside = reverse c.kept.inside.aside.items } in
@@ -155,17 +155,17 @@ returns-in-Ok-clause-right g c =
     let is : c.args.token ≡ cut c.args.text.now (frontier_of K) = c.requires.token ∙ ap (cut c.args.text.now) (sym at) in
     let far : length c.args.token.bytes ≤ K.here.len = (let e = ap (λ (k : Kept _). k.here.len) c.kept.view_is in omega (arith, e, c.requires.far)) in
     let d = ready (m.is_state a) (m.means a) (m.rules a) c.args.text.now K c.pop.new.self.items c.in-Some.last c.args.token (g.met.A.Machine.rule_laws a) c.len-len.ensures.utf8 right c.in-Some.ensures.items rest is in
-    let b = c.step.new.self in
-    let fs : c.step.new.faults ≡ c.in-Some.last.faults ++ placed (c.in-Some.last.len - (m.rules b).back (m.means b K.here.state)) ((m.rules b).gives (m.means b K.here.state) (lexeme_of c.args.token)) =
-    c.in-Ok.ensures.faults ∙ ap (λ l. c.in-Some.last.faults ++ l) (faults_later m.later m.is_state m.means m.rules g.met.A.Machine.laws g.met.A.Machine.rule_laws a b K c.in-Some.last.len (lexeme_of c.args.token) c.step.ensures.later d.own) in
+    let b = c.step_stored.new.machine in
+    let fs : c.step_stored.new.faults ≡ c.in-Some.last.faults ++ placed (c.in-Some.last.len - (m.rules b).back (m.means b K.here.state)) ((m.rules b).gives (m.means b K.here.state) (lexeme_of c.args.token)) =
+    c.in-Ok.ensures.faults ∙ ap (λ l. c.in-Some.last.faults ++ l) (faults_later m.later m.is_state m.means m.rules g.met.A.Machine.laws g.met.A.Machine.rule_laws a b K c.in-Some.last.len (lexeme_of c.args.token) c.step_stored.ensures.later d.own) in
     let len : c.len-len-in-Ok.result ≡ length c.args.token.bytes = c.len-len-in-Ok.ensures in
     let tags : c.in-Some.last.tags + c.tags_of.result ≡ c.in-Some.last.tags + tag_of c.args.token.kind = ap (λ n. c.in-Some.last.tags + n) c.tags_of.ensures in
-    let took_it = took_is (m.means b) (m.rules b) K c.pop.new.self.items c.in-Some.last (lexeme_of c.args.token) c.step.new.state c.push_reserved.new.self.items (c.in-Some.last.len + c.len-len-in-Ok.result) (c.in-Some.last.tags + c.tags_of.result)
-    (K.here.len - c.len-len-in-Ok.result) c.step.new.faults c.is_due-kept-inside.result c.push_reserved.ensures.items (ap (λ n. c.in-Some.last.len + n) len) tags fs (ap (λ n. K.here.len - n) len) c.is_due-kept-inside.ensures in
+    let took_it = took_is (m.means b) (m.rules b) K c.pop.new.self.items c.in-Some.last (lexeme_of c.args.token) c.step_stored.new.state c.push_reserved.new.self.items (c.in-Some.last.len + c.len-len-in-Ok.result) (c.in-Some.last.tags + c.tags_of.result)
+    (K.here.len - c.len-len-in-Ok.result) c.step_stored.new.faults c.is_due-kept-inside.result c.push_reserved.ensures.items (ap (λ n. c.in-Some.last.len + n) len) tags fs (ap (λ n. K.here.len - n) len) c.is_due-kept-inside.ensures in
     let P : Kept _ → Type 0 = λ k. IsRight (m.is_state b) (m.means b) (m.rules b) c.args.text.now k in
     let unmarked : K.marked ≡ false = ap (λ (k : Kept _). k.marked) c.kept.view_is ∙ c.requires.unmarked in
-    subst P (sym took_it) (stepped_right m.later m.is_state m.means m.rules g.met.A.Machine.laws g.met.A.Machine.rule_laws a b c.args.text.now K c.pop.new.self.items c.in-Some.last c.args.token c.step.new.state c.step.ensures.later c.len-len.ensures.utf8 right rest is
-    c.in-Some.ensures.items unmarked far c.step.ensures.state c.in-Ok.ensures.after)
+    subst P (sym took_it) (stepped_right m.later m.is_state m.means m.rules g.met.A.Machine.laws g.met.A.Machine.rule_laws a b c.args.text.now K c.pop.new.self.items c.in-Some.last c.args.token c.step_stored.new.state c.step_stored.ensures.later c.len-len.ensures.utf8 right rest is
+    c.in-Some.ensures.items unmarked far c.step_stored.ensures.state c.in-Ok.ensures.after)
 
 pub returns-in-Ok-clause-keeps : goal.returns-in-Ok-clause-keeps
 returns-in-Ok-clause-keeps g c =
@@ -179,21 +179,21 @@ returns-in-Ok-clause-keeps g c =
     let is : c.args.token ≡ cut c.args.text.now (frontier_of K) = c.requires.token ∙ ap (cut c.args.text.now) (sym at) in
     let far : length c.args.token.bytes ≤ K.here.len = (let e = ap (λ (k : Kept _). k.here.len) c.kept.view_is in omega (arith, e, c.requires.far)) in
     let d = ready (m.is_state a) (m.means a) (m.rules a) c.args.text.now K c.pop.new.self.items c.in-Some.last c.args.token (g.met.A.Machine.rule_laws a) c.len-len.ensures.utf8 right c.in-Some.ensures.items rest is in
-    let b = c.step.new.self in
-    let fs : c.step.new.faults ≡ c.in-Some.last.faults ++ placed (c.in-Some.last.len - (m.rules b).back (m.means b K.here.state)) ((m.rules b).gives (m.means b K.here.state) (lexeme_of c.args.token)) =
-    c.in-Ok.ensures.faults ∙ ap (λ l. c.in-Some.last.faults ++ l) (faults_later m.later m.is_state m.means m.rules g.met.A.Machine.laws g.met.A.Machine.rule_laws a b K c.in-Some.last.len (lexeme_of c.args.token) c.step.ensures.later d.own) in
+    let b = c.step_stored.new.machine in
+    let fs : c.step_stored.new.faults ≡ c.in-Some.last.faults ++ placed (c.in-Some.last.len - (m.rules b).back (m.means b K.here.state)) ((m.rules b).gives (m.means b K.here.state) (lexeme_of c.args.token)) =
+    c.in-Ok.ensures.faults ∙ ap (λ l. c.in-Some.last.faults ++ l) (faults_later m.later m.is_state m.means m.rules g.met.A.Machine.laws g.met.A.Machine.rule_laws a b K c.in-Some.last.len (lexeme_of c.args.token) c.step_stored.ensures.later d.own) in
     let len : c.len-len-in-Ok.result ≡ length c.args.token.bytes = c.len-len-in-Ok.ensures in
     let tags : c.in-Some.last.tags + c.tags_of.result ≡ c.in-Some.last.tags + tag_of c.args.token.kind = ap (λ n. c.in-Some.last.tags + n) c.tags_of.ensures in
-    let took_it = took_is (m.means b) (m.rules b) K c.pop.new.self.items c.in-Some.last (lexeme_of c.args.token) c.step.new.state c.push_reserved.new.self.items (c.in-Some.last.len + c.len-len-in-Ok.result) (c.in-Some.last.tags + c.tags_of.result)
-    (K.here.len - c.len-len-in-Ok.result) c.step.new.faults c.is_due-kept-inside.result c.push_reserved.ensures.items (ap (λ n. c.in-Some.last.len + n) len) tags fs (ap (λ n. K.here.len - n) len) c.is_due-kept-inside.ensures in
+    let took_it = took_is (m.means b) (m.rules b) K c.pop.new.self.items c.in-Some.last (lexeme_of c.args.token) c.step_stored.new.state c.push_reserved.new.self.items (c.in-Some.last.len + c.len-len-in-Ok.result) (c.in-Some.last.tags + c.tags_of.result)
+    (K.here.len - c.len-len-in-Ok.result) c.step_stored.new.faults c.is_due-kept-inside.result c.push_reserved.ensures.items (ap (λ n. c.in-Some.last.len + n) len) tags fs (ap (λ n. K.here.len - n) len) c.is_due-kept-inside.ensures in
     let P : Kept _ → Type 0 = λ k. KeepsMarks (m.means a) (m.rules a) c.args.text.now K k in
-    let Q : Rules _ → Type 0 = λ r. KeepsMarks (m.means a) r c.args.text.now K (took (m.means b) (m.rules b) K c.pop.new.self.items c.in-Some.last (lexeme_of c.args.token) c.step.new.state) in
-    let O : Kept _ → Type 0 = λ k. KeepsMarks (m.means a) (m.rules a) c.args.text.now k (record { front = c.push_reserved.new.self.items; here = record { state = c.step.new.state; len = K.here.len - c.len-len-in-Ok.result; tags = K.here.tags; faults = K.here.faults; whole = K.here.whole; saved = K.here.saved }; marked = c.is_due-kept-inside.result; aside = K.aside }) in
+    let Q : Rules _ → Type 0 = λ r. KeepsMarks (m.means a) r c.args.text.now K (took (m.means b) (m.rules b) K c.pop.new.self.items c.in-Some.last (lexeme_of c.args.token) c.step_stored.new.state) in
+    let O : Kept _ → Type 0 = λ k. KeepsMarks (m.means a) (m.rules a) c.args.text.now k (record { front = c.push_reserved.new.self.items; here = record { state = c.step_stored.new.state; len = K.here.len - c.len-len-in-Ok.result; tags = K.here.tags; faults = K.here.faults; whole = K.here.whole; saved = K.here.saved }; marked = c.is_due-kept-inside.result; aside = K.aside }) in
     let unmarked : K.marked ≡ false = ap (λ (k : Kept _). k.marked) c.kept.view_is ∙ c.requires.unmarked in
-    let done = (stepped_right m.later m.is_state m.means m.rules g.met.A.Machine.laws g.met.A.Machine.rule_laws a b c.args.text.now K c.pop.new.self.items c.in-Some.last c.args.token c.step.new.state c.step.ensures.later c.len-len.ensures.utf8 right rest is
-    c.in-Some.ensures.items unmarked far c.step.ensures.state c.in-Ok.ensures.after) in
-    let kept = keeps_took (m.is_state b) (m.means b) (m.rules b) c.args.text.now (g.met.A.Machine.rule_laws b) (m.means a) K c.pop.new.self.items c.in-Some.last (lexeme_of c.args.token) c.step.new.state c.in-Some.ensures.items unmarked far done in
-    subst O c.kept.view_is (subst P (sym took_it) (subst Q (g.met.A.Machine.laws.rule a b c.step.ensures.later) kept))
+    let done = (stepped_right m.later m.is_state m.means m.rules g.met.A.Machine.laws g.met.A.Machine.rule_laws a b c.args.text.now K c.pop.new.self.items c.in-Some.last c.args.token c.step_stored.new.state c.step_stored.ensures.later c.len-len.ensures.utf8 right rest is
+    c.in-Some.ensures.items unmarked far c.step_stored.ensures.state c.in-Ok.ensures.after) in
+    let kept = keeps_took (m.is_state b) (m.means b) (m.rules b) c.args.text.now (g.met.A.Machine.rule_laws b) (m.means a) K c.pop.new.self.items c.in-Some.last (lexeme_of c.args.token) c.step_stored.new.state c.in-Some.ensures.items unmarked far done in
+    subst O c.kept.view_is (subst P (sym took_it) (subst Q (g.met.A.Machine.laws.rule a b c.step_stored.ensures.later) kept))
 
 pub returns-in-Ok-clause-on : goal.returns-in-Ok-clause-on
 returns-in-Ok-clause-on g c =
@@ -221,19 +221,19 @@ returns-in-Ok-clause-near g c =
     let is : c.args.token ≡ cut c.args.text.now (frontier_of K) = c.requires.token ∙ ap (cut c.args.text.now) (sym at) in
     let far : length c.args.token.bytes ≤ K.here.len = (let e = ap (λ (k : Kept _). k.here.len) c.kept.view_is in omega (arith, e, c.requires.far)) in
     let d = ready (m.is_state a) (m.means a) (m.rules a) c.args.text.now K c.pop.new.self.items c.in-Some.last c.args.token (g.met.A.Machine.rule_laws a) c.len-len.ensures.utf8 right c.in-Some.ensures.items rest is in
-    let b = c.step.new.self in
-    let fs : c.step.new.faults ≡ c.in-Some.last.faults ++ placed (c.in-Some.last.len - (m.rules b).back (m.means b K.here.state)) ((m.rules b).gives (m.means b K.here.state) (lexeme_of c.args.token)) =
-    c.in-Ok.ensures.faults ∙ ap (λ l. c.in-Some.last.faults ++ l) (faults_later m.later m.is_state m.means m.rules g.met.A.Machine.laws g.met.A.Machine.rule_laws a b K c.in-Some.last.len (lexeme_of c.args.token) c.step.ensures.later d.own) in
+    let b = c.step_stored.new.machine in
+    let fs : c.step_stored.new.faults ≡ c.in-Some.last.faults ++ placed (c.in-Some.last.len - (m.rules b).back (m.means b K.here.state)) ((m.rules b).gives (m.means b K.here.state) (lexeme_of c.args.token)) =
+    c.in-Ok.ensures.faults ∙ ap (λ l. c.in-Some.last.faults ++ l) (faults_later m.later m.is_state m.means m.rules g.met.A.Machine.laws g.met.A.Machine.rule_laws a b K c.in-Some.last.len (lexeme_of c.args.token) c.step_stored.ensures.later d.own) in
     let len : c.len-len-in-Ok.result ≡ length c.args.token.bytes = c.len-len-in-Ok.ensures in
     let tags : c.in-Some.last.tags + c.tags_of.result ≡ c.in-Some.last.tags + tag_of c.args.token.kind = ap (λ n. c.in-Some.last.tags + n) c.tags_of.ensures in
-    let took_it = took_is (m.means b) (m.rules b) K c.pop.new.self.items c.in-Some.last (lexeme_of c.args.token) c.step.new.state c.push_reserved.new.self.items (c.in-Some.last.len + c.len-len-in-Ok.result) (c.in-Some.last.tags + c.tags_of.result)
-    (K.here.len - c.len-len-in-Ok.result) c.step.new.faults c.is_due-kept-inside.result c.push_reserved.ensures.items (ap (λ n. c.in-Some.last.len + n) len) tags fs (ap (λ n. K.here.len - n) len) c.is_due-kept-inside.ensures in
+    let took_it = took_is (m.means b) (m.rules b) K c.pop.new.self.items c.in-Some.last (lexeme_of c.args.token) c.step_stored.new.state c.push_reserved.new.self.items (c.in-Some.last.len + c.len-len-in-Ok.result) (c.in-Some.last.tags + c.tags_of.result)
+    (K.here.len - c.len-len-in-Ok.result) c.step_stored.new.faults c.is_due-kept-inside.result c.push_reserved.ensures.items (ap (λ n. c.in-Some.last.len + n) len) tags fs (ap (λ n. K.here.len - n) len) c.is_due-kept-inside.ensures in
     λ n w some.
     (let P : Kept _ → Type 0 = λ k. (0 < n) × WillJoin (m.means b) (m.rules b) c.args.text.now (n - 1) k in
     let W : Kept _ → Type 0 = λ k. WillJoin (m.means a) (m.rules a) c.args.text.now n k in
     let gap : 0 < K.here.len = (let e = ap (λ (k : Kept _). k.here.len) c.kept.view_is in omega (arith, e, some)) in
-    subst P (sym took_it) (stepped_near m.later m.is_state m.means m.rules g.met.A.Machine.laws g.met.A.Machine.rule_laws a b c.args.text.now K c.pop.new.self.items c.in-Some.last c.args.token c.step.new.state n c.step.ensures.later right is
-    c.in-Some.ensures.items c.step.ensures.state c.in-Ok.ensures.after gap (subst W (sym c.kept.view_is) w)))
+    subst P (sym took_it) (stepped_near m.later m.is_state m.means m.rules g.met.A.Machine.laws g.met.A.Machine.rule_laws a b c.args.text.now K c.pop.new.self.items c.in-Some.last c.args.token c.step_stored.new.state n c.step_stored.ensures.later right is
+    c.in-Some.ensures.items c.step_stored.ensures.state c.in-Ok.ensures.after gap (subst W (sym c.kept.view_is) w)))
 
 pub returns-clause-right : goal.returns-clause-right
 returns-clause-right g c =
@@ -247,11 +247,11 @@ returns-clause-right g c =
     let is : c.args.token ≡ cut c.args.text.now (frontier_of K) = c.requires.token ∙ ap (cut c.args.text.now) (sym at) in
     let far : length c.args.token.bytes ≤ K.here.len = (let e = ap (λ (k : Kept _). k.here.len) c.kept.view_is in omega (arith, e, c.requires.far)) in
     let d = ready (m.is_state a) (m.means a) (m.rules a) c.args.text.now K c.pop.new.self.items c.in-Some.last c.args.token (g.met.A.Machine.rule_laws a) c.len-len.ensures.utf8 right c.in-Some.ensures.items rest is in
-    let b = c.step.new.self in
+    let b = c.step_stored.new.machine in
     let same : c.push_reserved-in-Err.new.self.items ≡ K.front =
     c.push_reserved-in-Err.ensures.items ∙ ap (λ fs. c.pop.new.self.items ++ record { state = c.in-Some.last.state; len = c.in-Some.last.len; tags = c.in-Some.last.tags; faults = fs; whole = c.in-Some.last.whole; saved = c.in-Some.last.saved } ∷ []) c.in-Err.ensures.no_faults ∙ sym c.in-Some.ensures.items in
-    let P : List (Mark _) → Type 0 = λ l. IsRight (m.is_state b) (m.means b) (m.rules b) c.args.text.now (record { front = l; here = record { state = c.step.new.state; len = K.here.len; tags = K.here.tags; faults = K.here.faults; whole = K.here.whole; saved = K.here.saved }; marked = K.marked; aside = K.aside }) in
-    subst P (sym same) (refused_right m.later m.is_state m.means m.rules g.met.A.Machine.laws g.met.A.Machine.rule_laws a b c.args.text.now K c.step.new.state c.step.ensures.later right c.step.ensures.state c.in-Err.ensures.unchanged)
+    let P : List (Mark _) → Type 0 = λ l. IsRight (m.is_state b) (m.means b) (m.rules b) c.args.text.now (record { front = l; here = record { state = c.step_stored.new.state; len = K.here.len; tags = K.here.tags; faults = K.here.faults; whole = K.here.whole; saved = K.here.saved }; marked = K.marked; aside = K.aside }) in
+    subst P (sym same) (refused_right m.later m.is_state m.means m.rules g.met.A.Machine.laws g.met.A.Machine.rule_laws a b c.args.text.now K c.step_stored.new.state c.step_stored.ensures.later right c.step_stored.ensures.state c.in-Err.ensures.unchanged)
 
 pub returns-clause-keeps : goal.returns-clause-keeps
 returns-clause-keeps g c =
@@ -260,7 +260,7 @@ returns-clause-keeps g c =
     let K : Kept _ = record { front = c.kept.inside.front.items; here = c.kept.inside.here; marked = c.kept.inside.marked; aside = reverse c.kept.inside.aside.items } in
     let same : c.push_reserved-in-Err.new.self.items ≡ K.front =
     c.push_reserved-in-Err.ensures.items ∙ ap (λ fs. c.pop.new.self.items ++ record { state = c.in-Some.last.state; len = c.in-Some.last.len; tags = c.in-Some.last.tags; faults = fs; whole = c.in-Some.last.whole; saved = c.in-Some.last.saved } ∷ []) c.in-Err.ensures.no_faults ∙ sym c.in-Some.ensures.items in
-    let J : Kept _ = record { front = K.front; here = record { state = c.step.new.state; len = K.here.len; tags = K.here.tags; faults = K.here.faults; whole = K.here.whole; saved = K.here.saved }; marked = K.marked; aside = K.aside } in
-    let P : List (Mark _) → Type 0 = λ l. KeepsMarks (m.means a) (m.rules a) c.args.text.now K (record { front = l; here = record { state = c.step.new.state; len = K.here.len; tags = K.here.tags; faults = K.here.faults; whole = K.here.whole; saved = K.here.saved }; marked = K.marked; aside = K.aside }) in
-    let O : Kept _ → Type 0 = λ k. KeepsMarks (m.means a) (m.rules a) c.args.text.now k (record { front = c.push_reserved-in-Err.new.self.items; here = record { state = c.step.new.state; len = K.here.len; tags = K.here.tags; faults = K.here.faults; whole = K.here.whole; saved = K.here.saved }; marked = K.marked; aside = K.aside }) in
+    let J : Kept _ = record { front = K.front; here = record { state = c.step_stored.new.state; len = K.here.len; tags = K.here.tags; faults = K.here.faults; whole = K.here.whole; saved = K.here.saved }; marked = K.marked; aside = K.aside } in
+    let P : List (Mark _) → Type 0 = λ l. KeepsMarks (m.means a) (m.rules a) c.args.text.now K (record { front = l; here = record { state = c.step_stored.new.state; len = K.here.len; tags = K.here.tags; faults = K.here.faults; whole = K.here.whole; saved = K.here.saved }; marked = K.marked; aside = K.aside }) in
+    let O : Kept _ → Type 0 = λ k. KeepsMarks (m.means a) (m.rules a) c.args.text.now k (record { front = c.push_reserved-in-Err.new.self.items; here = record { state = c.step_stored.new.state; len = K.here.len; tags = K.here.tags; faults = K.here.faults; whole = K.here.whole; saved = K.here.saved }; marked = K.marked; aside = K.aside }) in
     subst O c.kept.view_is (subst P (sym same) (keeps_same (m.means a) (m.rules a) c.args.text.now K J (standing-same K J refl refl) refl refl))
