@@ -17,7 +17,7 @@ use Rattle.rng_simplify.specs.Composed as composed
 use Rattle.rng_simplify.specs.Denoting.{IsCell, Denotes, DenoteAll, composed_by, is_element, is_attribute, is_list, is_ref, is_parent_ref, is_empty, is_text, is_not_allowed, is_value, is_type, is_grammar, is_one_or_more, is_joined, none_denoted, next_denoted}
 use Rattle.rng_simplify.specs.Places.{Place, parts, IsIn, a_part as part_in, a_content as content_in, a_definition as definition_in, Occurs, the_whole, further_in}
 use Rattle.rng_simplify.specs.Standing.{bodies_of, inner_nodes, AreWellFormed, Stands, the_root, IsStanding}
-use Rattle.rng_simplify.specs.Resolving.{IsResolved, link_at}
+use Rattle.rng_simplify.specs.Resolving.{IsResolved, number_at}
 use Rattle.rng_simplify.proofs.Nodes.{in_none, in_first, in_more, in_cases, in_one, denoted_by, place_of}
 use Rattle.rng_simplify.proofs.Posts.{stands_in}
 use Rattle.rng_simplify.proofs.WalkTurns.{distinct_by_place}
@@ -307,25 +307,25 @@ occurring_numbers n (further_in occurs within) among = occurring_numbers n occur
 
 -- ---- the numbers of a schema
 
-module _ (cells : List Cell) (root : ℕ) (found : Resolved) (whole : Composed) (formed : AreWellFormed cells root) (resolved : IsResolved cells root found) (denotes : Denotes cells (link_at found) root whole) where
-  numbered_node : (j : ℕ) → IsStanding cells root j → IsElementThere cells j → slice_get found.elements.items (link_at found j) ≡ Some j
+module _ (cells : List Cell) (root : ℕ) (found : Resolved) (whole : Composed) (formed : AreWellFormed cells root) (resolved : IsResolved cells root found) (denotes : Denotes cells (number_at found) root whole) where
+  numbered_node : (j : ℕ) → IsStanding cells root j → IsElementThere cells j → slice_get found.elements.items (number_at found j) ≡ Some j
   numbered_node j standing h = resolved.numbered j h.class h.part standing h.is_element
 
   -- what has a number, by its place among the numbers
   pub record IsNumberOf (nodes : List ℕ) (k n : ℕ) : Type 0 where
     pub node : ℕ
     pub there : slice_get nodes k ≡ Some node
-    pub number_is : link_at found node ≡ n
+    pub number_is : number_at found node ≡ n
 
-  number_of : (nodes : List ℕ) (k n : ℕ) (node : Option ℕ) → slice_get nodes k ≡ node → option_map (link_at found) node ≡ Some n → IsNumberOf nodes k n
-  number_of nodes k n (Some node) at is = record { node = node; there = at; number_is = same_Some (link_at found node) n is }
+  number_of : (nodes : List ℕ) (k n : ℕ) (node : Option ℕ) → slice_get nodes k ≡ node → option_map (number_at found) node ≡ Some n → IsNumberOf nodes k n
+  number_of nodes k n (Some node) at is = record { node = node; there = at; number_is = same_Some (number_at found node) n is }
   number_of nodes k n None at is = absurd (none-some n is)
 
-  number_at : (h : HasElements cells (link_at found) (root ∷ []) (numbers whole)) (k n : ℕ) → slice_get (numbers whole) k ≡ Some n → IsNumberOf h.nodes k n
-  number_at h k n at =
-      number_of h.nodes k n (slice_get h.nodes k) refl (sym (slice_get-map (link_at found) h.nodes k) ∙ sym (ap (λ ns. slice_get ns k) h.numbers_are) ∙ at)
+  number_there : (h : HasElements cells (number_at found) (root ∷ []) (numbers whole)) (k n : ℕ) → slice_get (numbers whole) k ≡ Some n → IsNumberOf h.nodes k n
+  number_there h k n at =
+      number_of h.nodes k n (slice_get h.nodes k) refl (sym (slice_get-map (number_at found) h.nodes k) ∙ sym (ap (λ ns. slice_get ns k) h.numbers_are) ∙ at)
 
-  node_there : (h : HasElements cells (link_at found) (root ∷ []) (numbers whole)) (k n : ℕ) → (is : IsNumberOf h.nodes k n) → slice_get found.elements.items n ≡ Some is.node
+  node_there : (h : HasElements cells (number_at found) (root ∷ []) (numbers whole)) (k n : ℕ) → (is : IsNumberOf h.nodes k n) → slice_get found.elements.items n ≡ Some is.node
   node_there h k n is =
       let among = in_by_place h.nodes k is.node is.there in
       let standing = under_stands formed the_root (under_one is.node (h.placed is.node among)) in
@@ -336,8 +336,8 @@ module _ (cells : List Cell) (root : ℕ) (found : Resolved) (whole : Composed) 
   numbers_distinct =
       let h = elements_of formed denotes in
       distinct_by_place (numbers whole) (λ k m n at again.
-      let one = number_at h k n at in
-      let other = number_at h m n again in
+      let one = number_there h k n at in
+      let other = number_there h m n again in
       let same : one.node ≡ other.node = same_Some one.node other.node (sym (node_there h k n one) ∙ node_there h m n other) in
       h.once.once k m other.node (subst (λ j. slice_get h.nodes k ≡ Some j) same one.there) other.there)
 
@@ -347,7 +347,7 @@ module _ (cells : List Cell) (root : ℕ) (found : Resolved) (whole : Composed) 
     λ among.
         let h = elements_of formed denotes in
         let at = place_in (numbers whole) n among in
-        let is = number_at h at.0 n at.1 in
+        let is = number_there h at.0 n at.1 in
         slice_get_within found.elements.items n is.node (node_there h at.0 n is),
     λ lt.
         let node = get_or found.elements.items n 0 in

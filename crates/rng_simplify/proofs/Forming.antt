@@ -25,7 +25,9 @@ use Rattle.rng_simplify.specs.Denoting.{IsCell}
 use Rattle.rng_simplify.specs.Forms.{Form, Value, list_of, attribute_of, one_or_more_of, join_of}
 use Rattle.rng_simplify.specs.Forms as form
 use Rattle.rng_simplify.specs.Forming.{cell_form, bodies_form, combined_form, form_in, form_of, IsKnown, IsBefore, IsInOrder, AreFormed, IsNumberedBelow, IsCellMade, MakesCell, IsCombinedMade, MakesCombined, AreAllJoined, JoinsAll, Makes, IsPlaced}
-use Rattle.rng_simplify.specs.Resolving.{cell_leads, combined_leads, leads_if, leads, link_at}
+use Rattle.rng_simplify.specs.declared.resolve.Target.{Target}
+use Rattle.rng_simplify.specs.declared.resolve.Target.TheVariants.{Nothing}
+use Rattle.rng_simplify.specs.Resolving.{combined_number, element_number, target_at, number_at, cell_leads, combined_leads, leads_if, leads, link_at}
 use Rattle.rng_simplify.specs.Shown.{value_in, type_in, params_in, class_in, joined_of, form_by, form_at, IsBehindParts, shape_parts, IsOfSchema, IsShown, Shows, Adds}
 use Rattle.rng_simplify.proofs.Nodes.{in_none, in_first, in_more}
 use Rattle.rng_simplify.proofs.Showing.{shows_still, shows_last, before_or_last}
@@ -38,7 +40,7 @@ no_parts n s none = record { below = λ part within. let P : List ℕ → Type 0
 -- ---- a node by its cell
 
 -- what holds of a cell holds of a node's
-pub of_node : (old new : List Shape) (of : List ℕ) (count i link : ℕ) (n m : Node) (result : Result ℕ SchemaFault) → n ≡ m → MakesCell old new of count i link (cell_of m) result → MakesCell old new of count i link (cell_of n) result
+pub of_node : (old new : List Shape) (of : List ℕ) (count i : ℕ) (link : Target) (n m : Node) (result : Result ℕ SchemaFault) → n ≡ m → MakesCell old new of count i link (cell_of m) result → MakesCell old new of count i link (cell_of n) result
 of_node old new of count i link n m result is made =
     let P : Node → Type 0 = λ k. MakesCell old new of count i link (cell_of k) result in
     subst P (sym is) made
@@ -49,7 +51,7 @@ lead_known shapes of count link j n m is known within =
     let P : Node → Type 0 = λ k. Contains (cell_leads count link (cell_of k)) j in
     known j (subst P (sym is) within)
 
-module _ (old new : List Shape) (of : List ℕ) (count i link : ℕ) (c : Cell) where
+module _ (old new : List Shape) (of : List ℕ) (count i : ℕ) (link : Target) (c : Cell) where
   -- a shape that is put behind the others
   pub cell_added : (s : Shape) (result : Result ℕ SchemaFault) → ((cells : List Cell) (taken : ℕ → List Value) → IsCell cells i c → form_by cells taken (form_at cells taken old) s ≡ cell_form (form_in cells taken old of) count link (taken i) c) → ((cells : List Cell) (elements : ℕ) → IsCell cells i c → IsNumberedBelow elements link c → IsOfSchema cells elements s) → Adds old new s result → MakesCell old new of count i link c result
   cell_added s (Ok number) is of_schema added =
@@ -97,7 +99,7 @@ module _ (old new : List Shape) (of : List ℕ) (count i link : ℕ) (c : Cell) 
   cell_shown own made (Err (fault.Unreadable why)) is of_schema shown = shown
 
 -- the shape of combined definitions is a node's
-pub cell_linked : (old : List Shape) (of : List ℕ) (count i link : ℕ) (c : Cell) (number : ℕ) → ((at : ℕ → Form) (values : List Value) → cell_form at count link values c ≡ at (count + link)) → IsKnown old of (count + link) → number ≡ slice_index of (count + link) → IsCellMade old old of count i link c number
+pub cell_linked : (old : List Shape) (of : List ℕ) (count i : ℕ) (link : Target) (c : Cell) (number : ℕ) → ((at : ℕ → Form) (values : List Value) → cell_form at count link values c ≡ at (count + combined_number link)) → IsKnown old of (count + combined_number link) → number ≡ slice_index of (count + combined_number link) → IsCellMade old old of count i link c number
 cell_linked old of count i link c number is known at = record {
   more = [];
   grows = sym (append-nil old);
@@ -108,25 +110,26 @@ cell_linked old of count i link c number is known at = record {
 
 -- ---- the cells by their kinds
 
-pub element_added : (old new : List Shape) (of : List ℕ) (count i link : ℕ) (class : Class) (part : ℕ) (result : Result ℕ SchemaFault) → Adds old new (shape.Ref link) result → MakesCell old new of count i link (cell.element class part) result
-element_added old new of count i link class part result added =
-    cell_added old new of count i link (cell.element class part) (shape.Ref link) result (λ cells taken at. refl) (λ cells elements at below. below) added
+pub element_added : (old new : List Shape) (of : List ℕ) (count i : ℕ) (link : Target) (class : Class) (part number : ℕ) (result : Result ℕ SchemaFault) → number ≡ element_number link → Adds old new (shape.Ref number) result → MakesCell old new of count i link (cell.element class part) result
+element_added old new of count i link class part number result is added =
+    let P : ℕ → Type 0 = λ n. Adds old new (shape.Ref n) result in
+    cell_added old new of count i link (cell.element class part) (shape.Ref (element_number link)) result (λ cells taken at. refl) (λ cells elements at below. below) (subst P is added)
 
-pub value_added : (old new : List Shape) (of : List ℕ) (count i link : ℕ) (type : TypeName) (text : List ℕ) (result : Result ℕ SchemaFault) → Adds old new (shape.Value i) result → MakesCell old new of count i link (cell.value type text) result
+pub value_added : (old new : List Shape) (of : List ℕ) (count i : ℕ) (link : Target) (type : TypeName) (text : List ℕ) (result : Result ℕ SchemaFault) → Adds old new (shape.Value i) result → MakesCell old new of count i link (cell.value type text) result
 value_added old new of count i link type text result added =
     cell_added old new of count i link (cell.value type text) (shape.Value i) result
     (λ cells taken at. ap (λ o. form.value (value_in o)) at)
     (λ cells elements at below. (type, text, at))
     added
 
-pub type_added : (old new : List Shape) (of : List ℕ) (count i link : ℕ) (type : TypeName) (params : List Param) (part : ℕ) (result : Result ℕ SchemaFault) → Adds old new (shape.Typed i) result → MakesCell old new of count i link (cell.typed type params part) result
+pub type_added : (old new : List Shape) (of : List ℕ) (count i : ℕ) (link : Target) (type : TypeName) (params : List Param) (part : ℕ) (result : Result ℕ SchemaFault) → Adds old new (shape.Typed i) result → MakesCell old new of count i link (cell.typed type params part) result
 type_added old new of count i link type params part result added =
     cell_added old new of count i link (cell.typed type params part) (shape.Typed i) result
     (λ cells taken at. ap (λ o. form.typed (type_in o) (params_in o) (taken i)) at)
     (λ cells elements at below. (type, params, part, at))
     added
 
-pub attribute_made : (old new : List Shape) (of : List ℕ) (count i link : ℕ) (class : Class) (part value : ℕ) (result : Result ℕ SchemaFault) → value ≡ slice_index of part → Shows old new (shape.Attribute i value) (λ cells at. attribute_of (class_in (slice_get cells i)) (at value)) result → MakesCell old new of count i link (cell.attribute class part) result
+pub attribute_made : (old new : List Shape) (of : List ℕ) (count i : ℕ) (link : Target) (class : Class) (part value : ℕ) (result : Result ℕ SchemaFault) → value ≡ slice_index of part → Shows old new (shape.Attribute i value) (λ cells at. attribute_of (class_in (slice_get cells i)) (at value)) result → MakesCell old new of count i link (cell.attribute class part) result
 attribute_made old new of count i link class part value result is shown =
     cell_shown old new of count i link (cell.attribute class part) (shape.Attribute i value) _ result
     (λ cells taken at.
@@ -135,21 +138,21 @@ attribute_made old new of count i link class part value result is shown =
     (λ cells elements at. (class, part, at))
     shown
 
-pub list_made : (old new : List Shape) (of : List ℕ) (count i link part words : ℕ) (result : Result ℕ SchemaFault) → words ≡ slice_index of part → Shows old new shape.Empty (λ cells at. list_of (at words)) result → MakesCell old new of count i link (cell.listed part) result
+pub list_made : (old new : List Shape) (of : List ℕ) (count i : ℕ) (link : Target) (part words : ℕ) (result : Result ℕ SchemaFault) → words ≡ slice_index of part → Shows old new shape.Empty (λ cells at. list_of (at words)) result → MakesCell old new of count i link (cell.listed part) result
 list_made old new of count i link part words result is shown =
     cell_shown old new of count i link (cell.listed part) shape.Empty _ result
     (λ cells taken at. ap (λ n. list_of (form_at cells taken old n)) is)
     (λ cells elements at. tt)
     shown
 
-pub one_or_more_made : (old new : List Shape) (of : List ℕ) (count i link part body : ℕ) (result : Result ℕ SchemaFault) → body ≡ slice_index of part → Shows old new shape.Empty (λ cells at. one_or_more_of (at body)) result → MakesCell old new of count i link (cell.one_or_more part) result
+pub one_or_more_made : (old new : List Shape) (of : List ℕ) (count i : ℕ) (link : Target) (part body : ℕ) (result : Result ℕ SchemaFault) → body ≡ slice_index of part → Shows old new shape.Empty (λ cells at. one_or_more_of (at body)) result → MakesCell old new of count i link (cell.one_or_more part) result
 one_or_more_made old new of count i link part body result is shown =
     cell_shown old new of count i link (cell.one_or_more part) shape.Empty _ result
     (λ cells taken at. ap (λ n. one_or_more_of (form_at cells taken old n)) is)
     (λ cells elements at. tt)
     shown
 
-pub joined_made : (old new : List Shape) (of : List ℕ) (count i link : ℕ) (by : Sign) (first second one other : ℕ) (result : Result ℕ SchemaFault) → one ≡ slice_index of first → other ≡ slice_index of second → Shows old new shape.Empty (λ cells at. joined_of by (at one) (at other)) result → MakesCell old new of count i link (cell.joined by first second) result
+pub joined_made : (old new : List Shape) (of : List ℕ) (count i : ℕ) (link : Target) (by : Sign) (first second one other : ℕ) (result : Result ℕ SchemaFault) → one ≡ slice_index of first → other ≡ slice_index of second → Shows old new shape.Empty (λ cells at. joined_of by (at one) (at other)) result → MakesCell old new of count i link (cell.joined by first second) result
 joined_made old new of count i link by first second one other result is also shown =
     cell_shown old new of count i link (cell.joined by first second) shape.Empty _ result
     (λ cells taken at.
@@ -218,7 +221,7 @@ none_in (x ∷ xs) h = absurd (omega arith)
 pub none_to_join : (old new : List Shape) (of : List ℕ) (combine : Combine) (bodies : List ℕ) (result : Result ℕ SchemaFault) → length bodies ≡ 0 → Adds old new shape.NotAllowed result → MakesCombined old new of combine bodies result
 none_to_join old new of combine bodies (Ok number) none added =
     let P : List ℕ → Type 0 = λ all. IsCombinedMade old new of combine all number in
-    let made = cell_added old new of 0 0 0 cell.not_allowed shape.NotAllowed (Ok number) (λ cells taken at. refl) (λ cells elements at below. tt) added in
+    let made = cell_added old new of 0 0 Nothing cell.not_allowed shape.NotAllowed (Ok number) (λ cells taken at. refl) (λ cells elements at below. tt) added in
     subst P (sym (none_in bodies none)) (record {
       more = made.more;
       grows = made.grows;
@@ -271,14 +274,14 @@ next_joined old mid new of now_of by first others index next number further stay
 pub cell_there : (nodes : List Node) (i : ℕ) (n : Node) → i < length nodes → n ≡ get_or nodes i n → slice_get (map cell_of nodes) i ≡ Some (cell_of n)
 cell_there nodes i n within is = slice_get-map cell_of nodes i ∙ ap (option_map cell_of) (slice_get-get_or nodes i n within ∙ ap (λ m. Some m) (sym is))
 
-link_there : (found : Resolved) (i link : ℕ) → i < length found.links.items → link ≡ get_or found.links.items i link → link ≡ link_at found i
-link_there found i link within is = is ∙ get_or_default found.links.items i link 0 within
+link_there : (found : Resolved) (i : ℕ) (link : Target) → i < length found.links.items → link ≡ get_or found.links.items i link → link ≡ target_at found i
+link_there found i link within is = is ∙ get_or_default found.links.items i link Nothing within
 
-pub leads_of_node : (nodes : List Node) (found : Resolved) (i link : ℕ) (n : Node) → i < length nodes → length found.links.items ≡ length nodes → n ≡ get_or nodes i n → link ≡ get_or found.links.items i link → leads (map cell_of nodes) found i ≡ cell_leads (length nodes) link (cell_of n)
+pub leads_of_node : (nodes : List Node) (found : Resolved) (i : ℕ) (link : Target) (n : Node) → i < length nodes → length found.links.items ≡ length nodes → n ≡ get_or nodes i n → link ≡ get_or found.links.items i link → leads (map cell_of nodes) found i ≡ cell_leads (length nodes) (combined_number link) (cell_of n)
 leads_of_node nodes found i link n within links is linked =
     ap (leads_if (map cell_of nodes) found i) (cell_there nodes i n within is)
     ∙ ap (λ count. cell_leads count (link_at found i) (cell_of n)) (length-map nodes cell_of)
-    ∙ ap (λ k. cell_leads (length nodes) k (cell_of n)) (sym (link_there found i link (omega arith) linked))
+    ∙ ap (λ (k : Target). cell_leads (length nodes) (combined_number k) (cell_of n)) (sym (link_there found i link (omega arith) linked))
 
 pub leads_of_combination : (nodes : List Node) (found : Resolved) (i : ℕ) (combination : Combined) → length nodes ≤ i → i < length nodes + length found.combined.items → combination ≡ get_or found.combined.items (i - length nodes) combination → leads (map cell_of nodes) found i ≡ combination.bodies.items
 leads_of_combination nodes found i combination behind within is =
@@ -292,24 +295,24 @@ pub leads_known : (shapes : List Shape) (of some others : List ℕ) → some ≡
 leads_known shapes of some others same known j within = let P : List ℕ → Type 0 = λ all. Contains all j in known j (subst P (sym same) within)
 
 module _ (nodes : List Node) (found : Resolved) (i : ℕ) (old new : List Shape) (of : List ℕ) where
-  pub node_made : (link : ℕ) (n : Node) (result : Result ℕ SchemaFault) → i < length nodes → length found.links.items ≡ length nodes → n ≡ get_or nodes i n → link ≡ get_or found.links.items i link → MakesCell old new of (length nodes) i link (cell_of n) result → Makes (map cell_of nodes) found i old new of result
+  pub node_made : (link : Target) (n : Node) (result : Result ℕ SchemaFault) → i < length nodes → length found.links.items ≡ length nodes → n ≡ get_or nodes i n → link ≡ get_or found.links.items i link → MakesCell old new of (length nodes) i link (cell_of n) result → Makes (map cell_of nodes) found i old new of result
   node_made link n (Ok number) within links is linked made =
       let cells : List Cell = map cell_of nodes in
       let all : length cells ≡ length nodes = length-map nodes cell_of in
       let there : slice_get cells i ≡ Some (cell_of n) = cell_there nodes i n within is in
-      let same : link ≡ link_at found i = link_there found i link (omega arith) linked in
+      let same : link ≡ target_at found i = link_there found i link (omega arith) linked in
       record {
         more = made.more;
         grows = made.grows;
         within = made.within;
         node_is = λ c taken at.
-            let P : ℕ → Type 0 = λ count. form_at cells taken new number ≡ cell_form (form_in cells taken old of) count (link_at found i) (taken i) c in
-            let Q : ℕ → Type 0 = λ k. form_at cells taken new number ≡ cell_form (form_in cells taken old of) (length nodes) k (taken i) c in
+            let P : ℕ → Type 0 = λ count. form_at cells taken new number ≡ cell_form (form_in cells taken old of) count (target_at found i) (taken i) c in
+            let Q : Target → Type 0 = λ k. form_at cells taken new number ≡ cell_form (form_in cells taken old of) (length nodes) k (taken i) c in
             let R : Cell → Type 0 = λ d. form_at cells taken new number ≡ cell_form (form_in cells taken old of) (length nodes) link (taken i) d in
             subst P (sym all) (subst Q same (subst R (same_Some _ _ (sym there ∙ at)) (made.shows cells taken there)));
         combination_is = λ k combination taken place combined. absurd (omega arith);
         kept = λ others elements alike below are.
-            let P : ℕ → Type 0 = λ k. IsNumberedBelow elements k (cell_of n) in
+            let P : Target → Type 0 = λ k. IsNumberedBelow elements k (cell_of n) in
             made.kept others elements (alike (cell_of n) there) (subst P (sym same) (below (cell_of n) there)) are;
       }
   node_made link n (Err fault.NoMemory) within links is linked made = tt
@@ -345,18 +348,18 @@ module _ (nodes : List Node) (found : Resolved) (i : ℕ) (old new : List Shape)
 -- ---- forms in order
 
 -- a form depends on those of what it leads to alone
-pub same_cell_form : (at other : ℕ → Form) (count link : ℕ) (values : List Value) (c : Cell) → ((j : ℕ) → Contains (cell_leads count link c) j → at j ≡ other j) → cell_form at count link values c ≡ cell_form other count link values c
+pub same_cell_form : (at other : ℕ → Form) (count : ℕ) (link : Target) (values : List Value) (c : Cell) → ((j : ℕ) → Contains (cell_leads count (combined_number link) c) j → at j ≡ other j) → cell_form at count link values c ≡ cell_form other count link values c
 same_cell_form at other count link values (cell.element class part) same = refl
 same_cell_form at other count link values (cell.attribute class part) same = ap (attribute_of class) (same part (in_first part []))
 same_cell_form at other count link values (cell.listed part) same = ap list_of (same part (in_first part []))
-same_cell_form at other count link values (cell.ref name) same = same (count + link) (in_first (count + link) [])
-same_cell_form at other count link values (cell.parent_ref name) same = same (count + link) (in_first (count + link) [])
+same_cell_form at other count link values (cell.ref name) same = same (count + combined_number link) (in_first (count + combined_number link) [])
+same_cell_form at other count link values (cell.parent_ref name) same = same (count + combined_number link) (in_first (count + combined_number link) [])
 same_cell_form at other count link values cell.empty same = refl
 same_cell_form at other count link values cell.any_text same = refl
 same_cell_form at other count link values cell.not_allowed same = refl
 same_cell_form at other count link values (cell.value type text) same = refl
 same_cell_form at other count link values (cell.typed type params part) same = refl
-same_cell_form at other count link values (cell.grammar clauses) same = same (count + link) (in_first (count + link) [])
+same_cell_form at other count link values (cell.grammar clauses) same = same (count + combined_number link) (in_first (count + combined_number link) [])
 same_cell_form at other count link values (cell.one_or_more part) same = ap one_or_more_of (same part (in_first part []))
 same_cell_form at other count link values (cell.joined by first second) same =
     ap (λ p. joined_of by p (at second)) (same first (in_first first (second ∷ [])))
@@ -478,17 +481,17 @@ module _ (cells : List Cell) (found : Resolved) (order : List ℕ) (ordered : Is
         | inl before ↦
             form_before taken i before
             ∙ formed.node_is i c taken before at
-            ∙ same_cell_form (form_of cells taken old) (form_of cells taken new) (length cells) (link_at found i) (taken i) c (λ j within.
+            ∙ same_cell_form (form_of cells taken old) (form_of cells taken new) (length cells) (target_at found i) (taken i) c (λ j within.
             sym (form_before taken j (leads_before end i (cell_leads (length cells) (link_at found i) c) (cell_leads_are cells found i c at) before j within)))
         | inr is ↦
             let P : ℕ → Type 0 = λ k. IsCell cells k c in
-            let Q : ℕ → Type 0 = λ k. form_of cells taken new k ≡ cell_form (form_of cells taken new) (length cells) (link_at found k) (taken k) c in
+            let Q : ℕ → Type 0 = λ k. form_of cells taken new k ≡ cell_form (form_of cells taken new) (length cells) (target_at found k) (taken k) c in
             let also : IsCell cells here c = subst P is at in
             let R : List ℕ → ℕ → Type 0 = λ all j. Contains all j in
             subst Q (sym is) (
             ap (λ n. form_at cells taken new.shapes n) of_here
             ∙ placed.made.node_is c taken also
-            ∙ same_cell_form (form_of cells taken old) (form_of cells taken new) (length cells) (link_at found here) (taken here) c (λ j within.
+            ∙ same_cell_form (form_of cells taken old) (form_of cells taken new) (length cells) (target_at found here) (taken here) c (λ j within.
             sym (form_before taken j (ordered.behind end here j place (let S : List ℕ → Type 0 = λ all. Contains all j in subst S (sym (cell_leads_are cells found here c also)) within)))))
       ];
       combination_is = λ number combination taken h there. elim (before_next order end (length cells + number) here place h) [
@@ -511,7 +514,7 @@ module _ (cells : List Cell) (found : Resolved) (order : List ℕ) (ordered : Is
           (λ c at. numbered_below c at)
           (formed.of_schema others (record { alike = λ i c h at. alike.alike i c (before_later order end (end + 1) i (omega arith) h) at }));
     } where
-      numbered_below : (c : Cell) → IsCell cells here c → IsNumberedBelow (length found.elements.items) (link_at found here) c
+      numbered_below : (c : Cell) → IsCell cells here c → IsNumberedBelow (length found.elements.items) (target_at found here) c
       numbered_below (cell.element class part) at = ordered.numbered end here class part place at
       numbered_below (cell.attribute class part) at = tt
       numbered_below (cell.listed part) at = tt

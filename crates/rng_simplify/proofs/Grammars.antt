@@ -37,7 +37,7 @@ use Rattle.rng_simplify.specs.Forms.{Form, FormDefinition, Value, values_of, nod
 use Rattle.rng_simplify.specs.Grammars.{IsSorted, HasForms, HasTypes, IsMeasured, IsGrammarOf, GivesGrammar}
 use Rattle.rng_simplify.specs.Limiting.{content_in, content_of, class_of_element, AreElements, nodes_of_all, AreWithinLimits, AreBeyondLimits, IsWithinLimits}
 use Rattle.rng_simplify.specs.Places.{place}
-use Rattle.rng_simplify.specs.Resolving.{link_at, leads}
+use Rattle.rng_simplify.specs.Resolving.{number_at, link_at, leads}
 use Rattle.rng_simplify.specs.Simple.{Simple}
 use Rattle.rng_simplify.specs.Spelling.{IsReady, AreDefinitions, no_definitions, next_definition, IsBuilt, Builds}
 use Rattle.rng_simplify.specs.Standing.{Stands, the_root, a_part, a_content, IsStanding, AreScopes, no_scopes}
@@ -105,14 +105,14 @@ module _ (cells : List Cell) (root : ℕ) (found : Resolved) (order : List ℕ) 
   -- in front of a place
   form_before : (end i : ℕ) → end ≤ length order → AreTaken cells order end taken forms → IsBefore order end i →
       (outers : List ℕ) (scopes : List Clauses) (p : Composed) → Stands cells root outers i →
-      AreScopes cells (link_at found) outers scopes → Denotes cells (link_at found) i p → Simple scopes p (form_of cells taken forms i)
+      AreScopes cells (number_at found) outers scopes → Denotes cells (number_at found) i p → Simple scopes p (form_of cells taken forms i)
   form_before end i within takes before outers scopes p stands are denotes =
       node_is_simple cells root found has.sorted.resolved order (sorted_in_order cells root found order has.sorted) forms has.forms_are
       taken end i within takes before outers scopes p stands are denotes
 
   -- anywhere
   form_anywhere : (i : ℕ) → AreTaken cells order (length order) taken forms → (outers : List ℕ) (scopes : List Clauses) (p : Composed) →
-      Stands cells root outers i → AreScopes cells (link_at found) outers scopes → Denotes cells (link_at found) i p →
+      Stands cells root outers i → AreScopes cells (number_at found) outers scopes → Denotes cells (number_at found) i p →
       Simple scopes p (form_of cells taken forms i)
   form_anywhere i takes outers scopes p stands are denotes =
       form_before (length order) i (omega arith) takes (stands_before cells root found order has.sorted i (outers, stands)) outers scopes p
@@ -132,7 +132,7 @@ same_element h = cc
 
 module _ (cells : List Cell) (root : ℕ) (found : Resolved) (order : List ℕ) (forms : Forms) (has : HasForms cells root found order forms)
     (taken : ℕ → List Value) (takes : AreTaken cells order (length order) taken forms) (whole : Composed)
-    (denotes : Denotes cells (link_at found) root whole) where
+    (denotes : Denotes cells (number_at found) root whole) where
   abbrev start : Form
   start = form_of cells taken forms root
 
@@ -141,13 +141,13 @@ module _ (cells : List Cell) (root : ℕ) (found : Resolved) (order : List ℕ) 
 
   -- the node of an element has its definition
   defined_node : (scopes : List Clauses) (n : ℕ) (class : Class) (p : Composed) →
-      HasNode cells (link_at found) root (place scopes (composed.element n class p)) → IsDefinedAt definitions scopes n class p
+      HasNode cells (number_at found) root (place scopes (composed.element n class p)) → IsDefinedAt definitions scopes n class p
   defined_node scopes n class p h =
       let at = cell_of_pattern h.denotes in
       let by = denoted_by (cell.element class at.0) at.1 h.denotes in
-      let number_is : n ≡ link_at found h.node = same_element by.2 in
+      let number_is : n ≡ number_at found h.node = same_element by.2 in
       let content_same : p ≡ by.0 = same_content by.2 in
-      let there : slice_get found.elements.items (link_at found h.node) ≡ Some h.node =
+      let there : slice_get found.elements.items (number_at found h.node) ≡ Some h.node =
       has.sorted.resolved.numbered h.node class at.0 (h.outers, h.stands) at.1 in
       let content : content_of cells h.node ≡ at.0 = ap content_in at.1 in
       let class_is : class_of_element (slice_get cells h.node) ≡ class = ap class_of_element at.1 in
@@ -305,8 +305,8 @@ module _ (cells : List Cell) (root : ℕ) (found : Resolved) (order : List ℕ) 
   type_at : (i : ℕ) (c : Cell) → IsStanding cells root i → IsCell cells i c → IsTypeOf cells forms c (known_at types i)
   type_at i c stands at = has.types_are.each_is i c (stands_before cells root found order has.formed.sorted i stands) at
 
-  module _ (whole : Composed) (denotes : Denotes cells (link_at found) root whole) where
-    refused_at : (why : TypeFault) (scopes : List Clauses) (p : Composed) → HasNode cells (link_at found) root (place scopes p) →
+  module _ (whole : Composed) (denotes : Denotes cells (number_at found) root whole) where
+    refused_at : (why : TypeFault) (scopes : List Clauses) (p : Composed) → HasNode cells (number_at found) root (place scopes p) →
         HasRefusedType why scopes p → ⊥
     refused_at why scopes (composed.value type text) h is =
         let t = type_at h.node (cell.value type text) (h.outers, h.stands) (type_cell h.denotes) in
@@ -320,7 +320,7 @@ module _ (cells : List Cell) (root : ℕ) (found : Resolved) (order : List ℕ) 
     none_refused : (why : TypeFault) → Has whole (HasRefusedType why) → ⊥
     none_refused why h = refused_at why h.scopes h.pattern (node_of denotes h.occurs) h.is
 
-    bad_at : (scopes : List Clauses) (p : Composed) → HasNode cells (link_at found) root (place scopes p) → IsBadValue scopes p → ⊥
+    bad_at : (scopes : List Clauses) (p : Composed) → HasNode cells (number_at found) root (place scopes p) → IsBadValue scopes p → ⊥
     bad_at scopes (composed.value type text) h is =
         let t = type_at h.node (cell.value type text) (h.outers, h.stands) (type_cell h.denotes) in
         let P : Datatype → Type 0 = λ d. MayWrite d text in
@@ -332,14 +332,14 @@ module _ (cells : List Cell) (root : ℕ) (found : Resolved) (order : List ℕ) 
 
     -- the simple form of what is taken from a type has the values that are taken
     same_taken : (scopes : List Clauses) (type : TypeName) (params : List Param) (except : Composed)
-        (h : HasNode cells (link_at found) root (place scopes (composed.typed type params except))) (part : ℕ) →
-        IsCell cells h.node (cell.typed type params part) → Denotes cells (link_at found) part except → (q : Form) →
+        (h : HasNode cells (number_at found) root (place scopes (composed.typed type params except))) (part : ℕ) →
+        IsCell cells h.node (cell.typed type params part) → Denotes cells (number_at found) part except → (q : Form) →
         Simple scopes except q → q ≡ form_of cells (taken_of cells forms) forms part
     same_taken scopes type params except h part at denoted q simple =
         simple_one simple (form_anywhere cells root found order forms has.formed
         (taken_of cells forms) part all_taken h.outers scopes except (a_part h.stands at (in_first part [])) h.are_scopes denoted)
 
-    many_at : (scopes : List Clauses) (p : Composed) → HasNode cells (link_at found) root (place scopes p) → HasTooManyExcepts scopes p → ⊥
+    many_at : (scopes : List Clauses) (p : Composed) → HasNode cells (number_at found) root (place scopes p) → HasTooManyExcepts scopes p → ⊥
     many_at scopes (composed.typed type params except) h (q, values, simple, are, many) =
         let at = type_cell h.denotes in
         let t = type_at h.node (cell.typed type params at.0) (h.outers, h.stands) at.1 in
@@ -354,7 +354,7 @@ module _ (cells : List Cell) (root : ℕ) (found : Resolved) (order : List ℕ) 
     none_many : Has whole HasTooManyExcepts → ⊥
     none_many h = many_at h.scopes h.pattern (node_of denotes h.occurs) h.is
 
-    unsupported_at : (scopes : List Clauses) (p : Composed) → HasNode cells (link_at found) root (place scopes p) → IsUnsupported scopes p →
+    unsupported_at : (scopes : List Clauses) (p : Composed) → HasNode cells (number_at found) root (place scopes p) → IsUnsupported scopes p →
         ⊥
     unsupported_at scopes (composed.typed type params except) h (q, simple, inl none) =
         let at = type_cell h.denotes in
@@ -380,15 +380,15 @@ module _ (cells : List Cell) (root : ℕ) (found : Resolved) (order : List ℕ) 
     pub never_broken : AreWithinLimits cells (taken_of cells forms) forms root found.elements.items → (why : Cause) →
         WholeIsBroken whole why → ⊥
     never_broken limited cause.NoDefinition h =
-        none_undefined cells root found has.formed.sorted.formed has.formed.sorted.resolved (link_at found) whole denotes h
+        none_undefined cells root found has.formed.sorted.formed has.formed.sorted.resolved (number_at found) whole denotes h
     never_broken limited cause.NoStart h =
-        none_without_start cells root found has.formed.sorted.formed has.formed.sorted.resolved (link_at found) whole denotes h
+        none_without_start cells root found has.formed.sorted.formed has.formed.sorted.resolved (number_at found) whole denotes h
     never_broken limited cause.CombineClash h =
-        none_clashes cells root found has.formed.sorted.formed has.formed.sorted.resolved (link_at found) whole denotes h
+        none_clashes cells root found has.formed.sorted.formed has.formed.sorted.resolved (number_at found) whole denotes h
     never_broken limited cause.RefLoop h = none_leads_back cells root found has.formed.sorted.formed has.formed.sorted.resolved order
-        has.formed.sorted.ordered (link_at found) whole denotes h
-    never_broken limited cause.BadExcept h = none_excepts cells root has.formed.sorted.good (link_at found) whole denotes h
-    never_broken limited cause.XmlnsName h = none_declares cells root has.formed.sorted.good (link_at found) whole denotes h
+        has.formed.sorted.ordered (number_at found) whole denotes h
+    never_broken limited cause.BadExcept h = none_excepts cells root has.formed.sorted.good (number_at found) whole denotes h
+    never_broken limited cause.XmlnsName h = none_declares cells root has.formed.sorted.good (number_at found) whole denotes h
     never_broken limited cause.UnknownType h = none_refused type_fault.UnknownType h
     never_broken limited cause.UnknownParam h = none_refused type_fault.UnknownParam h
     never_broken limited cause.BadParam h = none_refused type_fault.BadParam h
@@ -423,7 +423,7 @@ no_forms cells root found order (fault.BadUri a) h = absurd h
 pub no_types : (cells : List Cell) (root : ℕ) (found : Resolved) (order : List ℕ) (forms : Forms) → HasForms cells root found order forms →
     (refusal : SchemaFault) → MakesTypes cells order forms (Err refusal) → GivesGrammar cells root (Err refusal)
 no_types cells root found order forms has (fault.Unreadable why) h = record {
-  number = link_at found;
+  number = number_at found;
   broken = λ whole denotes. refused_is_broken cells root found has.sorted.resolved order has.sorted.ordered forms has.forms_are whole
       denotes why h;
 }
@@ -437,7 +437,7 @@ pub not_limited : (cells : List Cell) (root : ℕ) (found : Resolved) (order : L
     HasTypes cells root found order forms types → (refusal : SchemaFault) →
     IsWithinLimits cells forms root found.elements.items (Err refusal) → GivesGrammar cells root (Err refusal)
 not_limited cells root found order forms types has (fault.Unreadable cause.TooLarge) h = record {
-  number = link_at found;
+  number = number_at found;
   broken = λ whole denotes. too_large cells root found order forms has.formed (taken_of cells forms)
       (all_taken cells root found order forms types has) whole denotes (h (taken_of cells forms));
 }
@@ -477,7 +477,7 @@ module _ (cells : List Cell) (root : ℕ) (found : Resolved) (order : List ℕ) 
       let P : ℕ → Type 0 = λ n. IsSoundPattern n (pattern_of grammar.start) in
       let Q : ℕ → Type 0 = λ n. AllByRecursion (IsSoundDefinition n) (definitions_of grammar) in
       record {
-        number = link_at found;
+        number = number_at found;
         simplified = λ whole denotes. record {
           unbroken = never_broken cells root found order forms types measured.typed whole denotes (measured.limited (taken_of cells forms));
           start_form = form_of cells (taken_of cells forms) forms root;

@@ -6,6 +6,9 @@ use Rattle.std.proofs.lemmas.List.{length-set, get_or-set_same, get_or-set_other
 use Rattle.rng_core.specs.Names.{Class}
 use Rattle.rng_simplify.specs.declared.resolve.Scope.{Scope}
 use Rattle.rng_simplify.specs.declared.resolve.Scope.TheVariants.{Nowhere, Outside, In}
+use Rattle.rng_simplify.specs.declared.resolve.Target.{Target}
+use Rattle.rng_simplify.specs.declared.resolve.Target.TheVariants.{Nothing, Element}
+use Rattle.rng_simplify.specs.Resolving.{element_number}
 use Rattle.rng_simplify.specs.Cells.{Cell}
 use Rattle.rng_simplify.specs.Cells as cell
 use Rattle.rng_simplify.specs.Denoting.{IsCell}
@@ -27,7 +30,7 @@ behind_cases (y ∷ old) last (suc k) x h = elim (behind_cases old last k x h) [
 other_cell : (cells : List Cell) (i : ℕ) (c d : Cell) → IsCell cells i c → IsCell cells i d → is_element c ≡ true → is_element d ≡ false → ⊥
 other_cell cells i c d at again yes_it no_it = absurd (false≢true (sym no_it ∙ ap is_element (sym (one_cell cells i c d at again)) ∙ yes_it))
 
-module _ {cells : List Cell} {scopes : List Scope} {upto : ℕ} {old : List ℕ} {now : Numbering} where
+module _ {cells : List Cell} {scopes : List Scope} {upto : ℕ} {old : List Target} {now : Numbering} where
   -- a node that isn't numbered
   passed : (c : Cell) → IsCell cells upto c → AreNumbered cells scopes upto old now → ((get_or scopes upto Nowhere ≡ Nowhere) ⊎ (is_element c ≡ false)) → AreNumbered cells scopes (upto + 1) old now
   passed c at h nothing = record {
@@ -48,21 +51,21 @@ module _ {cells : List Cell} {scopes : List Scope} {upto : ℕ} {old : List ℕ}
   -- one that is
   counted : (class : Class) (part : ℕ) → IsCell cells upto (cell.element class part) → upto < length now.links → get_or scopes upto Nowhere ≢ Nowhere → AreNumbered cells scopes upto old now → AreNumbered cells scopes (upto + 1) old (with_number upto (cell.element class part) now)
   counted class part at lt stands h =
-      let here : get_or (set now.links upto (length now.elements)) upto 0 ≡ length now.elements = get_or-set_same now.links upto (length now.elements) 0 lt in
-      let elsewhere : (i : ℕ) → i ≢ upto → get_or (set now.links upto (length now.elements)) i 0 ≡ get_or now.links i 0 = λ i other. get_or-set_other now.links upto i (length now.elements) 0 other in
+      let here : get_or (set now.links upto (Element (length now.elements))) upto Nothing ≡ Element (length now.elements) = get_or-set_same now.links upto (Element (length now.elements)) Nothing lt in
+      let elsewhere : (i : ℕ) → i ≢ upto → get_or (set now.links upto (Element (length now.elements))) i Nothing ≡ get_or now.links i Nothing = λ i other. get_or-set_other now.links upto i (Element (length now.elements)) Nothing other in
       record {
-        all_links = length-set now.links upto (length now.elements) ∙ h.all_links;
+        all_links = length-set now.links upto (Element (length now.elements)) ∙ h.all_links;
         other_links = λ i c at_i none. elim (cases_eq i upto) [
           | inr other ↦ elsewhere i other ∙ h.other_links i c at_i none
           | inl is ↦ absurd (other_cell cells upto (cell.element class part) c at (subst (λ k. IsCell cells k c) is at_i) refl none)
         ];
         numbered = λ i class_i part_i lt_i stands_i at_i. elim (cases_eq i upto) [
           | inr other ↦
-              ap (slice_get (now.elements ++ upto ∷ [])) (elsewhere i other)
-              ∙ stays_behind now.elements (upto ∷ []) (get_or now.links i 0) i (h.numbered i class_i part_i (omega (arith, lt_i, other)) stands_i at_i)
+              ap (λ (t : Target). slice_get (now.elements ++ upto ∷ []) (element_number t)) (elsewhere i other)
+              ∙ stays_behind now.elements (upto ∷ []) (element_number (get_or now.links i Nothing)) i (h.numbered i class_i part_i (omega (arith, lt_i, other)) stands_i at_i)
           | inl is ↦
-              ap (λ k. slice_get (now.elements ++ upto ∷ []) (get_or (set now.links upto (length now.elements)) k 0)) is
-              ∙ ap (slice_get (now.elements ++ upto ∷ [])) here
+              ap (λ k. slice_get (now.elements ++ upto ∷ []) (element_number (get_or (set now.links upto (Element (length now.elements))) k Nothing))) is
+              ∙ ap (λ (t : Target). slice_get (now.elements ++ upto ∷ []) (element_number t)) here
               ∙ last_there now.elements upto
               ∙ ap Some (sym is)
         ];
@@ -70,7 +73,7 @@ module _ {cells : List Cell} {scopes : List Scope} {upto : ℕ} {old : List ℕ}
           | inl before ↦
               let is = h.each_number number i before in
               let other : i ≢ upto = omega (arith, is.0) in
-              (omega (arith, is.0), record { class = is.1.class; part = is.1.part; is_element = is.1.is_element; stands = is.1.stands; linked = elsewhere i other ∙ is.1.linked })
+              (omega (arith, is.0), record { class = is.1.class; part = is.1.part; is_element = is.1.is_element; stands = is.1.stands; linked = ap element_number (elsewhere i other) ∙ is.1.linked })
           | inr it ↦ (
             omega (arith, it.1),
             record {
@@ -78,7 +81,7 @@ module _ {cells : List Cell} {scopes : List Scope} {upto : ℕ} {old : List ℕ}
               part = part;
               is_element = subst (λ k. IsCell cells k (cell.element class part)) (sym it.1) at;
               stands = λ none. stands (ap (λ k. get_or scopes k Nowhere) (sym it.1) ∙ none);
-              linked = ap (λ k. get_or (set now.links upto (length now.elements)) k 0) it.1 ∙ here ∙ sym it.0;
+              linked = ap (λ k. element_number (get_or (set now.links upto (Element (length now.elements))) k Nothing)) it.1 ∙ ap element_number here ∙ sym it.0;
             },
           )
         ];
@@ -115,7 +118,7 @@ module _ {cells : List Cell} {scopes : List Scope} {upto : ℕ} {old : List ℕ}
   number_more scope c is at lt h e = subst (λ (n : Numbering). AreNumbered cells scopes (upto + 1) old n) (sym e) (numbered_at scope is c at lt h)
 
 -- no node yet
-pub none_numbered : (cells : List Cell) (scopes : List Scope) (links : List ℕ) → AreNumbered cells scopes 0 links (record { links = links; elements = [] })
+pub none_numbered : (cells : List Cell) (scopes : List Scope) (links : List Target) → AreNumbered cells scopes 0 links (record { links = links; elements = [] })
 none_numbered cells scopes links = record {
   all_links = refl;
   other_links = λ i c at none. refl;

@@ -16,7 +16,7 @@ use Rattle.rng_simplify.specs.Composed as composed
 use Rattle.rng_simplify.specs.Denoting.{IsCell, Denotes}
 use Rattle.rng_simplify.specs.Forming.{form_of, IsBefore, IsInOrder, AreForms}
 use Rattle.rng_simplify.specs.Places.{place, Occurs}
-use Rattle.rng_simplify.specs.Resolving.{link_at, IsResolved, IsOrdered}
+use Rattle.rng_simplify.specs.Resolving.{number_at, IsResolved, IsOrdered}
 use Rattle.rng_simplify.specs.Simple.{Simple}
 use Rattle.rng_simplify.specs.Standing.{Stands, a_part, IsStanding}
 use Rattle.rng_simplify.specs.Typing.{HasNoValueType, HasNoTypeTaken, HasNoType, IsFirstRefused}
@@ -27,7 +27,7 @@ use Rattle.rng_simplify.proofs.Typed.{are_taken}
 
 module _ (cells : List Cell) (root : ℕ) (found : Resolved) (resolved : IsResolved cells root found) (order : List ℕ)
     (ordered : IsOrdered cells root found order) (forms : Forms) (all_formed : AreForms cells found order forms) (whole : Composed)
-    (denotes : Denotes cells (link_at found) root whole) where
+    (denotes : Denotes cells (number_at found) root whole) where
   ordered_so : IsInOrder cells found order
   ordered_so = in_order cells root found resolved order ordered
 
@@ -89,7 +89,7 @@ module _ (cells : List Cell) (root : ℕ) (found : Resolved) (resolved : IsResol
       by_cell first.cell first.is_cell stands.0 stands.1 there first.refused
     where
       by_cell : (c : Cell) → IsCell cells first.node c → (outers : List ℕ) (stands : Stands cells root outers first.node) →
-          HasPlace cells (link_at found) whole outers first.node → HasNoType cells forms c why → WholeIsBroken whole why
+          HasPlace cells (number_at found) whole outers first.node → HasNoType cells forms c why → WholeIsBroken whole why
       by_cell (cell.value type text) at outers stands there refused =
           value_is_broken there.scopes there.pattern type text (denoted_by _ at there.denotes) there.occurs why refused
       by_cell (cell.typed type params part) at outers stands there refused =

@@ -24,7 +24,9 @@ use Rattle.rng_simplify.specs.Denoting.{IsCell, Denotes, DenoteAll, none_denoted
 use Rattle.rng_simplify.specs.Keeping.{kept_named, kept_for}
 use Rattle.rng_simplify.specs.Standing.{cell_parts, bodies_of, inner_nodes, AreWellFormed, Stands, IsStanding, AreScopes}
 use Rattle.rng_simplify.specs.Standing as standing
-use Rattle.rng_simplify.specs.Resolving.{clauses_of, combines_of, IsCombined, IsCombinedIn, IsCombinedOutside, IsOfGrammar}
+use Rattle.rng_simplify.specs.Resolving.{combined_number, clauses_of, combines_of, IsCombined, IsCombinedIn, IsCombinedOutside, IsOfGrammar}
+use Rattle.rng_simplify.specs.declared.resolve.Target.{Target}
+use Rattle.rng_simplify.specs.declared.resolve.Target.TheVariants.{Nothing, Definitions}
 use Rattle.rng_simplify.specs.Scoping.{IsGatheredAs, KeepsFirst, Findings, given, with_given, with_link, outer_of, outer_in, combined_of_table, combined_in, Links, HasTable, TakesGrammar, TakesCell, IsKept, IsTable, IsScope, outside, inside, IsPosted, IsTaken, IsMidway}
 use Rattle.rng_simplify.proofs.Nodes.{in_none, in_first, in_more, in_cases, one_cell, place_of, denoted_by}
 use Rattle.rng_simplify.proofs.Posts.{within, stands_in, stands_by, stands_once, one_grammar}
@@ -158,10 +160,10 @@ pub record IsNext (cells : List Cell) (root i : ℕ) (c : Cell) (outers : List �
   pub scopes_are : new.scopes ≡ given (inner_nodes c) scope old.scopes
   pub is_scope : IsScope cells new.combined new.tables scope (within c i outers)
   pub all_links : length new.links ≡ length old.links
-  pub other_links : (k : ℕ) → k ≢ i → get_or new.links k 0 ≡ get_or old.links k 0
+  pub other_links : (k : ℕ) → k ≢ i → get_or new.links k Nothing ≡ get_or old.links k Nothing
   pub combined : KeepsCombinations old.combined new.combined
   pub tables : KeepsTables old.tables new.tables
-  pub taken : IsTaken cells new.combined outers i (get_or new.links i 0) c
+  pub taken : IsTaken cells new.combined outers i (combined_number (get_or new.links i Nothing)) c
   pub each_combined : (number : ℕ) → number < length new.combined → IsOfGrammar cells root new.combined number
 
 next_posted : {cells : List Cell} {root i : ℕ} {c : Cell} {outers : List ℕ} {scope : Scope} {old new : Findings} → IsMidway cells root (i + 1) old → IsCell cells i c → Stands cells root outers i → IsNext cells root i c outers scope old new → (j : ℕ) → get_or new.scopes j Nowhere ≢ Nowhere → IsPosted cells root new (get_or new.scopes j Nowhere) j
@@ -175,13 +177,13 @@ next_posted {cells = cells} {root = root} {i = i} {c = c} {outers = outers} {sco
     ]
 
 -- a node that stands there again is the same
-same_taken : {cells : List Cell} {root i : ℕ} {c : Cell} {outers : List ℕ} (combined : List Combined) (links : List ℕ) → AreWellFormed cells root → IsCell cells i c → Stands cells root outers i → IsTaken cells combined outers i (get_or links i 0) c → (others : List ℕ) (k : ℕ) (d : Cell) → k ≡ i → Stands cells root others k → IsCell cells k d → IsTaken cells combined others k (get_or links k 0) d
+same_taken : {cells : List Cell} {root i : ℕ} {c : Cell} {outers : List ℕ} (combined : List Combined) (links : List Target) → AreWellFormed cells root → IsCell cells i c → Stands cells root outers i → IsTaken cells combined outers i (combined_number (get_or links i Nothing)) c → (others : List ℕ) (k : ℕ) (d : Cell) → k ≡ i → Stands cells root others k → IsCell cells k d → IsTaken cells combined others k (combined_number (get_or links k Nothing)) d
 same_taken {cells = cells} {root = root} {i = i} {c = c} {outers = outers} combined links formed at stands taken others k d is standing at_k =
     let same_cell : c ≡ d = one_cell cells i c d at (subst (λ m. IsCell cells m d) is at_k) in
     let same_outers : outers ≡ others = stands_once formed stands (subst (λ m. Stands cells root others m) is standing) in
-    subst (λ m. IsTaken cells combined others m (get_or links m 0) d) (sym is)
-    (subst (λ (e : Cell). IsTaken cells combined others i (get_or links i 0) e) same_cell
-    (subst (λ os. IsTaken cells combined os i (get_or links i 0) c) same_outers taken))
+    subst (λ m. IsTaken cells combined others m (combined_number (get_or links m Nothing)) d) (sym is)
+    (subst (λ (e : Cell). IsTaken cells combined others i (combined_number (get_or links i Nothing)) e) same_cell
+    (subst (λ os. IsTaken cells combined os i (combined_number (get_or links i Nothing)) c) same_outers taken))
 
 pub next_taken : {cells : List Cell} {root i : ℕ} {c : Cell} {outers : List ℕ} {scope : Scope} {old new : Findings} → AreWellFormed cells root → IsMidway cells root (i + 1) old → IsCell cells i c → Stands cells root outers i → IsNext cells root i c outers scope old new → IsMidway cells root i new
 next_taken {cells = cells} {root = root} {i = i} {c = c} {outers = outers} {scope = scope} {old = old} {new = new} formed midway at stands next =
@@ -201,7 +203,7 @@ next_taken {cells = cells} {root = root} {i = i} {c = c} {outers = outers} {scop
       ];
       taken = λ others k d le standing at_k. elim (cases_eq k i) [
         | inl is ↦ same_taken new.combined new.links formed at stands next.taken others k d is standing at_k
-        | inr other ↦ subst (λ link. IsTaken cells new.combined others k link d) (sym (next.other_links k other)) (taken_on cells others k (get_or old.links k 0) d next.combined (midway.taken others k d (omega (arith, le, other)) standing at_k))
+        | inr other ↦ subst (λ (link : Target). IsTaken cells new.combined others k (combined_number link) d) (sym (next.other_links k other)) (taken_on cells others k (combined_number (get_or old.links k Nothing)) d next.combined (midway.taken others k d (omega (arith, le, other)) standing at_k))
       ];
       each_combined = next.each_combined;
     }
@@ -356,23 +358,23 @@ module _ {cells : List Cell} {root i : ℕ} where
         other_links = λ k other. refl;
         combined = keeps_all_combinations old.combined;
         tables = keeps_all_tables old.tables;
-        taken = nothing old.combined posted.outers (get_or old.links i 0);
+        taken = nothing old.combined posted.outers (combined_number (get_or old.links i Nothing));
         each_combined = midway.each_combined;
       }))
 
   -- a reference
-  linked : {old : Findings} {scope : Scope} (c : Cell) (link : ℕ) → ((outers : List ℕ) → within c i outers ≡ outers) → inner_nodes c ≡ [] → AreWellFormed cells root → IsMidway cells root (i + 1) old → IsCell cells i c → (posted : IsPosted cells root old scope i) → scope ≢ Nowhere → IsTaken cells old.combined posted.outers i link c → IsMidway cells root i (with_link i link old)
+  linked : {old : Findings} {scope : Scope} (c : Cell) (link : ℕ) → ((outers : List ℕ) → within c i outers ≡ outers) → inner_nodes c ≡ [] → AreWellFormed cells root → IsMidway cells root (i + 1) old → IsCell cells i c → (posted : IsPosted cells root old scope i) → scope ≢ Nowhere → IsTaken cells old.combined posted.outers i link c → IsMidway cells root i (with_link i (Definitions link) old)
   linked {old = old} {scope = scope} c link same none formed midway at posted some taken =
       let lt : i < length old.links = omega (arith, slice_get_within cells i c at, midway.all_links) in
-      next_taken {c = c} {scope = scope} {new = with_link i link old} formed midway at posted.stands (record {
+      next_taken {c = c} {scope = scope} {new = with_link i (Definitions link) old} formed midway at posted.stands (record {
         some = some;
         scopes_are = ap (λ nodes. given nodes scope old.scopes) (sym none);
         is_scope = subst (λ outers. IsScope cells old.combined old.tables scope outers) (sym (same posted.outers)) posted.is_scope;
-        all_links = length-set old.links i link;
-        other_links = λ k other. get_or-set_other old.links i k link 0 other;
+        all_links = length-set old.links i (Definitions link);
+        other_links = λ k other. get_or-set_other old.links i k (Definitions link) Nothing other;
         combined = keeps_all_combinations old.combined;
         tables = keeps_all_tables old.tables;
-        taken = subst (λ l. IsTaken cells old.combined posted.outers i l c) (sym (get_or-set_same old.links i link 0 lt)) taken;
+        taken = subst (λ l. IsTaken cells old.combined posted.outers i l c) (sym (ap combined_number (get_or-set_same old.links i (Definitions link) Nothing lt))) taken;
         each_combined = midway.each_combined;
       })
 
@@ -404,12 +406,12 @@ module _ {cells : List Cell} {root i : ℕ} where
         some = λ e. absurd cc;
         scopes_are = h.scopes_are;
         is_scope = inside {table = table} (ap (λ (ts : List Table). slice_get ts (length old.tables)) h.tables_are ∙ last_there old.tables table) (record { clauses = clauses; is_grammar = at; kept = kept }) (scope_on combined tables posted.is_scope);
-        all_links = ap length h.links_are ∙ length-set old.links i h.start;
-        other_links = λ k other. ap (λ (ls : List ℕ). get_or ls k 0) h.links_are ∙ get_or-set_other old.links i k h.start 0 other;
+        all_links = ap length h.links_are ∙ length-set old.links i (Definitions h.start);
+        other_links = λ k other. ap (λ (ls : List Target). get_or ls k Nothing) h.links_are ∙ get_or-set_other old.links i k (Definitions h.start) Nothing other;
         combined = combined;
         tables = tables;
         taken = (
-          subst (λ link. IsCombined cells new.combined i defined.Start link) (sym (ap (λ (ls : List ℕ). get_or ls i 0) h.links_are ∙ get_or-set_same old.links i h.start 0 lt))
+          subst (λ link. IsCombined cells new.combined i defined.Start link) (sym (ap (λ (ls : List Target). combined_number (get_or ls i Nothing)) h.links_are ∙ ap combined_number (get_or-set_same old.links i (Definitions h.start) Nothing lt)))
               (subst (λ (k : Option ℕ). IsKept cells new.combined i clauses defined.Start k) h.start_is (kept defined.Start)),
           λ name. no_clash_as new.combined clauses (length old.combined) name (kept_for h.names name) (h.gathered.gathered name),
         );

@@ -26,7 +26,7 @@ use Rattle.rng_simplify.specs.Denoting.{IsCell, Denotes, DenoteAll, composed_by,
 use Rattle.rng_simplify.specs.Forms.{Form, Value, values_of, combine_of, join_of, choice_of, group_of, interleave_of}
 use Rattle.rng_simplify.specs.Forms as form
 use Rattle.rng_simplify.specs.Forming.{cell_form, bodies_form, form_of, IsBefore, IsInOrder, AreForms, AreTaken}
-use Rattle.rng_simplify.specs.Resolving.{link_at, cell_leads, clauses_of, combines_of, IsCombined, IsCombinedIn, IsCombinedOutside, IsResolved, leads, IsOrdered}
+use Rattle.rng_simplify.specs.Resolving.{link_at, number_at, target_at, cell_leads, clauses_of, combines_of, IsCombined, IsCombinedIn, IsCombinedOutside, IsResolved, leads, IsOrdered}
 use Rattle.rng_simplify.specs.Shown.{joined_form, joined_of, form_by, among, shown, form_at}
 use Rattle.rng_simplify.specs.Simple.{Simple, Defines, AreSimple, simple_element, simple_attribute, simple_list, simple_empty, simple_text, simple_not_allowed, simple_value, simple_type, simple_one_or_more, simple_choice, simple_group, simple_interleave, simple_grammar, simple_ref, simple_parent_ref, joined_in_order, none_simple, next_simple}
 use Rattle.rng_simplify.specs.Standing.{cell_parts, bodies_of, Stands, the_root, a_part, a_content, a_definition, IsStanding, AreScopes, further_scope}
@@ -94,7 +94,7 @@ module _ (cells : List Cell) (root : ℕ) (found : Resolved) (resolved : IsResol
     ];
     all_links = resolved.all_links;
     numbered = λ place i class part there at. elim (ordered.nothing_else i (in_place order place i there)) [
-      | inl stands ↦ slice_get_within found.elements.items (link_at found i) i (resolved.numbered i class part stands at)
+      | inl stands ↦ slice_get_within found.elements.items (number_at found i) i (resolved.numbered i class part stands at)
       | inr combination ↦ let inside = slice_get_within cells i _ at in let is = combination.2 in absurd (omega arith)
     ];
     once = λ place other i there again. distinct_places order place other i ordered.distinct there again;
@@ -194,7 +194,7 @@ module _ (cells : List Cell) (root : ℕ) (found : Resolved) (resolved : IsResol
   at = form_of cells taken forms
 
   abbrev number : ℕ → ℕ
-  number = link_at found
+  number = number_at found
 
   -- a node's form is that of what it stands for
   abbrev IsSimpleNode : ℕ → Type 0
@@ -223,7 +223,7 @@ module _ (cells : List Cell) (root : ℕ) (found : Resolved) (resolved : IsResol
           ordered.behind end i j place (subst P (sym (cell_leads_are cells found i c there)) within)
 
       -- its form is made of those
-      made : (c : Cell) → IsCell cells i c → at i ≡ cell_form at (length cells) (link_at found i) (taken i) c
+      made : (c : Cell) → IsCell cells i c → at i ≡ cell_form at (length cells) (target_at found i) (taken i) c
       made c there = all_formed.formed.node_is i c taken is_before there
 
       part_simple : (c : Cell) (j : ℕ) → IsCell cells i c → Contains (cell_parts c) j → Contains (cell_leads (length cells) (link_at found i) c) j → (outers : List ℕ) (scopes : List Clauses) (p : Composed) → Stands cells root outers i → AreScopes cells number outers scopes → Denotes cells number j p → Simple scopes p (at j)

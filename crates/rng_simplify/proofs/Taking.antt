@@ -12,8 +12,10 @@ use Rattle.rng_simplify.specs.Breaking.{OkOrRefused}
 use Rattle.rng_simplify.specs.Cells.{Cell, cell_of}
 use Rattle.rng_simplify.specs.Cells as cell
 use Rattle.rng_simplify.specs.Standing.{inner_nodes, AreWellFormed, Stands, the_root}
-use Rattle.rng_simplify.specs.Resolving.{IsResolved, IsCombinedIn, IsCombinedOutside, IsCombined}
+use Rattle.rng_simplify.specs.Resolving.{combined_number, IsResolved, IsCombinedIn, IsCombinedOutside, IsCombined}
 use Rattle.rnc_parse.specs.declared.surface.Defined.TheVariants as defined
+use Rattle.rng_simplify.specs.declared.resolve.Target.{Target}
+use Rattle.rng_simplify.specs.declared.resolve.Target.TheVariants.{Nothing}
 use Rattle.rng_simplify.specs.Scoping.{Findings, findings_at_first, IsPosted, outside, IsMidway, TakesCell, AreNumbered}
 use Rattle.rng_simplify.proofs.Nodes.{cell_there}
 use Rattle.rng_simplify.proofs.Posts.{stands_by}
@@ -35,7 +37,7 @@ midway_begins cells root formed =
     let long : root < length (replicate count Nowhere) = omega (arith, formed.root_within, length-replicate count Nowhere) in
     record {
       all_scopes = length-set (replicate count Nowhere) root Outside ∙ length-replicate count Nowhere;
-      all_links = length-replicate count 0;
+      all_links = length-replicate count Nothing;
       posted = λ i some. elim (set_cases (replicate count Nowhere) root Outside i) [
         | inl h ↦ subst (λ (s : Scope). IsPosted cells root (findings_at_first count root) s i) (sym h.0) (record { outers = []; stands = subst (λ k. Stands cells root [] k) h.1 the_root; is_scope = outside })
         | inr same ↦ absurd (some (same ∙ nowhere_in_all count i))
@@ -89,7 +91,7 @@ module _ {cells : List Cell} {root : ℕ} {now : Findings} where
         | inr h ↦ midway.inner_known h.outer i h.cell (omega arith) (h.around, h.stands) h.is_cell h.inner none
       ]
 
-pub all_resolved : (cells : List Cell) (root : ℕ) (tables : List Table) (old : List ℕ) (scopes : Vec Scope Global) (links : Vec ℕ Global) (combined : Vec Combined Global) (elements : Vec ℕ Global) → AreWellFormed cells root → IsMidway cells root 0 (record { tables = tables; scopes = scopes.items; links = old; combined = combined.items }) → AreNumbered cells scopes.items (length cells) old (record { links = links.items; elements = elements.items }) → IsResolved cells root (record { scopes = scopes; links = links; combined = combined; elements = elements })
+pub all_resolved : (cells : List Cell) (root : ℕ) (tables : List Table) (old : List Target) (scopes : Vec Scope Global) (links : Vec Target Global) (combined : Vec Combined Global) (elements : Vec ℕ Global) → AreWellFormed cells root → IsMidway cells root 0 (record { tables = tables; scopes = scopes.items; links = old; combined = combined.items }) → AreNumbered cells scopes.items (length cells) old (record { links = links.items; elements = elements.items }) → IsResolved cells root (record { scopes = scopes; links = links; combined = combined; elements = elements })
 all_resolved cells root tables old scopes links combined elements formed midway numbered = record {
   all_scopes = midway.all_scopes;
   all_links = numbered.all_links ∙ midway.all_links;
@@ -98,11 +100,11 @@ all_resolved cells root tables old scopes links combined elements formed midway 
     λ standing. standing_known standing.0 i formed midway standing.1,
   );
   ref_combined = λ outers i name stands at.
-      subst (λ link. IsCombinedIn cells combined.items outers (defined.Name name) link) (sym (numbered.other_links i (cell.ref name) at refl)) (midway.taken outers i (cell.ref name) (omega arith) stands at);
+      subst (λ link. IsCombinedIn cells combined.items outers (defined.Name name) link) (sym (ap combined_number (numbered.other_links i (cell.ref name) at refl))) (midway.taken outers i (cell.ref name) (omega arith) stands at);
   parent_ref_combined = λ outers i name stands at.
-      subst (λ link. IsCombinedOutside cells combined.items outers (defined.Name name) link) (sym (numbered.other_links i (cell.parent_ref name) at refl)) (midway.taken outers i (cell.parent_ref name) (omega arith) stands at);
+      subst (λ link. IsCombinedOutside cells combined.items outers (defined.Name name) link) (sym (ap combined_number (numbered.other_links i (cell.parent_ref name) at refl))) (midway.taken outers i (cell.parent_ref name) (omega arith) stands at);
   start_combined = λ i clauses standing at.
-      subst (λ link. IsCombined cells combined.items i defined.Start link) (sym (numbered.other_links i (cell.grammar clauses) at refl)) (midway.taken standing.0 i (cell.grammar clauses) (omega arith) standing.1 at).0;
+      subst (λ link. IsCombined cells combined.items i defined.Start link) (sym (ap combined_number (numbered.other_links i (cell.grammar clauses) at refl))) (midway.taken standing.0 i (cell.grammar clauses) (omega arith) standing.1 at).0;
   each_combined = midway.each_combined;
   no_clash = λ i clauses name standing at. (midway.taken standing.0 i (cell.grammar clauses) (omega arith) standing.1 at).1 name;
   numbered = λ i class part standing at. numbered.numbered i class part (slice_get_within cells i (cell.element class part) at) (standing_known standing.0 i formed midway standing.1) at;
@@ -113,7 +115,7 @@ all_resolved cells root tables old scopes links combined elements formed midway 
 }
 
 -- the same of nodes
-pub nodes_resolved : (nodes seen : List Node) (root : ℕ) (tables : List Table) (old : List ℕ) (scopes : Vec Scope Global) (seen_scopes : List Scope) (links : Vec ℕ Global) (combined : Vec Combined Global) (elements : Vec ℕ Global) → seen ≡ nodes → seen_scopes ≡ scopes.items → AreWellFormed (map cell_of nodes) root → IsMidway (map cell_of nodes) root 0 (record { tables = tables; scopes = scopes.items; links = old; combined = combined.items }) → AreNumbered (map cell_of seen) seen_scopes (length seen) old (record { links = links.items; elements = elements.items }) → IsResolved (map cell_of nodes) root (record { scopes = scopes; links = links; combined = combined; elements = elements })
+pub nodes_resolved : (nodes seen : List Node) (root : ℕ) (tables : List Table) (old : List Target) (scopes : Vec Scope Global) (seen_scopes : List Scope) (links : Vec Target Global) (combined : Vec Combined Global) (elements : Vec ℕ Global) → seen ≡ nodes → seen_scopes ≡ scopes.items → AreWellFormed (map cell_of nodes) root → IsMidway (map cell_of nodes) root 0 (record { tables = tables; scopes = scopes.items; links = old; combined = combined.items }) → AreNumbered (map cell_of seen) seen_scopes (length seen) old (record { links = links.items; elements = elements.items }) → IsResolved (map cell_of nodes) root (record { scopes = scopes; links = links; combined = combined; elements = elements })
 nodes_resolved nodes seen root tables old scopes seen_scopes links combined elements is scopes_are formed midway numbered =
     all_resolved (map cell_of nodes) root tables old scopes links combined elements formed midway
     (subst (λ n. AreNumbered (map cell_of nodes) scopes.items n old (record { links = links.items; elements = elements.items })) (sym (length-map nodes cell_of))

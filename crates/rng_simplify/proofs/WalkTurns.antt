@@ -21,7 +21,8 @@ use Rattle.rng_simplify.specs.declared.node.Node.{Node}
 use Rattle.rng_simplify.specs.Cells.{Cell, cell_of}
 use Rattle.rng_simplify.specs.Cells as cell
 use Rattle.rng_simplify.specs.Standing.{cell_parts, AreWellFormed, IsStanding}
-use Rattle.rng_simplify.specs.Resolving.{IsResolved, link_at, cell_leads, combined_leads, leads_if, leads, IsOrdered, scope_at}
+use Rattle.rng_simplify.specs.declared.resolve.Target.TheVariants.{Nothing}
+use Rattle.rng_simplify.specs.Resolving.{IsResolved, combined_number, link_at, cell_leads, combined_leads, leads_if, leads, IsOrdered, scope_at}
 use Rattle.rng_simplify.specs.Walking.{IsMet, is_linked, Walking, mark_at, step_of, with_step, left, Meets, AreSteps, path_of, IsWalk, KeepsMarks, most, IsTurned, IsGone, IsPassed}
 use Rattle.rng_simplify.proofs.Nodes.{in_none, in_cases, cell_there}
 use Rattle.rng_simplify.proofs.Posts.{stands_within}
@@ -269,7 +270,7 @@ module _ (cells : List Cell) (root : ℕ) (found : Resolved) where
 
 -- ---- what a node or combined definitions lead to, as the program finds it
 
-pub leads_linked : (nodes : List Node) (found : Resolved) (x link k : ℕ) (node : Node) → x < length nodes → node ≡ get_or nodes x node → is_linked (cell_of node) ≡ true → link ≡ get_or found.links.items x 0 → (it : ℕ) → it ≡ length nodes + link → slice_get (it ∷ []) k ≡ slice_get (leads (map cell_of nodes) found x) k
+pub leads_linked : (nodes : List Node) (found : Resolved) (x link k : ℕ) (node : Node) → x < length nodes → node ≡ get_or nodes x node → is_linked (cell_of node) ≡ true → link ≡ combined_number (get_or found.links.items x Nothing) → (it : ℕ) → it ≡ length nodes + link → slice_get (it ∷ []) k ≡ slice_get (leads (map cell_of nodes) found x) k
 leads_linked nodes found x link k node lt is linked link_is it it_is =
     ap (λ n. slice_get (n ∷ []) k) (it_is ∙ ap (λ n. n + link) (sym (length-map nodes cell_of)) ∙ ap (λ n. length (map cell_of nodes) + n) link_is)
     ∙ sym (ap (λ (all : List ℕ). slice_get all k) (linked_leads (length (map cell_of nodes)) (link_at found x) (cell_of node) linked))
@@ -291,7 +292,7 @@ leads_bodies nodes found x n k combination past n_is lt is =
     )
 
 -- a link of a node that stands in the schema is the number of combined definitions
-pub link_fits : (nodes : List Node) (root : ℕ) (found : Resolved) (x : ℕ) (node : Node) → AreWellFormed (map cell_of nodes) root → IsResolved (map cell_of nodes) root found → IsMet (map cell_of nodes) root found x → x < length nodes → node ≡ get_or nodes x node → is_linked (cell_of node) ≡ true → get_or found.links.items x 0 < length found.combined.items
+pub link_fits : (nodes : List Node) (root : ℕ) (found : Resolved) (x : ℕ) (node : Node) → AreWellFormed (map cell_of nodes) root → IsResolved (map cell_of nodes) root found → IsMet (map cell_of nodes) root found x → x < length nodes → node ≡ get_or nodes x node → is_linked (cell_of node) ≡ true → combined_number (get_or found.links.items x Nothing) < length found.combined.items
 link_fits nodes root found x node formed resolved (inl (outers, stands)) lt is linked = link_within (map cell_of nodes) root found outers x (cell_of node) resolved stands (cell_there nodes x node lt is) linked
 link_fits nodes root found x node formed resolved (inr (n, within, at)) lt is linked = absurd (omega (arith, at, lt, length-map nodes cell_of))
 

@@ -12,31 +12,32 @@ use Rattle.rng_simplify.specs.declared.form.Forms.{Forms}
 use Rattle.rng_simplify.specs.declared.node.Sign.{Sign}
 use Rattle.rng_simplify.specs.declared.resolve.Combined.{Combined}
 use Rattle.rng_simplify.specs.declared.resolve.Resolved.{Resolved}
+use Rattle.rng_simplify.specs.declared.resolve.Target.{Target}
 use Rattle.rng_simplify.specs.declared.shape.Shape.{Shape}
 use Rattle.rng_simplify.specs.Cells.{Cell}
 use Rattle.rng_simplify.specs.Cells as cell
 use Rattle.rng_simplify.specs.Denoting.{IsCell}
 use Rattle.rng_simplify.specs.Forms.{Form, Value, list_of, attribute_of, one_or_more_of, join_of, values_of}
 use Rattle.rng_simplify.specs.Forms as form
-use Rattle.rng_simplify.specs.Resolving.{link_at, leads}
+use Rattle.rng_simplify.specs.Resolving.{combined_number, element_number, target_at, number_at, leads}
 use Rattle.rng_simplify.specs.Shown.{joined_of, form_at, AreOfSchema}
 
 -- ---- forms of cells and combined definitions
 
 -- that of a cell by those of what it leads to, where combined definitions have the places from `count` on and these values are taken from
 -- its type
-abbrev pub cell_form : (ℕ → Form) → ℕ → ℕ → List Value → Cell → Form
-cell_form at count link values (cell.element class part) = form.ref link
+abbrev pub cell_form : (ℕ → Form) → ℕ → Target → List Value → Cell → Form
+cell_form at count link values (cell.element class part) = form.ref (element_number link)
 cell_form at count link values (cell.attribute class part) = attribute_of class (at part)
 cell_form at count link values (cell.listed part) = list_of (at part)
-cell_form at count link values (cell.ref name) = at (count + link)
-cell_form at count link values (cell.parent_ref name) = at (count + link)
+cell_form at count link values (cell.ref name) = at (count + combined_number link)
+cell_form at count link values (cell.parent_ref name) = at (count + combined_number link)
 cell_form at count link values cell.empty = form.empty
 cell_form at count link values cell.any_text = form.any_text
 cell_form at count link values cell.not_allowed = form.not_allowed
 cell_form at count link values (cell.value type text) = form.value (record { type = type; text = text })
 cell_form at count link values (cell.typed type params part) = form.typed type params values
-cell_form at count link values (cell.grammar clauses) = at (count + link)
+cell_form at count link values (cell.grammar clauses) = at (count + combined_number link)
 cell_form at count link values (cell.one_or_more part) = one_or_more_of (at part)
 cell_form at count link values (cell.joined by first second) = joined_of by (at first) (at second)
 
@@ -73,7 +74,7 @@ pub record IsInOrder (cells : List Cell) (found : Resolved) (order : List ℕ) :
   pub within : (place i : ℕ) → slice_get order place ≡ Some i → i < length cells + length found.combined.items
   pub all_links : length found.links.items ≡ length cells
   pub numbered : (place i : ℕ) (class : Class) (part : ℕ) → slice_get order place ≡ Some i → IsCell cells i (cell.element class part) →
-      link_at found i < length found.elements.items
+      number_at found i < length found.elements.items
   pub once : (place other i : ℕ) → slice_get order place ≡ Some i → slice_get order other ≡ Some i → place ≡ other
   pub behind : (place i j : ℕ) → slice_get order place ≡ Some i → Contains (leads cells found i) j → IsBefore order place j
 
@@ -86,7 +87,7 @@ pub record AreFormed (cells : List Cell) (found : Resolved) (order : List ℕ) (
   pub all : length forms.of.items ≡ length cells + length found.combined.items
   pub known : (i : ℕ) → IsBefore order end i → IsKnown forms.shapes forms.of.items i
   pub node_is : (i : ℕ) (c : Cell) (taken : ℕ → List Value) → IsBefore order end i → IsCell cells i c →
-      form_of cells taken forms i ≡ cell_form (form_of cells taken forms) (length cells) (link_at found i) (taken i) c
+      form_of cells taken forms i ≡ cell_form (form_of cells taken forms) (length cells) (target_at found i) (taken i) c
   pub combination_is : (number : ℕ) (combination : Combined) (taken : ℕ → List Value) → IsBefore order end (length cells + number) →
       slice_get found.combined.items number ≡ Some combination →
       form_of cells taken forms (length cells + number) ≡ combined_form (form_of cells taken forms) combination
@@ -111,12 +112,12 @@ IsRoom count (Err fault.NoMemory) = Unit {0}
 IsRoom count (Err other) = ⊥
 
 -- an element's number is below this
-abbrev pub IsNumberedBelow : ℕ → ℕ → Cell → Type 0
-IsNumberedBelow count link (cell.element class part) = link < count
+abbrev pub IsNumberedBelow : ℕ → Target → Cell → Type 0
+IsNumberedBelow count link (cell.element class part) = element_number link < count
 IsNumberedBelow count link c = Unit {0}
 
 -- a shape behind others, or one of them, shows the form of a node with this cell
-pub record IsCellMade (old new : List Shape) (of : List ℕ) (count i link : ℕ) (c : Cell) (number : ℕ) : Type 0 where
+pub record IsCellMade (old new : List Shape) (of : List ℕ) (count i : ℕ) (link : Target) (c : Cell) (number : ℕ) : Type 0 where
   pub more : List Shape
   pub grows : new ≡ old ++ more
   pub within : number < length new
@@ -125,7 +126,7 @@ pub record IsCellMade (old new : List Shape) (of : List ℕ) (count i link : ℕ
   pub kept : (cells : List Cell) (elements : ℕ) → IsCell cells i c → IsNumberedBelow elements link c → AreOfSchema cells elements old →
       AreOfSchema cells elements new
 
-abbrev pub MakesCell : List Shape → List Shape → List ℕ → ℕ → ℕ → ℕ → Cell → Result ℕ SchemaFault → Type 0
+abbrev pub MakesCell : List Shape → List Shape → List ℕ → ℕ → ℕ → Target → Cell → Result ℕ SchemaFault → Type 0
 MakesCell old new of count i link c (Ok number) = IsCellMade old new of count i link c number
 MakesCell old new of count i link c (Err fault.NoMemory) = Unit {0}
 MakesCell old new of count i link c (Err other) = ⊥
@@ -164,12 +165,12 @@ pub record IsMade (cells : List Cell) (found : Resolved) (i : ℕ) (old new : Li
   pub grows : new ≡ old ++ more
   pub within : number < length new
   pub node_is : (c : Cell) (taken : ℕ → List Value) → IsCell cells i c →
-      form_at cells taken new number ≡ cell_form (form_in cells taken old of) (length cells) (link_at found i) (taken i) c
+      form_at cells taken new number ≡ cell_form (form_in cells taken old of) (length cells) (target_at found i) (taken i) c
   pub combination_is : (n : ℕ) (combination : Combined) (taken : ℕ → List Value) → i ≡ length cells + n →
       slice_get found.combined.items n ≡ Some combination →
       form_at cells taken new number ≡ combined_form (form_in cells taken old of) combination
   pub kept : (others : List Cell) (elements : ℕ) → ((c : Cell) → IsCell cells i c → IsCell others i c) → ((c : Cell) → IsCell cells i c →
-      IsNumberedBelow elements (link_at found i) c) → AreOfSchema others elements old → AreOfSchema others elements new
+      IsNumberedBelow elements (target_at found i) c) → AreOfSchema others elements old → AreOfSchema others elements new
 
 abbrev pub Makes : List Cell → Resolved → ℕ → List Shape → List Shape → List ℕ → Result ℕ SchemaFault → Type 0
 Makes cells found i old new of (Ok number) = IsMade cells found i old new of number

@@ -1,6 +1,6 @@
 -- What is known of the nodes of a schema once its references are resolved, and an order of them.
 use Rattle.std.specs.Prelude.{◌≡◌, ◌≢◌, ◌↔◌, ℕ, ◌+◌, ◌-◌, ◌<◌, ◌==◌, ◌⊎◌, false, List, [], ◌∷◌, length, map, filter}
-use Rattle.std.specs.Prelude.{take, slice_get, slice_index, slice_index_or, Option, Some, None, Contains}
+use Rattle.std.specs.Prelude.{take, slice_get, slice_index_or, Option, Some, None, Contains}
 use Rattle.std.specs.List.{IsDistinct}
 use Rattle.rnc_parse.specs.declared.surface.Defined.{Defined}
 use Rattle.rnc_parse.specs.declared.surface.Defined.TheVariants as defined
@@ -11,6 +11,8 @@ use Rattle.rng_simplify.specs.declared.resolve.Combined.{Combined}
 use Rattle.rng_simplify.specs.declared.resolve.Resolved.{Resolved}
 use Rattle.rng_simplify.specs.declared.resolve.Scope.{Scope}
 use Rattle.rng_simplify.specs.declared.resolve.Scope.TheVariants.{Nowhere}
+use Rattle.rng_simplify.specs.declared.resolve.Target.{Target}
+use Rattle.rng_simplify.specs.declared.resolve.Target.TheVariants.{Nothing, Definitions, Element}
 use Rattle.rng_simplify.specs.Broken.{clash}
 use Rattle.rng_simplify.specs.Cells.{Cell}
 use Rattle.rng_simplify.specs.Cells as cell
@@ -19,12 +21,29 @@ use Rattle.rng_simplify.specs.Denoting.{IsCell}
 use Rattle.rng_simplify.specs.Forms.{combine_of}
 use Rattle.rng_simplify.specs.Standing.{bodies_of, Stands, IsStanding}
 
--- in which grammar a node stands, and what it is linked to
+-- in which grammar a node stands
 abbrev pub scope_at : Resolved → ℕ → Scope
 scope_at found i = slice_index_or found.scopes.items i Nowhere
 
+-- combined definitions to which something leads, and the element whose definition it leads to; 0 where there are none
+abbrev pub combined_number : Target → ℕ
+combined_number Nothing = 0
+combined_number (Definitions number) = number
+combined_number (Element number) = 0
+
+abbrev pub element_number : Target → ℕ
+element_number Nothing = 0
+element_number (Definitions number) = 0
+element_number (Element number) = number
+
+abbrev pub target_at : Resolved → ℕ → Target
+target_at found i = slice_index_or found.links.items i Nothing
+
 abbrev pub link_at : Resolved → ℕ → ℕ
-link_at found i = slice_index found.links.items i
+link_at found i = combined_number (target_at found i)
+
+abbrev pub number_at : Resolved → ℕ → ℕ
+number_at found i = element_number (target_at found i)
 
 -- ---- combined definitions
 
@@ -62,13 +81,13 @@ pub record IsOfGrammar (cells : List Cell) (root : ℕ) (combined : List Combine
   pub stands : IsStanding cells root grammar
   pub is_combined : IsCombined cells combined grammar name number
 
--- this node is an element that stands in the schema, and is linked to the number
+-- this node is an element that stands in the schema, of this number
 pub record IsNumbered (cells : List Cell) (root : ℕ) (found : Resolved) (number i : ℕ) : Type 0 where
   pub class : Class
   pub part : ℕ
   pub is_element : IsCell cells i (cell.element class part)
   pub stands : IsStanding cells root i
-  pub linked : link_at found i ≡ number
+  pub linked : number_at found i ≡ number
 
 -- references are resolved, and elements are numbered
 pub record IsResolved (cells : List Cell) (root : ℕ) (found : Resolved) : Type 0 where
@@ -88,7 +107,7 @@ pub record IsResolved (cells : List Cell) (root : ℕ) (found : Resolved) : Type
       clash (combines_of (clauses_of name clauses)) ≡ false
   -- elements
   pub numbered : (i : ℕ) (class : Class) (part : ℕ) → IsStanding cells root i → IsCell cells i (cell.element class part) →
-      slice_get found.elements.items (link_at found i) ≡ Some i
+      slice_get found.elements.items (number_at found i) ≡ Some i
   pub each_number : (number i : ℕ) → slice_get found.elements.items number ≡ Some i → IsNumbered cells root found number i
 
 -- ---- an order, in which combined definitions of number n have the place n behind the nodes

@@ -1,6 +1,6 @@
 -- What is known while references are resolved: the nodes behind some number are taken, each with what stands around it.
 use Rattle.std.specs.Prelude.{◌≡◌, ◌≢◌, ℕ, ◌<◌, ◌≤◌, Bool, true, false, List, [], ◌∷◌, ◌++◌, length, set, replicate}
-use Rattle.std.specs.Prelude.{slice_get, slice_index, slice_index_or, Option, Some, None, Result, Ok, Err, Contains}
+use Rattle.std.specs.Prelude.{slice_get, slice_index_or, Option, Some, None, Result, Ok, Err, Contains}
 use Rattle.std.specs.Prelude.{Vec}
 use Rattle.std.specs.List.{list_any}
 use Rattle.std.specs.declared.alloc.Global.{Global}
@@ -19,6 +19,8 @@ use Rattle.rng_simplify.specs.declared.resolve.Table.{Table}
 use Rattle.rng_simplify.specs.declared.resolve.Resolver.{Resolver}
 use Rattle.rng_simplify.specs.declared.resolve.Scope.{Scope}
 use Rattle.rng_simplify.specs.declared.resolve.Scope.TheVariants.{Nowhere, Outside, In}
+use Rattle.rng_simplify.specs.declared.resolve.Target.{Target}
+use Rattle.rng_simplify.specs.declared.resolve.Target.TheVariants.{Nothing, Definitions, Element}
 use Rattle.rng_simplify.specs.Broken.{clash, is_alone}
 use Rattle.rng_simplify.specs.Cells.{Cell}
 use Rattle.rng_simplify.specs.Cells as cell
@@ -26,7 +28,7 @@ use Rattle.rng_simplify.specs.Denoting.{IsCell}
 use Rattle.rng_simplify.specs.Forms.{combine_of}
 use Rattle.rng_simplify.specs.Keeping.{kept_named, kept_for}
 use Rattle.rng_simplify.specs.Standing.{bodies_of, inner_nodes, Stands, IsStanding}
-use Rattle.rng_simplify.specs.Resolving.{clauses_of, combines_of, IsCombined, IsCombinedIn, IsCombinedOutside, IsOfGrammar}
+use Rattle.rng_simplify.specs.Resolving.{combined_number, element_number, clauses_of, combines_of, IsCombined, IsCombinedIn, IsCombinedOutside, IsOfGrammar}
 
 -- ---- combined definitions
 
@@ -100,7 +102,7 @@ Gathers clauses old new (Err other) = ⊥
 pub record Findings : Type 0 where
   pub tables : List Table
   pub scopes : List Scope
-  pub links : List ℕ
+  pub links : List Target
   pub combined : List Combined
 
 abbrev pub findings_of : Resolver → Findings
@@ -118,7 +120,7 @@ findings_at_first count root = record {
   tables = [];
   scopes = set (replicate count Nowhere)
       root Outside;
-  links = replicate count 0;
+  links = replicate count Nothing;
   combined = [];
 }
 
@@ -130,7 +132,7 @@ given (i ∷ more) scope scopes = given more scope (set scopes i scope)
 abbrev pub with_given : List ℕ → Scope → Findings → Findings
 with_given nodes scope now = record now { scopes = given nodes scope now.scopes }
 
-abbrev pub with_link : ℕ → ℕ → Findings → Findings
+abbrev pub with_link : ℕ → Target → Findings → Findings
 with_link i link now = record now { links = set now.links i link }
 
 -- the grammar around a grammar
@@ -155,7 +157,7 @@ combined_in tables (In k) name = combined_of_table name (slice_get tables k)
 
 -- a reference is linked to these combined definitions
 abbrev pub Links : {A : Type 0} → ℕ → Option ℕ → Findings → Findings → Result A SchemaFault → Type 0
-Links i (Some number) old new (Ok done) = new ≡ with_link i number old
+Links i (Some number) old new (Ok done) = new ≡ with_link i (Definitions number) old
 Links i None old new (Err (Unreadable cause.NoDefinition)) = Unit {0}
 Links i number old new result = ⊥
 
@@ -168,7 +170,7 @@ pub record HasTable (i : ℕ) (outer : Scope) (clauses : List Clause) (old new :
   pub start_is : kept_for names defined.Start ≡ Some start
   pub tables_are : new.tables ≡ old.tables ++ record { outer = outer; combined = names } ∷ []
   pub scopes_are : new.scopes ≡ given (bodies_of clauses) (In (length old.tables)) old.scopes
-  pub links_are : new.links ≡ set old.links i start
+  pub links_are : new.links ≡ set old.links i (Definitions start)
 
 abbrev pub TakesGrammar : {A : Type 0} → ℕ → Scope → List Clause → Findings → Findings → Result A SchemaFault → Type 0
 TakesGrammar i outer clauses old new (Ok done) = HasTable i outer clauses old new
@@ -230,22 +232,22 @@ pub record IsMidway (cells : List Cell) (root from : ℕ) (now : Findings) : Typ
   pub inner_known : (i j : ℕ) (c : Cell) → from ≤ i → IsStanding cells root i → IsCell cells i c → Contains (inner_nodes c) j →
       slice_index_or now.scopes j Nowhere ≢ Nowhere
   pub taken : (outers : List ℕ) (i : ℕ) (c : Cell) → from ≤ i → Stands cells root outers i → IsCell cells i c →
-      IsTaken cells now.combined outers i (slice_index now.links i) c
+      IsTaken cells now.combined outers i (combined_number (slice_index_or now.links i Nothing)) c
   pub each_combined : (number : ℕ) → number < length now.combined → IsOfGrammar cells root now.combined number
 
 -- ---- the numbers of elements
 
 -- the nodes' links, and the elements' nodes
 pub record Numbering : Type 0 where
-  pub links : List ℕ
+  pub links : List Target
   pub elements : List ℕ
 
-abbrev pub numbering_of : Vec ℕ Global → Vec ℕ Global → Numbering
+abbrev pub numbering_of : Vec Target Global → Vec ℕ Global → Numbering
 numbering_of links elements = record { links = links.items; elements = elements.items }
 
 -- an element has the next number
 abbrev pub with_number : ℕ → Cell → Numbering → Numbering
-with_number i (cell.element class part) now = record { links = set now.links i (length now.elements); elements = now.elements ++ i ∷ [] }
+with_number i (cell.element class part) now = record { links = set now.links i (Element (length now.elements)); elements = now.elements ++ i ∷ [] }
 with_number i c now = now
 
 -- if it stands somewhere
@@ -259,17 +261,18 @@ is_element (cell.element class part) = true
 is_element c = false
 
 -- an element with a number
-pub record IsElementOf (cells : List Cell) (scopes : List Scope) (links : List ℕ) (number i : ℕ) : Type 0 where
+pub record IsElementOf (cells : List Cell) (scopes : List Scope) (links : List Target) (number i : ℕ) : Type 0 where
   pub class : Class
   pub part : ℕ
   pub is_element : IsCell cells i (cell.element class part)
   pub stands : slice_index_or scopes i Nowhere ≢ Nowhere
-  pub linked : slice_index links i ≡ number
+  pub linked : element_number (slice_index_or links i Nothing) ≡ number
 
 -- the elements among the first nodes are numbered, and all other links are as they were
-pub record AreNumbered (cells : List Cell) (scopes : List Scope) (upto : ℕ) (old : List ℕ) (new : Numbering) : Type 0 where
+pub record AreNumbered (cells : List Cell) (scopes : List Scope) (upto : ℕ) (old : List Target) (new : Numbering) : Type 0 where
   pub all_links : length new.links ≡ length old
-  pub other_links : (i : ℕ) (c : Cell) → IsCell cells i c → is_element c ≡ false → slice_index new.links i ≡ slice_index old i
+  pub other_links : (i : ℕ) (c : Cell) → IsCell cells i c → is_element c ≡ false → slice_index_or new.links i Nothing ≡
+      slice_index_or old i Nothing
   pub numbered : (i : ℕ) (class : Class) (part : ℕ) → i < upto → slice_index_or scopes i Nowhere ≢ Nowhere →
-      IsCell cells i (cell.element class part) → slice_get new.elements (slice_index new.links i) ≡ Some i
+      IsCell cells i (cell.element class part) → slice_get new.elements (element_number (slice_index_or new.links i Nothing)) ≡ Some i
   pub each_number : (number i : ℕ) → slice_get new.elements number ≡ Some i → (i < upto) × IsElementOf cells scopes new.links number i

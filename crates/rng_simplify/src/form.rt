@@ -4,13 +4,13 @@ ghost use Rattle.std.specs.Prelude.{◌≡◌, ◌+◌, ◌<◌, ℕ, length, ma
 ghost use Rattle.rng_simplify.specs.Cells.{cell_of};
 ghost use Rattle.rng_simplify.specs.Forms.{join_of};
 ghost use Rattle.rng_simplify.specs.Forming.{IsKnown, IsRoom, IsInOrder, MakesCell, MakesCombined, JoinsAll, Makes, Places, MakesForms};
-ghost use Rattle.rng_simplify.specs.Resolving.{cell_leads, leads};
+ghost use Rattle.rng_simplify.specs.Resolving.{cell_leads, leads, combined_number};
 ghost use Rattle.rng_simplify.specs.Shown.{joined_of};
 
 use crate::fault::SchemaFault;
 use crate::node::{Node, NodeNumber, Sign};
 use crate::order::Place;
-use crate::resolve::{Combined, CombinedNumber, Resolved, Target};
+use crate::resolve::{Combined, Resolved, Target};
 use crate::shape::{Shape, ShapeNumber, Shapes};
 use rnc_parse::surface::Combine;
 use std::alloc::Global;
@@ -73,14 +73,14 @@ impl Forms {
         self.of[place]
     }
 
-    /// The shape of the combined definitions of this number, which stand behind so many nodes.
-    fn linked(&self, count: usize, number: CombinedNumber) -> ShapeNumber
-        requires { IsKnown self.now.shapes self.now.of.items (count + number) }
-        ensures { result ≡ slice_index self.now.of.items (count + number) }
+    /// The shape of the combined definitions to which a node leads. Such definitions stand behind so many nodes.
+    fn linked(&self, count: usize, link: Target) -> ShapeNumber
+        requires { IsKnown self.now.shapes self.now.of.items (count + combined_number link) }
+        ensures { result ≡ slice_index self.now.of.items (count + combined_number link) }
     {
         // Asking for the length shows that the sum fits.
         let _all = self.of.len();
-        self.of(count + number)
+        self.of(count + link.combined())
     }
 
     /// Gives a node or combined definitions their shape, where those of what it leads to are known.
@@ -124,12 +124,12 @@ impl Forms {
         link: Target,
         node: &Node,
     ) -> Result<ShapeNumber, SchemaFault>
-        requires { (j : ℕ) → Contains (cell_leads count link (cell_of node.now)) j → IsKnown self.old.shapes self.old.of.items j }
+        requires { (j : ℕ) → Contains (cell_leads count (combined_number link) (cell_of node.now)) j → IsKnown self.old.shapes self.old.of.items j }
         ensures made { MakesCell self.old.shapes self.new.shapes self.old.of.items count i link (cell_of node.now) result }
         ensures of_stays { self.new.of ≡ self.old.of }
     {
         match node {
-            Node::Element(_, _) => self.shapes.add(Shape::Ref(link)),
+            Node::Element(_, _) => self.shapes.add(Shape::Ref(link.element())),
             Node::Attribute(_, part) => {
                 let value = self.of(*part);
                 self.shapes.attribute(i, value)

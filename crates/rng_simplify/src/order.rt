@@ -124,7 +124,7 @@ fn next(whole: &Whole, found: &Resolved, node: Place, k: usize) -> Option<Place>
     if node < whole.nodes.len() {
         let here = &whole.nodes[node];
         if is_linked(here) {
-            only(whole.nodes.len() + found.links[node], k)
+            only(whole.nodes.len() + found.links[node].combined(), k)
         } else {
             part(here, k)
         }

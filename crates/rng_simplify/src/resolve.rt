@@ -9,7 +9,7 @@ ghost use Rattle.rng_simplify.specs.Broken.{is_alone as says_nothing};
 ghost use Rattle.rng_simplify.specs.Breaking.{cells_of, OkOrRefused};
 ghost use Rattle.rng_simplify.specs.Cells.{cell_of};
 ghost use Rattle.rng_simplify.specs.Keeping.{kept_for};
-ghost use Rattle.rng_simplify.specs.Resolving.{IsResolved};
+ghost use Rattle.rng_simplify.specs.Resolving.{IsResolved, combined_number, element_number};
 ghost use Rattle.rng_simplify.specs.Scoping.{AddsTo, both_say, HasSigns, IsGathered, GathersOne, Gathers, given};
 ghost use Rattle.rng_simplify.specs.Scoping.{with_given, findings_of, findings_at_first, outer_in, combined_in, Links};
 ghost use Rattle.rng_simplify.specs.Scoping.{TakesGrammar, TakesCell, IsMidway, numbering_of, with_number};
@@ -40,9 +40,41 @@ pub(crate) enum Scope {
 /// Combined definitions, by their place among all of them.
 pub(crate) type CombinedNumber = usize;
 
-/// To what a node leads beside its parts: a reference to the combined definitions of its name, by their number; a grammar to
-/// those of its start; an element to its definition, by its number in the grammar. Of other nodes it means nothing.
-pub(crate) type Target = usize;
+/// An element that stands in the schema, by its place among them. Its definition has that number in the grammar.
+pub(crate) type ElementNumber = usize;
+
+/// To what a node leads beside its parts.
+#[derive(Clone, Copy, Debug, PartialEq, Eq)]
+pub(crate) enum Target {
+    /// To nothing.
+    Nothing,
+    /// A reference to the combined definitions of its name, a grammar to those of its start.
+    Definitions(CombinedNumber),
+    /// An element to its own definition.
+    Element(ElementNumber),
+}
+
+impl Target {
+    /// The combined definitions to which a reference or a grammar leads. Nobody asks it of other nodes.
+    pub(crate) fn combined(self) -> CombinedNumber
+        ensures { result ≡ combined_number self }
+    {
+        match self {
+            Target::Definitions(number) => number,
+            Target::Nothing | Target::Element(_) => 0,
+        }
+    }
+
+    /// The number of an element that stands in the schema. Nobody asks it of other nodes.
+    pub(crate) fn element(self) -> ElementNumber
+        ensures { result ≡ element_number self }
+    {
+        match self {
+            Target::Element(number) => number,
+            Target::Nothing | Target::Definitions(_) => 0,
+        }
+    }
+}
 
 /// The definitions of one name in one grammar, combined.
 #[derive(Drop)]
@@ -123,8 +155,8 @@ fn numbered(
     alloc: Global,
     nodes: &[Node],
     scopes: &[Scope],
-    links: &mut Vec<usize>,
-) -> Result<Vec<usize>, NoMemory>
+    links: &mut Vec<Target>,
+) -> Result<Vec<NodeNumber>, NoMemory>
     requires within { length scopes.now ≡ length nodes.now }
     requires known { length links.old.items ≡ length nodes.now }
     ensures { IfOk result (λ elements. AreNumbered (map cell_of nodes.now) scopes.now (length nodes.now) links.old.items
@@ -142,8 +174,8 @@ fn number(
     i: usize,
     node: &Node,
     scope: Scope,
-    links: &mut Vec<usize>,
-    elements: &mut Vec<usize>,
+    links: &mut Vec<Target>,
+    elements: &mut Vec<NodeNumber>,
 ) -> Result<(), NoMemory>
     requires { i < length links.old.items }
     ensures { OnOk result (numbering_of links.new elements.new ≡ with_numbered i scope (cell_of node.now)
@@ -159,15 +191,15 @@ fn number(
 fn number_standing(
     i: usize,
     node: &Node,
-    links: &mut Vec<usize>,
-    elements: &mut Vec<usize>,
+    links: &mut Vec<Target>,
+    elements: &mut Vec<NodeNumber>,
 ) -> Result<(), NoMemory>
     requires { i < length links.old.items }
     ensures { OnOk result (numbering_of links.new elements.new ≡ with_number i (cell_of node.now) (numbering_of links.old elements.old)) }
 {
     match node {
         Node::Element(_, _) => {
-            links[i] = elements.len();
+            links[i] = Target::Element(elements.len());
             elements.push(i)?;
             Ok(())
         }
@@ -214,7 +246,7 @@ fn two_alone(has_alone: bool, combine: Combine) -> bool
 
 impl Combined {
     /// One definition alone.
-    fn of(alloc: Global, combine: Combine, body: usize) -> Result<Combined, NoMemory>
+    fn of(alloc: Global, combine: Combine, body: NodeNumber) -> Result<Combined, NoMemory>
         ensures { IfOk result (λ made. (made.bodies.items ≡ body ∷ []) × HasSigns (combine ∷ []) made) }
     {
         let mut bodies = Vec::new(alloc);
@@ -227,7 +259,7 @@ impl Combined {
     }
 
     /// Adds a definition behind those that are there.
-    fn add(&mut self, combine: Combine, body: usize) -> Result<(), SchemaFault>
+    fn add(&mut self, combine: Combine, body: NodeNumber) -> Result<(), SchemaFault>
         ensures { AddsTo combine body self.old self.new result }
     {
         if two_alone(self.has_alone, combine) {
@@ -248,7 +280,7 @@ impl Combined {
 /// Adds a definition to those of its name.
 fn gather(
     alloc: Global,
-    names: &mut Names<usize>,
+    names: &mut Names<CombinedNumber>,
     combined: &mut Vec<Combined>,
     clause: &Clause,
 ) -> Result<(), SchemaFault>
@@ -272,7 +304,7 @@ fn gathered(
     alloc: Global,
     combined: &mut Vec<Combined>,
     clauses: &[Clause],
-) -> Result<Names<usize>, SchemaFault>
+) -> Result<Names<CombinedNumber>, SchemaFault>
     ensures { Gathers clauses.now combined.old.items combined.new.items result }
 {
     let mut names = Names::new(alloc);
@@ -300,7 +332,7 @@ impl Resolver {
     {
         let mut scopes = filled(alloc, Scope::Nowhere, count)?;
         scopes[root] = Scope::Outside;
-        let links = filled(alloc, 0, count)?;
+        let links = filled(alloc, Target::Nothing, count)?;
         Ok(Resolver {
             alloc,
             tables: Vec::new(alloc),
@@ -404,7 +436,7 @@ impl Resolver {
     {
         match self.combined_of(scope, name) {
             Some(number) => {
-                self.links[i] = number;
+                self.links[i] = Target::Definitions(number);
                 Ok(())
             }
             None => Err(SchemaFault::Unreadable(Cause::NoDefinition)),
@@ -422,7 +454,7 @@ impl Resolver {
         match names.get(&Defined::Start).copied() {
             Some(start) => {
                 give(&mut self.scopes, clauses, scope);
-                self.links[i] = start;
+                self.links[i] = Target::Definitions(start);
                 self.tables.push(Table {
                     outer,
                     combined: names,

@@ -1,6 +1,8 @@
-use Rattle.std.proofs.Common.{◌≡◌, ◌-◌, ◌<◌, ◌≤◌, sym, ◌∙◌, length, arith}
+use Rattle.std.proofs.Common.{◌≡◌, ◌-◌, ◌<◌, ◌≤◌, sym, ap, ◌∙◌, length, arith}
 use Rattle.std.proofs.lemmas.List.{get_or_read, length-map}
 use Rattle.rng_simplify.specs.Cells.{cell_of}
+use Rattle.rng_simplify.specs.declared.resolve.Target.TheVariants.{Nothing}
+use Rattle.rng_simplify.specs.Resolving.{combined_number}
 use Rattle.rng_simplify.proofs.WalkTurns.{leads_linked, leads_parts, leads_bodies, link_fits, combination_there}
 use Rattle.rng_simplify.proofs.order.next.Goals as goal
 
@@ -10,7 +12,7 @@ overflow_add-len c =
     let links = c.args.found.now.links.items in
     let within : c.args.node < length nodes = omega (arith, c.if-node-len.true, c.len.ensures, c.args.whole.now.nodes.ok.0) in
     let known : c.args.node < length links = omega (arith, within, c.requires.resolved.all_links, length-map nodes cell_of) in
-    let link = get_or_read links c.args.node c.index.result.now known c.index.ensures 0 in
+    let link = c.combined.ensures ∙ ap combined_number (get_or_read links c.args.node c.index.result.now known c.index.ensures Nothing) in
     let fits = link_fits nodes c.args.whole.now.root c.args.found.now c.args.node c.index-here.result.now c.requires.formed c.requires.resolved c.requires.met within c.index-here.ensures (sym c.is_linked.ensures ∙ c.if-is_linked.true) in
     omega (arith, link, fits, c.requires.room, c.len-then-is_linked.ensures, c.args.whole.now.nodes.ok.0)
 
@@ -27,7 +29,7 @@ returns-then-is_linked-clause-next_is c =
     let links = c.args.found.now.links.items in
     let within : c.args.node < length nodes = omega (arith, c.if-node-len.true, c.len.ensures, c.args.whole.now.nodes.ok.0) in
     let known : c.args.node < length links = omega (arith, within, c.requires.resolved.all_links, length-map nodes cell_of) in
-    c.only.ensures ∙ leads_linked nodes c.args.found.now c.args.node c.index.result.now c.args.k c.index-here.result.now within c.index-here.ensures (sym c.is_linked.ensures ∙ c.if-is_linked.true) (get_or_read links c.args.node c.index.result.now known c.index.ensures 0) _ (omega (arith, c.len-then-is_linked.ensures, c.args.whole.now.nodes.ok.0))
+    c.only.ensures ∙ leads_linked nodes c.args.found.now c.args.node c.combined.result c.args.k c.index-here.result.now within c.index-here.ensures (sym c.is_linked.ensures ∙ c.if-is_linked.true) (c.combined.ensures ∙ ap combined_number (get_or_read links c.args.node c.index.result.now known c.index.ensures Nothing)) _ (omega (arith, c.len-then-is_linked.ensures, c.args.whole.now.nodes.ok.0))
 
 pub returns-else-is_linked-clause-next_is : goal.returns-else-is_linked-clause-next_is
 returns-else-is_linked-clause-next_is c =
