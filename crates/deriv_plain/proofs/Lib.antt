@@ -1,6 +1,6 @@
 mod Alike
 mod Joined
-mod Steady
-mod Needed
-mod Props
+pub mod Steady
+pub mod Needed
+pub mod Props
 mod Knowing

@@ -1,0 +1,93 @@
+//! Calls that are remembered.
+
+ghost use Rattle.std.specs.Prelude.{◌≡◌, ◌++◌};
+ghost use Rattle.std.specs.Cmp.{partial_equiv_from_equiv};
+ghost use Rattle.std.specs.Hash as fed;
+ghost use Rattle.deriv_memory.specs.Calls.{form_of, state_of, ns_of, local_of, same_asked, calls_laws, calls_hash};
+
+use std::hash::{Hash, Hasher};
+
+/// A call on a state, by the state's number. Names are two numbers: that of the namespace and that of the local part.
+#[derive(Clone, Copy, Debug)]
+pub enum Asked {
+    /// Behind the start of an element of this name.
+    Enter(usize, usize, usize),
+    /// Behind the end of a start tag.
+    TagEnd(usize),
+    /// Behind the end of an element.
+    Leave(usize),
+}
+
+impl Asked {
+    /// A number for each form.
+    fn form(&self) -> u8
+        ensures { result ≡ form_of self.now }
+    {
+        match self {
+            Asked::Enter(_, _, _) => 0,
+            Asked::TagEnd(_) => 1,
+            Asked::Leave(_) => 2,
+        }
+    }
+
+    /// The state that is asked.
+    pub fn state(&self) -> usize
+        ensures { result ≡ state_of self.now }
+    {
+        match self {
+            Asked::Enter(state, _, _) => *state,
+            Asked::TagEnd(state) => *state,
+            Asked::Leave(state) => *state,
+        }
+    }
+
+    /// The number of the name's namespace, where there is a name.
+    fn ns(&self) -> usize
+        ensures { result ≡ ns_of self.now }
+    {
+        match self {
+            Asked::Enter(_, ns, _) => *ns,
+            _ => 0,
+        }
+    }
+
+    /// The number of the name's local part, where there is a name.
+    fn local(&self) -> usize
+        ensures { result ≡ local_of self.now }
+    {
+        match self {
+            Asked::Enter(_, _, local) => *local,
+            _ => 0,
+        }
+    }
+}
+
+impl PartialEq for Asked {
+    ghost eq = { same_asked };
+
+    ghost laws = { partial_equiv_from_equiv calls_laws };
+
+    fn eq(&self, other: &Asked) -> bool {
+        self.form() == other.form()
+            && self.state() == other.state()
+            && self.ns() == other.ns()
+            && self.local() == other.local()
+    }
+}
+
+impl Eq for Asked {
+    ghost laws = { calls_laws };
+}
+
+impl Hash for Asked {
+    ghost hash_input = { λ a. fed.u8 (form_of a) ++ fed.usize (state_of a) ++ fed.usize (ns_of a) ++ fed.usize (local_of a) };
+
+    ghost respects_eq = { calls_hash };
+
+    fn hash<H: Hasher>(&self, state: &mut H) {
+        state.write_u8(self.form());
+        state.write_usize(self.state());
+        state.write_usize(self.ns());
+        state.write_usize(self.local());
+    }
+}

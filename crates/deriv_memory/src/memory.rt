@@ -1,0 +1,118 @@
+//! Texts and answers that are kept.
+
+ghost use Rattle.std.specs.Prelude.{◌≡◌, ℕ, [], Some, None, Option, IfOk, IfSome, IfNone, OnOk, OnErr};
+ghost use Rattle.deriv_memory.specs.declared.asked.Asked.{Asked as TheAsked};
+ghost use Rattle.deriv_memory.specs.Remembered.{noted, IsText, IsName, AreOnce, LaterMemory, IsNoted};
+
+use crate::asked::Asked;
+use indexmap::{IndexMap, IndexSet};
+use nx_base::memory::NoMemory;
+use nx_base::name::Name;
+use std::alloc::Global;
+use std::marker::Model;
+
+/// The parts of names, each once, and what calls answered. Nothing is taken out.
+#[derive(Drop)]
+pub struct Memory {
+    texts: IndexSet<Vec<u8>>,
+    answers: IndexMap<Asked, Option<usize>>,
+}
+
+impl Model for Memory {
+    ghost use Rattle.std.specs.Prelude.{map};
+    ghost use Rattle.deriv_memory.specs.Remembered.{Remembered, AreOnce};
+
+    ghost Value = { Remembered };
+
+    ghost view = { λ m. record { texts = map (λ t. t.items) m.texts.keys; answers = m.answers.entries } };
+
+    ghost invariant = { λ m. AreOnce (map (λ t. t.items) m.texts.keys) };
+}
+
+impl Memory {
+    /// Nothing kept, nothing noted.
+    pub fn new(alloc: Global) -> Memory
+        ensures texts { result.texts ≡ [] }
+        ensures answers { (call : TheAsked) → noted result call ≡ None }
+    {
+        Memory {
+            texts: IndexSet::new(alloc),
+            answers: IndexMap::new(alloc),
+        }
+    }
+
+    /// The number of a text, if it is kept.
+    pub fn text_number(&self, text: &[u8]) -> Option<usize>
+        ensures once { AreOnce self.now.texts }
+        ensures found { IfSome result (IsText self.now.texts text.now) }
+        ensures none { IfNone result ((i : ℕ) → IsText self.now.texts text.now i → ⊥) }
+    {
+        self.texts.get_index_of(text)
+    }
+
+    /// The number of a text, which is kept where it is new.
+    pub fn keep_text(&mut self, alloc: Global, text: &[u8]) -> Result<usize, NoMemory>
+        ensures once { AreOnce self.new.texts }
+        ensures later { LaterMemory self.old self.new }
+        ensures answers { self.new.answers ≡ self.old.answers }
+        ensures made { IfOk result (IsText self.new.texts text.now) }
+    {
+        match self.text_number(text) {
+            Some(number) => Ok(number),
+            None => self.add_text(alloc, text),
+        }
+    }
+
+    /// The number of a text that comes last.
+    fn add_text(&mut self, alloc: Global, text: &[u8]) -> Result<usize, NoMemory>
+        ensures once { AreOnce self.new.texts }
+        ensures later { LaterMemory self.old self.new }
+        ensures answers { self.new.answers ≡ self.old.answers }
+        ensures made { IfOk result (IsText self.new.texts text.now) }
+    {
+        let (number, _) = self.texts.insert_full(Vec::from_slice(alloc, text)?)?;
+        Ok(number)
+    }
+
+    /// The numbers of a name's parts, if both are kept.
+    pub fn number_of_name(&self, name: &Name) -> Option<(usize, usize)>
+        ensures once { AreOnce self.now.texts }
+        ensures found { IfSome result (IsName self.now.texts name.now) }
+        ensures none { IfNone result ((ns local : ℕ) → IsName self.now.texts name.now (ns, local) → ⊥) }
+    {
+        let ns = self.text_number(name.ns.as_slice())?;
+        let local = self.text_number(name.local.as_slice())?;
+        Some((ns, local))
+    }
+
+    /// The numbers of a name's parts, which are kept where they are new.
+    pub fn keep_name(&mut self, alloc: Global, name: &Name) -> Result<(usize, usize), NoMemory>
+        ensures once { AreOnce self.new.texts }
+        ensures later { LaterMemory self.old self.new }
+        ensures answers { self.new.answers ≡ self.old.answers }
+        ensures made { IfOk result (IsName self.new.texts name.now) }
+    {
+        let ns = self.keep_text(alloc, name.ns.as_slice())?;
+        let local = self.keep_text(alloc, name.local.as_slice())?;
+        Ok((ns, local))
+    }
+
+    /// What was noted of a call.
+    pub fn recalled(&self, call: Asked) -> Option<Option<usize>>
+        ensures { result ≡ noted self.now call }
+    {
+        match self.answers.get(&call) {
+            Some(answer) => Some(*answer),
+            None => None,
+        }
+    }
+
+    /// Notes what a call answers.
+    pub fn note(&mut self, call: Asked, answer: Option<usize>) -> Result<(), NoMemory>
+        ensures made { OnOk result (IsNoted self.old self.new call answer) }
+        ensures refused { OnErr result (self.new ≡ self.old) }
+    {
+        self.answers.insert(call, answer)?;
+        Ok(())
+    }
+}

@@ -1,0 +1,4 @@
+pub mod Fits
+pub mod Knowing
+pub mod Needing
+pub mod Remembering

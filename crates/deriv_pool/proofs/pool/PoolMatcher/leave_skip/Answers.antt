@@ -1,0 +1,8 @@
+use Rattle.rng_live.specs.Schemas.{schema_language}
+use Rattle.deriv_pool.proofs.Remembering.{answers_on}
+use Rattle.deriv_pool.proofs.pool.PoolMatcher.leave_skip.Goals as goal
+
+pub invariant_of-self-clause-right : goal.invariant_of-self-clause-right
+invariant_of-self-clause-right c =
+    let m = c.args.self.now in
+    answers_on (schema_language m.schema).definitions m.states c.given.new.states m.memory c.given.ensures.later m.right

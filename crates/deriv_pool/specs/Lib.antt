@@ -1,0 +1,4 @@
+pub mod Later
+pub mod Laws
+pub mod Meaning
+pub mod Remembering

@@ -1,0 +1,234 @@
+//! Calls whose answers are kept.
+
+ghost use Rattle.std.specs.Prelude.{◌≡◌, ◌<◌, length, map, [], true, is_some, IfOk, IfSome, IfNone, OnOk};
+ghost use Rattle.rng_core.specs.Meaning.{definition_of};
+ghost use Rattle.rng_kept.specs.Content as content;
+ghost use Rattle.rng_kept.specs.Entering as entering;
+ghost use Rattle.rng_kept.specs.Merging as merging;
+ghost use Rattle.rng_kept.specs.Tags as tags;
+ghost use Rattle.rng_live.specs.Calls.{Answers, call_enter, call_leave, call_tag_end};
+ghost use Rattle.deriv_memory.specs.Calls.{state_of};
+ghost use Rattle.deriv_memory.specs.Remembered.{noted, IsName};
+ghost use Rattle.deriv_states.specs.Places.{AreContents, LaterPlaces, state_in};
+ghost use Rattle.deriv_states.specs.Steps.{HasContents, way_step};
+ghost use Rattle.deriv_pool.specs.Meaning.{IsState, means_in};
+ghost use Rattle.deriv_pool.specs.Remembering.{AreAnswers, IsAsked, KeepsNoted, Remembers, as_states, behind};
+ghost use Rattle.rng_kept.specs.Residuals.{Residual};
+
+use crate::state::{PoolState, answer};
+use deriv_memory::asked::Asked;
+use deriv_memory::memory::Memory;
+use deriv_states::states::States;
+use deriv_states::step::Step;
+use nx_base::memory::NoMemory;
+use nx_base::name::Name;
+use rng_core::grammar::Def;
+use std::alloc::Global;
+
+/// An answer that was kept, as a state.
+fn as_state(kept: Option<usize>) -> Option<PoolState>
+    ensures { result ≡ as_states kept }
+{
+    match kept {
+        Some(number) => Some(PoolState { number }),
+        None => None,
+    }
+}
+
+/// An answer as it is kept.
+fn as_number(given: Option<PoolState>) -> Option<usize>
+    ensures { as_states result ≡ given }
+{
+    match given {
+        Some(state) => Some(state.number),
+        None => None,
+    }
+}
+
+/// What is kept of a call.
+fn recalled(
+    states: &States,
+    memory: &Memory,
+    defs: &[Def],
+    call: Asked,
+) -> Option<Option<PoolState>>
+    requires { ∥ AreAnswers (map definition_of defs.now) states.now memory.now ∥₁ }
+    ensures found { IfSome result (Answers (IsState states.now) (means_in states.now)
+        (merging.answered (behind (map definition_of defs.now) memory.now.texts call (state_in states.now.states (state_of call))))) }
+    ensures kept { is_some result ≡ is_some (noted memory.now call) }
+{
+    let kept = memory.recalled(call)?;
+    Some(as_state(kept))
+}
+
+/// What is kept of the start of an element.
+pub(crate) fn recalled_enter(
+    states: &States,
+    memory: &Memory,
+    defs: &[Def],
+    state: PoolState,
+    name: &Name,
+) -> Option<Option<PoolState>>
+    requires state { IsState states.now state }
+    requires right { ∥ AreAnswers (map definition_of defs.now) states.now memory.now ∥₁ }
+    ensures found { IfSome result (Answers (IsState states.now) (means_in states.now)
+        (merging.answered (entering.enter (map definition_of defs.now) name.now (means_in states.now state)))) }
+    ensures kept { IfSome result (λ answer. Remembers states.now memory.now (means_in states.now state) (call_enter name.now)) }
+    ensures none { IfNone result (Remembers states.now memory.now (means_in states.now state) (call_enter name.now) → ⊥) }
+{
+    states.no_doubles();
+    let (ns, local) = memory.number_of_name(name)?;
+    recalled(states, memory, defs, Asked::Enter(state.number, ns, local))
+}
+
+/// What is kept of the end of a start tag.
+pub(crate) fn recalled_tag_end(
+    states: &States,
+    memory: &Memory,
+    defs: &[Def],
+    state: PoolState,
+) -> Option<Option<PoolState>>
+    requires state { IsState states.now state }
+    requires right { ∥ AreAnswers (map definition_of defs.now) states.now memory.now ∥₁ }
+    ensures found { IfSome result (Answers (IsState states.now) (means_in states.now)
+        (merging.answered (tags.tag_end (means_in states.now state)))) }
+    ensures kept { IfSome result (λ answer. Remembers states.now memory.now (means_in states.now state) call_tag_end) }
+    ensures none { IfNone result (Remembers states.now memory.now (means_in states.now state) call_tag_end → ⊥) }
+{
+    states.no_doubles();
+    recalled(states, memory, defs, Asked::TagEnd(state.number))
+}
+
+/// What is kept of the end of an element.
+pub(crate) fn recalled_leave(
+    states: &States,
+    memory: &Memory,
+    defs: &[Def],
+    state: PoolState,
+) -> Option<Option<PoolState>>
+    requires state { IsState states.now state }
+    requires right { ∥ AreAnswers (map definition_of defs.now) states.now memory.now ∥₁ }
+    ensures found { IfSome result (Answers (IsState states.now) (means_in states.now)
+        (merging.answered (content.leave (means_in states.now state)))) }
+    ensures kept { IfSome result (λ answer. Remembers states.now memory.now (means_in states.now state) call_leave) }
+    ensures none { IfNone result (Remembers states.now memory.now (means_in states.now state) call_leave → ⊥) }
+{
+    states.no_doubles();
+    recalled(states, memory, defs, Asked::Leave(state.number))
+}
+
+/// What a call answers, which is kept.
+pub(crate) fn noted_answer(
+    alloc: Global,
+    states: &mut States,
+    memory: &mut Memory,
+    defs: &[Def],
+    call: Asked,
+    step: &Step,
+    state: PoolState,
+) -> Result<Option<PoolState>, NoMemory>
+    requires state { IsState states.old state }
+    requires contents { HasContents states.old step.now }
+    requires right { ∥ AreAnswers (map definition_of defs.now) states.old memory.old ∥₁ }
+    requires of { state_of call ≡ state.number }
+    requires asked { IsAsked states.old memory.old.texts call }
+    requires behind { (x : Residual) → merging.stepped (way_step step.now) [] x ≡ behind (map definition_of defs.now) memory.old.texts call x }
+    ensures later { LaterPlaces states.old states.new }
+    ensures texts { memory.new.texts ≡ memory.old.texts }
+    ensures keeps { KeepsNoted memory.old memory.new }
+    ensures right { ∥ AreAnswers (map definition_of defs.now) states.new memory.new ∥₁ }
+    ensures gives { IfOk result (Answers (IsState states.new) (means_in states.new)
+        (merging.answered (behind (map definition_of defs.now) memory.old.texts call (means_in states.old state)))) }
+    ensures kept { OnOk result (is_some (noted memory.new call) ≡ true) }
+{
+    let found = answer(alloc, states, step, state)?;
+    memory.note(call, as_number(found))?;
+    Ok(found)
+}
+
+/// Behind the start of an element, which is kept.
+pub(crate) fn entered(
+    alloc: Global,
+    states: &mut States,
+    memory: &mut Memory,
+    defs: &[Def],
+    state: PoolState,
+    name: &Name,
+) -> Result<Option<PoolState>, NoMemory>
+    requires state { IsState states.old state }
+    requires contents { AreContents states.old (map definition_of defs.now) }
+    requires right { ∥ AreAnswers (map definition_of defs.now) states.old memory.old ∥₁ }
+    ensures later { LaterPlaces states.old states.new }
+    ensures keeps { KeepsNoted memory.old memory.new }
+    ensures right { ∥ AreAnswers (map definition_of defs.now) states.new memory.new ∥₁ }
+    ensures gives { IfOk result (Answers (IsState states.new) (means_in states.new)
+        (merging.answered (entering.enter (map definition_of defs.now) name.now (means_in states.old state)))) }
+    ensures kept { OnOk result (Remembers states.new memory.new (means_in states.old state) (call_enter name.now)) }
+{
+    let (ns, local) = memory.keep_name(alloc, name)?;
+    noted_answer(
+        alloc,
+        states,
+        memory,
+        defs,
+        Asked::Enter(state.number, ns, local),
+        &Step::Enter(defs, name),
+        state,
+    )
+}
+
+/// Behind the end of a start tag, which is kept.
+pub(crate) fn tag_ended(
+    alloc: Global,
+    states: &mut States,
+    memory: &mut Memory,
+    defs: &[Def],
+    state: PoolState,
+) -> Result<Option<PoolState>, NoMemory>
+    requires state { IsState states.old state }
+    requires right { ∥ AreAnswers (map definition_of defs.now) states.old memory.old ∥₁ }
+    ensures later { LaterPlaces states.old states.new }
+    ensures keeps { KeepsNoted memory.old memory.new }
+    ensures right { ∥ AreAnswers (map definition_of defs.now) states.new memory.new ∥₁ }
+    ensures gives { IfOk result (Answers (IsState states.new) (means_in states.new)
+        (merging.answered (tags.tag_end (means_in states.old state)))) }
+    ensures kept { OnOk result (Remembers states.new memory.new (means_in states.old state) call_tag_end) }
+{
+    noted_answer(
+        alloc,
+        states,
+        memory,
+        defs,
+        Asked::TagEnd(state.number),
+        &Step::TagEnd,
+        state,
+    )
+}
+
+/// Behind the end of an element, which is kept.
+pub(crate) fn left(
+    alloc: Global,
+    states: &mut States,
+    memory: &mut Memory,
+    defs: &[Def],
+    state: PoolState,
+) -> Result<Option<PoolState>, NoMemory>
+    requires state { IsState states.old state }
+    requires right { ∥ AreAnswers (map definition_of defs.now) states.old memory.old ∥₁ }
+    ensures later { LaterPlaces states.old states.new }
+    ensures keeps { KeepsNoted memory.old memory.new }
+    ensures right { ∥ AreAnswers (map definition_of defs.now) states.new memory.new ∥₁ }
+    ensures gives { IfOk result (Answers (IsState states.new) (means_in states.new)
+        (merging.answered (content.leave (means_in states.old state)))) }
+    ensures kept { OnOk result (Remembers states.new memory.new (means_in states.old state) call_leave) }
+{
+    noted_answer(
+        alloc,
+        states,
+        memory,
+        defs,
+        Asked::Leave(state.number),
+        &Step::Leave,
+        state,
+    )
+}
