@@ -54,7 +54,8 @@ status_of answers =
     else (if list_any is_refusal answers then Refused else Done)
 
 -- what was asked for: the script was played to its end, from a new editor, and the texts of all replies were written
-pub record IsWhole (asked : CommandLine) (script : List ℕ) (old new : Surroundings) (before after : Option (List ℕ)) (status : Status) : Type 0 where
+pub record IsWhole (asked : CommandLine) (script : List ℕ)
+    (old new : Surroundings) (before after : Option (List ℕ)) (status : Status) : Type 0 where
   pub answers : List Reply
   pub end_world : World
   pub played : Plays (begun_in asked.rules old) (turns_of asked.schema script) answers end_world

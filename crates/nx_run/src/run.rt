@@ -37,7 +37,8 @@ pub fn run<F: Files, O: Out, L: Ledger>(
     steps: &mut Steps<L>,
 ) -> Status
     requires { Unit {0} }
-    ensures { IsRunOf words.now (surroundings (files_state (F.told files.old) (F.faults files.old)) (map (λ b. state b) views.old.items) steps.old)
+    ensures { IsRunOf words.now (surroundings (files_state (F.told files.old) (F.faults files.old))
+        (map (λ b. state b) views.old.items) steps.old)
         (surroundings (files_state (F.told files.new) (F.faults files.new)) (map (λ b. state b) views.new.items) steps.new)
         (out_state (O.told out.old) (O.faults out.old)) (out_state (O.told out.new) (O.faults out.new)) result }
 {

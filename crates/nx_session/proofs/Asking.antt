@@ -2,7 +2,7 @@
 use Rattle.std.proofs.Common.{◌≡◌, ℕ, zero, suc, ◌-◌, ◌<◌, ◌≤◌, ◌⊎◌, List, Option, Result, Ok, Err, refl, subst, inl, inr, arith}
 use Rattle.std.specs.Prelude.{IfOk, IfSome}
 use Rattle.std.specs.Str.{IsUtf8}
-use Rattle.deriv_plain.specs.declared.plain.Plain.{Plain}
+use Rattle.deriv_pool.specs.declared.pool.Pool.{Pool}
 use Rattle.nx_base.specs.Rules.{Rules}
 use Rattle.nx_base.specs.declared.offer.Offers.{Offers}
 use Rattle.nx_complete.specs.Walking.{IsBehind}
@@ -34,7 +34,7 @@ behind_tokens is_state means r text at kept place state h = record {
 }
 
 -- what is offered against a sound schema is text
-pub offers_print : {E : Type 0} → (matcher : Option Plain) → IfSome (followed matcher) IsLive → IfSome (grammar_of matcher) IsSound → (text : List ℕ) → IsUtf8 text → (at : ℕ) (answer : Result Offers E)
+pub offers_print : {E : Type 0} → (matcher : Option Pool) → IfSome (followed matcher) IsLive → IfSome (grammar_of matcher) IsSound → (text : List ℕ) → IsUtf8 text → (at : ℕ) (answer : Result Offers E)
     → (IfSome (followed matcher) IsLive → IfOk answer (OffersOf (followed matcher) text at)) → IfOk answer OffersAreText
 offers_print matcher live sound text utf8 at (Ok answer) h =
     let Q : Option Language → Type 0 = λ o. OffersOf o text at answer in

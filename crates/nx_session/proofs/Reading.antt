@@ -5,8 +5,8 @@ use Rattle.std.specs.Prelude.{IfSome}
 use Rattle.std.specs.Str.{IsUtf8}
 use Rattle.std.proofs.lemmas.Bool.{cases_lt, le-leb, lt-leb}
 use Rattle.std.proofs.lemmas.Str.{IsCharBoundary-start, IsUtf8-between}
-use Rattle.deriv_plain.specs.declared.plain.Plain.{Plain}
-use Rattle.deriv_plain.specs.declared.ways.OneWay.{OneWay}
+use Rattle.deriv_pool.specs.Later as pool
+use Rattle.deriv_pool.specs.declared.pool.Pool.{Pool}
 use Rattle.nx_base.specs.Running.{machine_faults}
 use Rattle.nx_base.specs.Text.{IsPlace}
 use Rattle.nx_base.specs.Tokens.{IsOfKind, cut, end_of, tokens_within, tokens_of}
@@ -33,45 +33,45 @@ use Rattle.rng_kept.specs.Live.{IsLive}
 -- ---- reading leaves the schema
 
 -- a machine is later than another where their matchers are
-abbrev pub IsLater : Option Plain → Option Plain → Type 0
-IsLater old new = later_by (λ (a b : Plain). b.schema ≡ a.schema) old new
+abbrev pub IsLater : Option Pool → Option Pool → Type 0
+IsLater old new = later_by pool.IsLater old new
 
-pub later_grammar : (old new : Option Plain) → IsLater old new → grammar_of new ≡ grammar_of old
+pub later_grammar : (old new : Option Pool) → IsLater old new → grammar_of new ≡ grammar_of old
 later_grammar None None h = refl
-later_grammar (Some a) (Some b) h = ap (λ s. Some s.grammar) h
+later_grammar (Some a) (Some b) h = ap (λ s. Some s.grammar) h.schema
 later_grammar None (Some b) h = absurd h
 later_grammar (Some a) None h = absurd h
 
-later_followed : (old new : Option Plain) → IsLater old new → followed new ≡ followed old
+later_followed : (old new : Option Pool) → IsLater old new → followed new ≡ followed old
 later_followed None None h = refl
-later_followed (Some a) (Some b) h = ap (λ s. Some (language_of s.grammar)) h
+later_followed (Some a) (Some b) h = ap (λ s. Some (language_of s.grammar)) h.schema
 later_followed None (Some b) h = absurd h
 later_followed (Some a) None h = absurd h
 
-pub later_live : (old new : Option Plain) → IsLater old new → IfSome (followed old) IsLive → IfSome (followed new) IsLive
+pub later_live : (old new : Option Pool) → IsLater old new → IfSome (followed old) IsLive → IfSome (followed new) IsLive
 later_live old new h live =
     let P : Option Language → Type 0 = λ o. IfSome o IsLive in
     subst P (sym (later_followed old new h)) live
 
-pub later_sound : (old new : Option Plain) → IsLater old new → IfSome (grammar_of old) IsSound → IfSome (grammar_of new) IsSound
+pub later_sound : (old new : Option Pool) → IsLater old new → IfSome (grammar_of old) IsSound → IfSome (grammar_of new) IsSound
 later_sound old new h sound =
     let P : Option Grammar → Type 0 = λ o. IfSome o IsSound in
     subst P (sym (later_grammar old new h)) sound
 
 -- ---- the machine finds the faults of the text
 
-pub schema_followed : (matcher : Option Plain) → followed matcher ≡ option_map language_of (grammar_of matcher)
+pub schema_followed : (matcher : Option Pool) → followed matcher ≡ option_map language_of (grammar_of matcher)
 schema_followed None = refl
-schema_followed (Some plain) = refl
+schema_followed (Some matcher) = refl
 
-pub are_faults : (text : List ℕ) (matcher : Option Plain) (faults : List Fault) → IsUtf8 text → IfSome (followed matcher) IsLive
+pub are_faults : (text : List ℕ) (matcher : Option Pool) (faults : List Fault) → IsUtf8 text → IfSome (followed matcher) IsLive
     → faults ≡ machine_faults (recover_rules (followed matcher)) text → AreFaultsOf (option_map language_of (grammar_of matcher)) text faults
 are_faults text matcher faults utf8 live found =
     let P : List Fault → Type 0 = λ all. AreFaultsOf (followed matcher) text all in
     let Q : Option Language → Type 0 = λ o. AreFaultsOf o text faults in
     subst Q (schema_followed matcher) (subst P (sym found) (recover_gives_faults (followed matcher) text live utf8))
 
-pub details_text : (text : List ℕ) (matcher : Option Plain) (faults : List Fault) → IsUtf8 text → IfSome (followed matcher) IsLive
+pub details_text : (text : List ℕ) (matcher : Option Pool) (faults : List Fault) → IsUtf8 text → IfSome (followed matcher) IsLive
     → faults ≡ machine_faults (recover_rules (followed matcher)) text → AllByRecursion (λ (fault : Fault). IsUtf8 fault.detail) faults
 details_text text matcher faults utf8 live found =
     let P : List Fault → Type 0 = λ all. AreFaultsOf (followed matcher) text all in

@@ -18,7 +18,7 @@ mod validating;
 mod viewing;
 
 use crate::document_uri::DocumentUri;
-use deriv_plain::plain::Plain;
+use deriv_pool::pool::Pool;
 use nx_base::memory::NoMemory;
 use nx_base::sequence::Bytes;
 use nx_base::steps::Steps;
@@ -49,9 +49,9 @@ pub struct Session {
     /// The URI text of the rules by which schemas are located.
     rules: Option<Bytes>,
     /// Reads the text for its faults.
-    machine: Recover<Plain>,
+    machine: Recover<Pool>,
     /// How far it has read.
-    marks: Marks<Recover<Plain>>,
+    marks: Marks<Recover<Pool>>,
 }
 
 impl Model for Session {
@@ -129,7 +129,8 @@ impl Session {
         steps: &mut Steps<L>,
     ) -> Reply
         requires { HasUtf8Texts command.now }
-        ensures step { Step (world self.old (files_state (F.told files.old) (F.faults files.old)) (map (λ b. state b) views.old.items) steps.old) command.now result
+        ensures step { Step (world self.old (files_state (F.told files.old) (F.faults files.old))
+            (map (λ b. state b) views.old.items) steps.old) command.now result
             (world self.new (files_state (F.told files.new) (F.faults files.new)) (map (λ b. state b) views.new.items) steps.new) }
         ensures text { ViewsAreText (map (λ b. state b) views.old.items) → ReplyIsText result }
         ensures views { ViewsAreText (map (λ b. state b) views.old.items) → ViewsAreText (map (λ b. state b) views.new.items) }
@@ -149,8 +150,10 @@ impl Session {
         steps: &mut Steps<L>,
     ) -> Result<Reply, Refusal>
         requires { HasUtf8Texts command.now }
-        ensures step { Step (world self.old (files_state (F.told files.old) (F.faults files.old)) (map (λ b. state b) views.old.items) steps.old) command.now
-            (reply_of result) (world self.new (files_state (F.told files.new) (F.faults files.new)) (map (λ b. state b) views.new.items) steps.new) }
+        ensures step { Step (world self.old (files_state (F.told files.old) (F.faults files.old))
+            (map (λ b. state b) views.old.items) steps.old) command.now
+            (reply_of result) (world self.new (files_state (F.told files.new) (F.faults files.new))
+            (map (λ b. state b) views.new.items) steps.new) }
         ensures text { ViewsAreText (map (λ b. state b) views.old.items) → ReplyIsText (reply_of result) }
         ensures views { ViewsAreText (map (λ b. state b) views.old.items) → ViewsAreText (map (λ b. state b) views.new.items) }
     {

@@ -53,7 +53,8 @@ impl Session {
         requires { IsUtf8 uri_text.now }
         ensures step { OpenStep uri_text.now self.old (files_state (F.told files.old) (F.faults files.old)) (reply_of result)
             self.new (files_state (F.told files.new) (F.faults files.new)) }
-        ensures views { MovesViews (whole_edit self.old self.new) (map (λ b. state b) views.old.items) (reply_of result) (map (λ b. state b) views.new.items) }
+        ensures views { MovesViews (whole_edit self.old self.new) (map (λ b. state b) views.old.items) (reply_of result)
+            (map (λ b. state b) views.new.items) }
         ensures views_text { ViewsAreText (map (λ b. state b) views.old.items) → ViewsAreText (map (λ b. state b) views.new.items) }
         ensures text { ReplyIsText (reply_of result) }
     {
@@ -74,7 +75,8 @@ impl Session {
         requires utf8 { IsUtf8 uri }
         requires ascii { IsAscii uri }
         ensures step { OpensBytes uri bytes.now self.old (reply_of result) self.new }
-        ensures views { MovesViews (whole_edit self.old self.new) (map (λ b. state b) views.old.items) (reply_of result) (map (λ b. state b) views.new.items) }
+        ensures views { MovesViews (whole_edit self.old self.new) (map (λ b. state b) views.old.items) (reply_of result)
+            (map (λ b. state b) views.new.items) }
         ensures views_text { ViewsAreText (map (λ b. state b) views.old.items) → ViewsAreText (map (λ b. state b) views.new.items) }
         ensures text { ReplyIsText (reply_of result) }
     {
@@ -95,7 +97,8 @@ impl Session {
         views: &mut Vec<Box<dyn View>>,
     ) -> Result<Reply, Refusal>
         ensures step { MakeStep seed pieces self.old (reply_of result) self.new }
-        ensures views { MovesViews (whole_edit self.old self.new) (map (λ b. state b) views.old.items) (reply_of result) (map (λ b. state b) views.new.items) }
+        ensures views { MovesViews (whole_edit self.old self.new) (map (λ b. state b) views.old.items) (reply_of result)
+            (map (λ b. state b) views.new.items) }
         ensures views_text { ViewsAreText (map (λ b. state b) views.old.items) → ViewsAreText (map (λ b. state b) views.new.items) }
         ensures text { ReplyIsText (reply_of result) }
     {
@@ -107,7 +110,8 @@ impl Session {
     /// Replaces the whole text.
     fn show(&mut self, text: Text, views: &mut Vec<Box<dyn View>>)
         ensures editor { self.new ≡ opened self.old self.old.document text }
-        ensures views { (map (λ b. state b) views.new.items) ≡ map (moved_view (whole_edit self.old self.new)) (map (λ b. state b) views.old.items) }
+        ensures views { (map (λ b. state b) views.new.items) ≡ map (moved_view (whole_edit self.old self.new))
+            (map (λ b. state b) views.old.items) }
     {
         let edit = Edit {
             from: 0,

@@ -7,7 +7,7 @@ ghost use Rattle.nx_session.specs.Editing.{InsertStep, DeleteStep, PrintStep};
 ghost use Rattle.nx_session.specs.Viewing.{MovesViews, ViewsAreText};
 
 use super::Session;
-use deriv_plain::plain::Plain;
+use deriv_pool::pool::Pool;
 use nx_base::edit::{Edit, edited_keeps_rest, moved};
 use nx_base::memory::NoMemory;
 use nx_base::sequence::Bytes;
@@ -40,7 +40,8 @@ impl Session {
     ) -> Result<Reply, Refusal>
         requires { IsUtf8 added.now }
         ensures step { InsertStep at added.now self.old (reply_of result) self.new }
-        ensures views { MovesViews (edit_of at at added.now) (map (λ b. state b) views.old.items) (reply_of result) (map (λ b. state b) views.new.items) }
+        ensures views { MovesViews (edit_of at at added.now) (map (λ b. state b) views.old.items) (reply_of result)
+            (map (λ b. state b) views.new.items) }
         ensures views_text { ViewsAreText (map (λ b. state b) views.old.items) → ViewsAreText (map (λ b. state b) views.new.items) }
         ensures text { ReplyIsText (reply_of result) }
     {
@@ -55,7 +56,7 @@ impl Session {
                 };
                 let _new_len = self.text.len();
                 edited_keeps_rest();
-                frontier_is_border::<Recover<Plain>>();
+                frontier_is_border::<Recover<Pool>>();
                 self.marks.edit(&edit);
                 self.caret = moved_caret(self.caret, &edit);
                 shift_all(views, &edit);
@@ -74,7 +75,8 @@ impl Session {
         views: &mut Vec<Box<dyn View>>,
     ) -> Result<Reply, Refusal>
         ensures step { DeleteStep from to self.old (reply_of result) self.new }
-        ensures views { MovesViews (edit_of from to []) (map (λ b. state b) views.old.items) (reply_of result) (map (λ b. state b) views.new.items) }
+        ensures views { MovesViews (edit_of from to []) (map (λ b. state b) views.old.items) (reply_of result)
+            (map (λ b. state b) views.new.items) }
         ensures views_text { ViewsAreText (map (λ b. state b) views.old.items) → ViewsAreText (map (λ b. state b) views.new.items) }
         ensures text { ReplyIsText (reply_of result) }
     {
@@ -85,7 +87,7 @@ impl Session {
                 let edit = Edit { from, to, added: 0 };
                 let _new_len = self.text.len();
                 edited_keeps_rest();
-                frontier_is_border::<Recover<Plain>>();
+                frontier_is_border::<Recover<Pool>>();
                 self.marks.edit(&edit);
                 self.caret = moved_caret(self.caret, &edit);
                 shift_all(views, &edit);

@@ -14,7 +14,7 @@ ghost use Rattle.rng_core.specs.Meaning.{language_of};
 ghost use Rattle.rng_core.specs.Soundness.{IsSound};
 ghost use Rattle.rng_kept.specs.Live.{IsLive};
 
-use deriv_plain::plain::Plain;
+use deriv_pool::pool::Pool;
 use nx_base::fault::Faults;
 use nx_base::memory::NoMemory;
 use nx_base::offer::Offers;
@@ -31,8 +31,8 @@ use std::sync::ledger::Ledger;
 /// Before the first token of whatever text.
 pub(super) fn begun(
     alloc: Global,
-    machine: &mut Recover<Plain>,
-) -> Result<Marks<Recover<Plain>>, NoMemory>
+    machine: &mut Recover<Pool>,
+) -> Result<Marks<Recover<Pool>>, NoMemory>
     requires live { IfSome (followed machine.old.matcher) IsLive }
     requires sound { IfSome (grammar_of machine.old.matcher) IsSound }
     ensures well { IfOk result (λ marks. (text : List ℕ) → IsUtf8 text → IsWellKept text machine.new.matcher marks.kept) }
@@ -46,8 +46,8 @@ pub(super) fn begun(
 
 /// Reads the text to its end.
 pub(super) fn caught_up<L: Ledger>(
-    machine: &mut Recover<Plain>,
-    marks: &mut Marks<Recover<Plain>>,
+    machine: &mut Recover<Pool>,
+    marks: &mut Marks<Recover<Pool>>,
     text: &Text,
     steps: &mut Steps<L>,
 ) -> Result<(), NoMemory>
@@ -60,15 +60,15 @@ pub(super) fn caught_up<L: Ledger>(
     ensures all { OnOk result (frontier_of marks.new.kept ≡ length text.now) }
     ensures border { IsBorder text.now (frontier_of marks.new.kept) }
 {
-    frontier_is_border::<Recover<Plain>>();
+    frontier_is_border::<Recover<Pool>>();
     let _len = text.len();
     marks.catch_up(machine, text, steps)
 }
 
 /// Reads so many tokens of the text on.
 pub(super) fn sliced<L: Ledger>(
-    machine: &mut Recover<Plain>,
-    marks: &mut Marks<Recover<Plain>>,
+    machine: &mut Recover<Pool>,
+    marks: &mut Marks<Recover<Pool>>,
     text: &Text,
     count: u64,
     steps: &mut Steps<L>,
@@ -83,15 +83,15 @@ pub(super) fn sliced<L: Ledger>(
     ensures enough { OnOk result ((marks.new.taken ≡ count) ⊎ (frontier_of marks.new.kept ≡ length text.now)) }
     ensures border { IsBorder text.now (frontier_of marks.new.kept) }
 {
-    frontier_is_border::<Recover<Plain>>();
+    frontier_is_border::<Recover<Pool>>();
     let _len = text.len();
     marks.slice(machine, text, count, steps)
 }
 
 /// The faults of the whole text, which is read to its end.
 pub(super) fn found(
-    machine: &mut Recover<Plain>,
-    marks: &Marks<Recover<Plain>>,
+    machine: &mut Recover<Pool>,
+    marks: &Marks<Recover<Pool>>,
     text: &Text,
 ) -> Result<Faults, NoMemory>
     requires well { IsWellKept text.now machine.old.matcher marks.now.kept }
@@ -101,7 +101,7 @@ pub(super) fn found(
     ensures faults { IfOk result (AreFaultsOf (option_map language_of (grammar_of machine.old.matcher)) text.now) }
     ensures text { IfOk result (AllByRecursion (λ (fault : Fault). IsUtf8 fault.detail)) }
 {
-    later_machines_keep_it_right::<Recover<Plain>>();
+    later_machines_keep_it_right::<Recover<Pool>>();
     let len = text.len();
     let faults = marks.faults(machine, len)?;
     Ok(faults)
@@ -110,8 +110,8 @@ pub(super) fn found(
 /// What may stand at a place of the text. Reading goes on from the last mark in front of it, or at the start.
 pub(super) fn offered<L: Ledger>(
     alloc: Global,
-    machine: &mut Recover<Plain>,
-    marks: &Marks<Recover<Plain>>,
+    machine: &mut Recover<Pool>,
+    marks: &Marks<Recover<Pool>>,
     text: &Text,
     at: usize,
     steps: &mut Steps<L>,
@@ -123,7 +123,7 @@ pub(super) fn offered<L: Ledger>(
     ensures offers { IfOk result (AreOffersAt (option_map language_of (grammar_of machine.old.matcher)) text.now at) }
     ensures text { IfOk result OffersAreText }
 {
-    later_machines_keep_it_right::<Recover<Plain>>();
+    later_machines_keep_it_right::<Recover<Pool>>();
     offers_are_exact();
     let _len = text.len();
     let (from, state) = marks.mark_before(machine, at.saturating_sub(1))?;

@@ -14,7 +14,7 @@ ghost use Rattle.rng_simplify.specs.Simplified.{Answers};
 
 use super::Session;
 use super::reading::begun;
-use deriv_plain::plain::Plain;
+use deriv_pool::pool::Pool;
 use nx_base::cause::Cause;
 use nx_base::memory::NoMemory;
 use nx_base::sequence::Bytes;
@@ -137,12 +137,13 @@ impl Session {
         ensures text { IfErr result RefusalIsText }
     {
         let schema = schema_at(self.alloc, uri, files)?;
-        self.hold_schema(Some(Plain::new(schema)))?;
+        let matcher = Pool::new(self.alloc, schema)?;
+        self.hold_schema(Some(matcher))?;
         Ok(())
     }
 
     /// Follows the document with this matcher from now on, or with none. The old one stays until the new one has begun.
-    pub(super) fn hold_schema(&mut self, matcher: Option<Plain>) -> Result<(), NoMemory>
+    pub(super) fn hold_schema(&mut self, matcher: Option<Pool>) -> Result<(), NoMemory>
         requires live { IfSome (followed matcher) IsLive }
         requires sound { IfSome (grammar_of matcher) IsSound }
         ensures held { OnOk result (self.new ≡ with_schema self.old (grammar_of matcher)) }

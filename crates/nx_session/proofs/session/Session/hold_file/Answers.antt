@@ -13,7 +13,7 @@ returns-clause-held g c =
     let P : Option Grammar → Type 0 = λ schema. c.hold_schema.new.self ≡ with_schema c.args.self.now schema in (
       c.in_ok-schema.schema.grammar,
       c.in_ok-schema.ensures.answers.0,
-      subst P (ap (λ schema. Some schema.grammar) c.new.ensures) c.in_ok-hold_schema.ensures.held,
+      subst P (ap (λ schema. Some schema.grammar) c.in_ok-matcher.ensures) c.in_ok-hold_schema.ensures.held,
       same-files after before c.schema_at.ensures.map c.in_ok-schema.ensures.answers.1,
     )
 
