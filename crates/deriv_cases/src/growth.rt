@@ -3,6 +3,7 @@
 use crate::matchers::{Made, matcher_of};
 use crate::reader::answer;
 use deriv_plain::plain::Plain;
+use deriv_pool::pool::Pool;
 use std::alloc::Global;
 use std::process::Abort;
 use std::test::Fail;
@@ -45,6 +46,11 @@ fn plain_follows_paragraphs(rt: HostRuntime) -> Result<(), Fail> {
     paragraphs::<Plain>(&rt, rt.alloc())
 }
 
+#[test]
+fn pool_follows_paragraphs(rt: HostRuntime) -> Result<(), Fail> {
+    paragraphs::<Pool>(&rt, rt.alloc())
+}
+
 const REPEATED: &str =
     "start = element r { ((a*, b?)*)* } a = element a { empty } b = element b { empty }";
 
@@ -66,6 +72,11 @@ fn plain_follows_repetitions(rt: HostRuntime) -> Result<(), Fail> {
     repetitions::<Plain>(&rt, rt.alloc())
 }
 
+#[test]
+fn pool_follows_repetitions(rt: HostRuntime) -> Result<(), Fail> {
+    repetitions::<Pool>(&rt, rt.alloc())
+}
+
 const NESTED: &str = "start = p  p = element p { p* }";
 
 /// Two definitions allow each element, and the same may come behind either.
@@ -85,6 +96,11 @@ fn nesting<M: Made>(rt: &impl Abort, alloc: Global) -> Result<(), Fail> {
 #[test]
 fn plain_follows_deep_nesting(rt: HostRuntime) -> Result<(), Fail> {
     nesting::<Plain>(&rt, rt.alloc())
+}
+
+#[test]
+fn pool_follows_deep_nesting(rt: HostRuntime) -> Result<(), Fail> {
+    nesting::<Pool>(&rt, rt.alloc())
 }
 
 /// The start of an element that holds any of 1,000 others.
@@ -111,4 +127,9 @@ fn width<M: Made>(rt: &impl Abort, alloc: Global) -> Result<(), Fail> {
 #[test]
 fn plain_follows_wide_choices(rt: HostRuntime) -> Result<(), Fail> {
     width::<Plain>(&rt, rt.alloc())
+}
+
+#[test]
+fn pool_follows_wide_choices(rt: HostRuntime) -> Result<(), Fail> {
+    width::<Pool>(&rt, rt.alloc())
 }

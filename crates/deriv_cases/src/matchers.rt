@@ -5,6 +5,7 @@ ghost use Rattle.rng_kept.specs.Live.{IsLive};
 ghost use Rattle.rng_live.specs.Schemas.{schema_language};
 
 use deriv_plain::plain::Plain;
+use deriv_pool::pool::Pool;
 use nx_base::memory::NoMemory;
 use nx_host::memory_files::SureFiles;
 use rng_core::grammar::Grammar;
@@ -27,6 +28,12 @@ pub(crate) trait Made: Matcher {
 impl Made for Plain {
     fn made(_alloc: Global, schema: Schema) -> Result<Plain, NoMemory> {
         Ok(Plain::new(schema))
+    }
+}
+
+impl Made for Pool {
+    fn made(alloc: Global, schema: Schema) -> Result<Pool, NoMemory> {
+        Pool::new(alloc, schema)
     }
 }
 

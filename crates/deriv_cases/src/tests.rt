@@ -1,7 +1,9 @@
+use crate::lists::compared_lists;
 use crate::matchers::{Made, matcher_of};
 use crate::reader::answer;
 use crate::tables::{ANY_ORDER, CASES, SINGLE_CALLS};
 use deriv_plain::plain::Plain;
+use deriv_pool::pool::Pool;
 use std::alloc::Global;
 use std::process::Abort;
 use std::test::Fail;
@@ -72,4 +74,27 @@ fn plain_takes_any_order(rt: HostRuntime) -> Result<(), Fail> {
 #[test]
 fn plain_answers_cases(rt: HostRuntime) -> Result<(), Fail> {
     compare::<Plain>(&rt, rt.alloc(), CASES)
+}
+
+#[test]
+fn pool_answers_single_calls(rt: HostRuntime) -> Result<(), Fail> {
+    compare::<Pool>(&rt, rt.alloc(), SINGLE_CALLS)
+}
+
+#[test]
+fn pool_takes_any_order(rt: HostRuntime) -> Result<(), Fail> {
+    compare::<Pool>(&rt, rt.alloc(), ANY_ORDER)
+}
+
+#[test]
+fn pool_answers_cases(rt: HostRuntime) -> Result<(), Fail> {
+    compare::<Pool>(&rt, rt.alloc(), CASES)
+}
+
+/// The counts are those of a program that wrote down all trees.
+#[test]
+fn plain_and_pool_answer_all_lists_alike(rt: HostRuntime) -> Result<(), Fail> {
+    let told = compared_lists::<Plain, Pool>(rt.alloc())?;
+    assert_eq!(rt; told.as_str(), "0 2 1 10 2 2 12 7 ");
+    Ok(())
 }
