@@ -146,6 +146,38 @@ fn session_by(alloc: Global, rules: Option<&str>) -> Result<Session, NoMemory> {
     }
 }
 
+/// Carries one line out, and writes the reply.
+fn print_line<L: Ledger>(
+    alloc: Global,
+    session: &mut Session,
+    files: &mut SureFiles,
+    views: &mut Vec<Box<dyn View>>,
+    steps: &mut Steps<L>,
+    out: &mut SureOut,
+    line: &str,
+) -> Result<(), Fail> {
+    let command = read_line(alloc, line)?;
+    let reply = session.apply(&command, files, views, steps);
+    write_reply(alloc, out, 1, &reply)?;
+    Ok(())
+}
+
+/// The session is borrowed here, so that each way out of the loop lets nothing of it go.
+fn print_lines<L: Ledger>(
+    alloc: Global,
+    session: &mut Session,
+    files: &mut SureFiles,
+    views: &mut Vec<Box<dyn View>>,
+    steps: &mut Steps<L>,
+    out: &mut SureOut,
+    lines: &[&str],
+) -> Result<(), Fail> {
+    for line in lines {
+        print_line(alloc, session, files, views, steps, out, *line)?;
+    }
+    Ok(())
+}
+
 /// What the lines print in a session that is given this text for its rules.
 fn printed<L: Ledger>(
     alloc: Global,
@@ -155,13 +187,17 @@ fn printed<L: Ledger>(
 ) -> Result<SureOut, Fail> {
     let mut files = files_beside(alloc)?;
     let mut views: Vec<Box<dyn View>> = Vec::new(alloc);
-    let mut session = session_by(alloc, rules)?;
     let mut out = SureOut::new(alloc);
-    for line in lines {
-        let command = read_line(alloc, *line)?;
-        let reply = session.apply(&command, &mut files, &mut views, steps);
-        write_reply(alloc, &mut out, 1, &reply)?;
-    }
+    let mut session = session_by(alloc, rules)?;
+    print_lines(
+        alloc,
+        &mut session,
+        &mut files,
+        &mut views,
+        steps,
+        &mut out,
+        lines,
+    )?;
     Ok(out)
 }
 

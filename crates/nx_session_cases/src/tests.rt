@@ -49,29 +49,66 @@ const LINES: [(&str, usize, usize, bool); 31] = [
     ("# nothing", 76, 0, false),
 ];
 
+/// Carries one line out, and compares what the session tells of itself.
+fn is_behind<R: Abort, L: Ledger>(
+    rt: &R,
+    alloc: Global,
+    session: &mut Session,
+    files: &mut SureFiles,
+    views: &mut Vec<Box<dyn View>>,
+    steps: &mut Steps<L>,
+    wanted: &(&str, usize, usize, bool),
+) -> Result<(), Fail> {
+    let (line, len, caret, has_schema) = wanted;
+    let command = read_line(alloc, *line)?;
+    session.apply(&command, files, views, steps);
+    assert_eq!(rt;
+        (session.len(), session.caret()),
+        (*len, *caret),
+        "behind {line}"
+    );
+    assert_eq!(rt; session.has_schema(), *has_schema, "behind {line}");
+    Ok(())
+}
+
+/// The session is borrowed here, so that each way out of the loop lets nothing of it go.
+fn all_behind<R: Abort, L: Ledger>(
+    rt: &R,
+    alloc: Global,
+    session: &mut Session,
+    files: &mut SureFiles,
+    views: &mut Vec<Box<dyn View>>,
+    steps: &mut Steps<L>,
+) -> Result<(), Fail> {
+    for wanted in &LINES {
+        is_behind(rt, alloc, session, files, views, steps, wanted)?;
+    }
+    Ok(())
+}
+
+fn files_of(alloc: Global) -> Result<SureFiles, Fail> {
+    let mut files = SureFiles::new(alloc);
+    files.add("file:///work/d.xml", b"<d/>\n")?;
+    files.add("file:///work/d.rnc", b"element d { empty }")?;
+    Ok(files)
+}
+
+fn one_view(alloc: Global) -> Result<Vec<Box<dyn View>>, Fail> {
+    let mut views: Vec<Box<dyn View>> = Vec::new(alloc);
+    views.push(Box::new(alloc, FaultPane::new(alloc))?)?;
+    Ok(views)
+}
+
 fn plays<R: Abort, L: Ledger>(rt: &R, alloc: Global, blank: Blank) -> Result<(), Fail>
     requires name { blank.name ≡ L.name }
     requires parts { blank.parts ≡ L.parts }
     requires some { 0 < L.parts }
 {
     let mut steps = Steps::<L>::new(blank);
-    let mut files = SureFiles::new(alloc);
-    files.add("file:///work/d.xml", b"<d/>\n")?;
-    files.add("file:///work/d.rnc", b"element d { empty }")?;
-    let mut views: Vec<Box<dyn View>> = Vec::new(alloc);
-    views.push(Box::new(alloc, FaultPane::new(alloc))?)?;
+    let mut files = files_of(alloc)?;
+    let mut views = one_view(alloc)?;
     let mut session = Session::new(alloc, None)?;
-    for (line, len, caret, has_schema) in &LINES {
-        let command = read_line(alloc, *line)?;
-        session.apply(&command, &mut files, &mut views, &mut steps);
-        assert_eq!(rt;
-            (session.len(), session.caret()),
-            (*len, *caret),
-            "behind {line}"
-        );
-        assert_eq!(rt; session.has_schema(), *has_schema, "behind {line}");
-    }
-    Ok(())
+    all_behind(rt, alloc, &mut session, &mut files, &mut views, &mut steps)
 }
 
 #[test]
