@@ -79,6 +79,13 @@ impl<T: Drop> Sequence<T> {
         Sequence { items }
     }
 
+    /// The items with their room, which may be filled anew.
+    pub fn into_vec(self) -> Vec<T>
+        ensures { result.items ≡ self }
+    {
+        self.items
+    }
+
     /// The items, in order.
     pub fn as_slice(&self) -> &[T]
         ensures { result.now ≡ self.now }
@@ -140,6 +147,13 @@ impl<T: Drop> Sequence<T> {
     {
         self.items.reserve(additional)?;
         Ok(())
+    }
+
+    /// Drops all items. The list keeps its room.
+    pub fn clear(&mut self)
+        ensures { self.new ≡ [] }
+    {
+        self.items.clear();
     }
 
     /// Puts an item in front of the one at `i`, or at the end.
