@@ -458,14 +458,15 @@ fn tags_of(kind: TokenKind) -> usize
     }
 }
 
-/// Steps over the token at the frontier, which no mark aside lies in. A mark stands behind it where one is due.
+/// Steps over the token at the frontier, which no mark aside lies in, and gives its memory back. A mark stands behind it where
+/// one is due.
 pub(crate) fn step<A: Machine>(
     alloc: Global,
     machine: &mut A,
     text: &Text,
     kept: &mut Kept<A::State>,
     token: Token,
-) -> Result<(), NoMemory>
+) -> Result<Vec<u8>, NoMemory>
     requires right { IsRight (A.is_state machine.old) (A.means machine.old) (A.rules machine.old) text.now kept.old }
     requires unmarked { kept.old.marked ≡ false }
     requires rest { frontier_of kept.old < length text.now }
@@ -501,7 +502,7 @@ pub(crate) fn step<A: Machine>(
             kept.here.len -= len;
             kept.marked = is_due(machine, &kept.here.state, last.tags);
             kept.front.push_reserved(last);
-            Ok(())
+            Ok(token.bytes.into_vec())
         }
         Err(error) => {
             kept.front.push_reserved(last);

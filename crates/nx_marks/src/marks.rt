@@ -22,9 +22,10 @@ use nx_base::machine::Machine;
 use nx_base::memory::NoMemory;
 use nx_base::steps::Steps;
 use nx_base::token::Token;
-use nx_scan::scan::scan_token;
+use nx_scan::scan::scan_token_into;
 use nx_text::text::Text;
 use std::alloc::Global;
+use std::mem;
 use std::sync::ledger::Ledger;
 
 /// What is kept of a machine's run over a text. It belongs to one text and one machine and holds
@@ -34,16 +35,18 @@ pub struct Marks<A: Machine> {
     alloc: Global,
     pub kept: Kept<A::State>,
     pub taken: u64,
+    /// The memory that the bytes of one token after another are put in.
+    buffer: Vec<u8>,
 }
 
-/// Takes the token at the frontier. Marks aside that it passes are dropped.
+/// Takes the token at the frontier, and gives its memory back. Marks aside that it passes are dropped.
 fn take<A: Machine>(
     alloc: Global,
     machine: &mut A,
     text: &Text,
     kept: &mut Kept<A::State>,
     token: Token,
-) -> Result<(), NoMemory>
+) -> Result<Vec<u8>, NoMemory>
     requires right { IsRight (A.is_state machine.old) (A.means machine.old) (A.rules machine.old) text.now kept.old }
     requires rest { frontier_of kept.old < length text.now }
     requires token { token ≡ cut text.now (frontier_of kept.old) }
@@ -60,8 +63,8 @@ fn take<A: Machine>(
     begin_here(alloc, machine, text, kept)?;
     let count = token.bytes.len();
     kept.let_go(count);
-    step(alloc, machine, text, kept, token)?;
-    Ok(())
+    let buffer = step(alloc, machine, text, kept, token)?;
+    Ok(buffer)
 }
 
 impl<A: Machine> Marks<A> {
@@ -79,6 +82,7 @@ impl<A: Machine> Marks<A> {
             alloc,
             kept: Kept::start(alloc, Stored::new(alloc, first)?),
             taken: 0,
+            buffer: Vec::new(alloc),
         })
     }
 
@@ -125,10 +129,11 @@ impl<A: Machine> Marks<A> {
     {
         let _len = text.len();
         let at = self.kept.frontier();
-        let Some(token) = scan_token(self.alloc, text, at, steps)? else {
+        let buffer = mem::replace(&mut self.buffer, Vec::new(self.alloc));
+        let Some(token) = scan_token_into(text, at, buffer, steps)? else {
             return Ok(());
         };
-        take(self.alloc, machine, text, &mut self.kept, token)?;
+        self.buffer = take(self.alloc, machine, text, &mut self.kept, token)?;
         rejoin(machine, &mut self.kept);
         Ok(())
     }

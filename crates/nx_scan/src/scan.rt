@@ -220,11 +220,29 @@ fn token_end(text: &Text, at: usize) -> End
 }
 
 /// The token that is cut at the place `at`; none exactly at the length. It counts one step, and reads each
-/// byte of the token a bounded number of times. The token's bytes come from the text's own allocator.
+/// byte of the token a bounded number of times.
 pub fn scan_token<L: Ledger>(
-    _alloc: Global,
+    alloc: Global,
     text: &Text,
     at: usize,
+    steps: &mut Steps<L>,
+) -> Result<Option<Token>, NoMemory>
+    requires { IsPlace text.now at }
+    ensures token { IfOk result (CutAt text.now at) }
+    ensures utf8 { IfOk result (λ found. IfSome found (λ token. IsUtf8 token.bytes)) }
+    ensures border { IfOk result (λ found. IfSome found (λ token. IsPlace text.now (end_of token))) }
+    ensures step { steps.new ≡ steps.old + 1 }
+{
+    let found = scan_token_into(text, at, Vec::new(alloc), steps)?;
+    Ok(found)
+}
+
+/// The same token, whose bytes are put in the place of what the buffer held. So whoever cuts many tokens takes memory for
+/// the longest of them alone.
+pub fn scan_token_into<L: Ledger>(
+    text: &Text,
+    at: usize,
+    buffer: Vec<u8>,
     steps: &mut Steps<L>,
 ) -> Result<Option<Token>, NoMemory>
     requires { IsPlace text.now at }
@@ -238,7 +256,7 @@ pub fn scan_token<L: Ledger>(
         return Ok(None);
     }
     let end = token_end(text, at);
-    let bytes = text.copy_range(at, end.place)?;
+    let bytes = text.copy_range_into(at, end.place, buffer)?;
     Ok(Some(Token {
         kind: end.kind,
         from: at,

@@ -34,13 +34,23 @@ impl<T> Model for GapBuffer<T> {
     ghost invariant = { λ b. (b.start ≤ b.end) × (b.end ≤ vec_len b.items) };
 }
 
-/// A copy of one list and another behind it.
-fn copy_both<T: Copy>(alloc: Global, front: &[T], back: &[T]) -> Result<Vec<T>, AllocError>
-    ensures { IfOk result (λ copied. copied.items ≡ front.now ++ back.now) }
+/// The items, in the place of what the buffer held.
+fn filled<T: Copy>(buffer: Vec<T>, items: &[T]) -> Result<Vec<T>, AllocError>
+    ensures { IfOk result (λ filled. filled.items ≡ items.now) }
 {
-    let mut copied = Vec::from_slice(alloc, front)?;
-    copied.extend_from_slice(back)?;
-    Ok(copied)
+    let mut filled = buffer;
+    filled.clear();
+    filled.extend_from_slice(items)?;
+    Ok(filled)
+}
+
+/// The items of one list and another behind it, in the place of what the buffer held.
+fn filled_by_both<T: Copy>(buffer: Vec<T>, front: &[T], back: &[T]) -> Result<Vec<T>, AllocError>
+    ensures { IfOk result (λ filled. filled.items ≡ front.now ++ back.now) }
+{
+    let mut filled = filled(buffer, front)?;
+    filled.extend_from_slice(back)?;
+    Ok(filled)
 }
 
 impl<T: Copy> GapBuffer<T> {
@@ -96,21 +106,32 @@ impl<T: Copy> GapBuffer<T> {
         }
     }
 
-    /// A copy of the items from one index to another.
-    pub(crate) fn copy_range(&self, from: usize, to: usize) -> Result<Vec<T>, AllocError>
+    /// No items, in memory of the same allocator.
+    pub(crate) fn no_items(&self) -> Vec<T>
+        ensures { result.items ≡ [] }
+    {
+        Vec::new(*self.items.allocator())
+    }
+
+    /// The items from one index to another, in the place of what the buffer held. Its room is taken over.
+    pub(crate) fn copy_range(
+        &self,
+        from: usize,
+        to: usize,
+        buffer: Vec<T>,
+    ) -> Result<Vec<T>, AllocError>
         requires ordered { from ≤ to }
         requires inside { to ≤ length self.now.front + length self.now.back }
         ensures { IfOk result (λ copied. copied.items ≡ slice_range (self.now.front ++ self.now.back) from to) }
     {
-        let alloc = *self.items.allocator();
         let gap = self.start;
         if to <= gap {
-            return Ok(Vec::from_slice(alloc, &self.front()[from..to])?);
+            return Ok(filled(buffer, &self.front()[from..to])?);
         }
         if from >= gap {
-            return Ok(Vec::from_slice(alloc, &self.back()[from - gap..to - gap])?);
+            return Ok(filled(buffer, &self.back()[from - gap..to - gap])?);
         }
-        Ok(copy_both(alloc, &self.front()[from..], &self.back()[..to - gap])?)
+        Ok(filled_by_both(buffer, &self.front()[from..], &self.back()[..to - gap])?)
     }
 
     /// Makes the gap so wide that it has room for so many items more. Where it must be widened it takes at least as

@@ -159,7 +159,25 @@ impl Text {
         ensures bytes { IfOk result (λ copied. copied ≡ slice_range self.now from to) }
         ensures utf8 { IfOk result IsUtf8 }
     {
-        Ok(Bytes::from_vec(self.bytes.copy_range(from, to)?))
+        let buffer = self.bytes.no_items();
+        let copied = self.copy_range_into(from, to, buffer)?;
+        Ok(copied)
+    }
+
+    /// The bytes from the place `from` to the place `to`, in the place of what the buffer held. Its room is taken over.
+    pub fn copy_range_into(
+        &self,
+        from: usize,
+        to: usize,
+        buffer: Vec<u8>,
+    ) -> Result<Bytes, NoMemory>
+        requires from { IsPlace self.now from }
+        requires to { IsPlace self.now to }
+        requires ordered { from ≤ to }
+        ensures bytes { IfOk result (λ copied. copied ≡ slice_range self.now from to) }
+        ensures utf8 { IfOk result IsUtf8 }
+    {
+        Ok(Bytes::from_vec(self.bytes.copy_range(from, to, buffer)?))
     }
 
     /// The byte at the byte offset `at`; none exactly where that is at least the length.
@@ -173,6 +191,18 @@ impl Text {
     /// The character that begins at the byte offset `at`; none exactly where that is the length, or no
     /// place.
     pub fn char_at(&self, at: usize) -> Option<char>
+        ensures char { MatchOption result (HasNoCharAt self.now at) (StandsAt self.now at) }
+        ensures next_fits { IfSome result (λ c. at + length (encode_utf8 c) < 2 ^ 64) }
+    {
+        match self.bytes.get(at) {
+            None => None,
+            Some(byte) if byte < 128 => Some(char::from(byte)),
+            Some(_) => self.long_char_at(at),
+        }
+    }
+
+    /// The same where a byte stands that is no character of its own.
+    fn long_char_at(&self, at: usize) -> Option<char>
         ensures char { MatchOption result (HasNoCharAt self.now at) (StandsAt self.now at) }
         ensures next_fits { IfSome result (λ c. at + length (encode_utf8 c) < 2 ^ 64) }
     {

@@ -235,8 +235,8 @@ returns-in-Ok-clause-near g c =
     subst P (sym took_it) (stepped_near m.later m.is_state m.means m.rules g.met.A.Machine.laws g.met.A.Machine.rule_laws a b c.args.text.now K c.pop.new.self.items c.in-Some.last c.args.token c.step_stored.new.state n c.step_stored.ensures.later right is
     c.in-Some.ensures.items c.step_stored.ensures.state c.in-Ok.ensures.after gap (subst W (sym c.kept.view_is) w)))
 
-pub returns-clause-right : goal.returns-clause-right
-returns-clause-right g c =
+pub returns-in-Err-clause-right : goal.returns-in-Err-clause-right
+returns-in-Err-clause-right g c =
     let m = g.A.Machine in
     let a = c.args.machine.now in
     let K : Kept _ = record { front = c.kept.inside.front.items; here = c.kept.inside.here; marked = c.kept.inside.marked; aside = reverse c.kept.inside.aside.items } in
@@ -253,8 +253,8 @@ returns-clause-right g c =
     let P : List (Mark _) → Type 0 = λ l. IsRight (m.is_state b) (m.means b) (m.rules b) c.args.text.now (record { front = l; here = record { state = c.step_stored.new.state; len = K.here.len; tags = K.here.tags; faults = K.here.faults; whole = K.here.whole; saved = K.here.saved }; marked = K.marked; aside = K.aside }) in
     subst P (sym same) (refused_right m.later m.is_state m.means m.rules g.met.A.Machine.laws g.met.A.Machine.rule_laws a b c.args.text.now K c.step_stored.new.state c.step_stored.ensures.later right c.step_stored.ensures.state c.in-Err.ensures.unchanged)
 
-pub returns-clause-keeps : goal.returns-clause-keeps
-returns-clause-keeps g c =
+pub returns-in-Err-clause-keeps : goal.returns-in-Err-clause-keeps
+returns-in-Err-clause-keeps g c =
     let m = g.A.Machine in
     let a = c.args.machine.now in
     let K : Kept _ = record { front = c.kept.inside.front.items; here = c.kept.inside.here; marked = c.kept.inside.marked; aside = reverse c.kept.inside.aside.items } in

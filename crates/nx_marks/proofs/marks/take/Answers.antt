@@ -72,7 +72,7 @@ returns-clause-on g c =
     let is : c.args.token ≡ cut c.args.text.now (frontier_of k) = c.requires.token ∙ ap (cut c.args.text.now) (sym c.begin_here.ensures.frontier) in
     let p = passed (m.is_state a) (m.means a) (m.rules a) (g.met.A.Machine.rule_laws a) c.args.text.now c.len-len.ensures.utf8 k c.let_go.new.self c.len-count.result c.args.token c.begin_here.ensures.right is
     (omega (arith, c.requires.rest, c.begin_here.ensures.frontier)) c.len-count.ensures c.let_go.ensures in
-    c.in_ok-step.ensures.on ∙ ap (λ n. n + length c.args.token.bytes) (p.at ∙ c.begin_here.ensures.frontier)
+    c.in_ok-buffer.ensures.on ∙ ap (λ n. n + length c.args.token.bytes) (p.at ∙ c.begin_here.ensures.frontier)
 
 pub returns-clause-near : goal.returns-clause-near
 returns-clause-near g c = λ n w some.
@@ -87,17 +87,17 @@ returns-clause-near g c = λ n w some.
     let gap : 0 < k.here.len = omega (arith, some, c.begin_here.ensures.gap) in
     let same = p.waits n first gap in
     let far : 0 < c.let_go.new.self.here.len = (let e = ap (λ (i : Kept _). i.here.len) same in omega arith) in
-    c.in_ok-step.ensures.near n (subst W (sym same) first) far)
+    c.in_ok-buffer.ensures.near n (subst W (sym same) first) far)
 
-pub returns-in_err-step-clause-off : goal.returns-in_err-step-clause-off
-returns-in_err-step-clause-off g c =
+pub returns-in_err-buffer-clause-off : goal.returns-in_err-buffer-clause-off
+returns-in_err-buffer-clause-off g c =
     let m = g.A.Machine in
     let a = c.args.machine.now in
     let k = c.begin_here.new.kept in
     let is : c.args.token ≡ cut c.args.text.now (frontier_of k) = c.requires.token ∙ ap (cut c.args.text.now) (sym c.begin_here.ensures.frontier) in
     let p = passed (m.is_state a) (m.means a) (m.rules a) (g.met.A.Machine.rule_laws a) c.args.text.now c.len-len.ensures.utf8 k c.let_go.new.self c.len-count.result c.args.token c.begin_here.ensures.right is
     (omega (arith, c.requires.rest, c.begin_here.ensures.frontier)) c.len-count.ensures c.let_go.ensures in
-    on_err _ (c.in_err-step.ensures.off ∙ p.at ∙ c.begin_here.ensures.frontier)
+    on_err _ (c.in_err-buffer.ensures.off ∙ p.at ∙ c.begin_here.ensures.frontier)
 
 pub returns-clause-keeps : goal.returns-clause-keeps
 returns-clause-keeps g c =
@@ -111,8 +111,8 @@ returns-clause-keeps g c =
     let both = keeps_on (m.means a) (m.rules a) c.args.text.now c.args.kept.now k c.let_go.new.self first second in
     keeps_on (m.means a) (m.rules a) c.args.text.now c.args.kept.now c.let_go.new.self c.step.new.kept both c.step.ensures.keeps
 
-pub returns-in_err-step-clause-keeps : goal.returns-in_err-step-clause-keeps
-returns-in_err-step-clause-keeps g c =
+pub returns-in_err-buffer-clause-keeps : goal.returns-in_err-buffer-clause-keeps
+returns-in_err-buffer-clause-keeps g c =
     let m = g.A.Machine in
     let a = c.args.machine.now in
     let k = c.begin_here.new.kept in

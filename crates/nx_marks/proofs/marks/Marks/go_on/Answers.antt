@@ -8,8 +8,8 @@ use Rattle.nx_marks.proofs.Keeping.{keeps_all, keeps_later}
 use Rattle.nx_marks.proofs.Reading.{frontier_place}
 use Rattle.nx_marks.proofs.marks.Marks.go_on.Goals as goal
 
-pub scan_token-requires : goal.scan_token-requires
-scan_token-requires g c =
+pub scan_token_into-requires : goal.scan_token_into-requires
+scan_token_into-requires g c =
     let m = g.A.Machine in
     let a = c.args.machine.now in
     let P : ℕ → Type 0 = λ n. IsPlace c.args.text.now n in
@@ -26,7 +26,7 @@ returns-clause-on g c =
     let utf8 = c.len-len.ensures.utf8 in
     let place = frontier_place (m.is_state a) (m.means a) (m.rules a) t (g.met.A.Machine.rule_laws a) utf8 k c.requires.right in
     let is : c.in-Some.token ≡ cut t (frontier_of k) = (let P : Option Token → Type 0 = λ o. CutAt t c.frontier-at.result o in subst P c.in-Some.is c.in_ok-token.ensures.token).1 ∙ ap (cut t) c.frontier-at.ensures in
-    let one = one_token t (frontier_of k) (frontier_of i) c.in-Some.token place c.requires.rest is c.in_ok-take.ensures.on in
+    let one = one_token t (frontier_of k) (frontier_of i) c.in-Some.token place c.requires.rest is c.in_ok-self.ensures.on in
     let zero = over_between (m.is_state b) (m.means b) (m.rules b) (g.met.A.Machine.rule_laws b) t utf8 i c.rejoin.new.kept c.take.ensures.right (c.rejoin.ensures.right t utf8 c.take.ensures.right) c.rejoin.ensures.further in
     moves_on t (frontier_of k) 1 (frontier_of i) 0 (frontier_of c.rejoin.new.kept) one zero
 
@@ -35,7 +35,7 @@ returns-clause-near g c = λ n w.
     let m = g.A.Machine in
     let a = c.args.machine.now in
     let b = c.take.new.machine in
-    near_on (m.is_state b) (m.means b) (m.rules b) (g.met.A.Machine.rule_laws b) c.args.text.now c.len-len.ensures.utf8 (m.means a) (m.rules a) c.args.self.now.kept c.take.new.kept c.rejoin.new.kept n c.requires.rest c.in_ok-take.ensures.near
+    near_on (m.is_state b) (m.means b) (m.rules b) (g.met.A.Machine.rule_laws b) c.args.text.now c.len-len.ensures.utf8 (m.means a) (m.rules a) c.args.self.now.kept c.take.new.kept c.rejoin.new.kept n c.requires.rest c.in_ok-self.ensures.near
     c.rejoin.ensures c.take.ensures.right w
 
 pub returns-clause-keeps : goal.returns-clause-keeps

@@ -82,3 +82,6 @@ pub returns-in_err-go_on-clause-keeps : goal.returns-in_err-go_on-clause-keeps
 returns-in_err-go_on-clause-keeps g c =
     let m = g.A.Machine in
     keeps_later m.later m.is_state m.means m.rules g.met.A.Machine.laws c.args.machine.now c.loop-self.machine c.args.text.now c.args.self.now.kept c.loop-self.self.kept c.go_on.new.self.kept c.loop-self.invariant.later c.requires.right c.loop-self.invariant.keeps c.go_on.ensures.keeps
+
+pub returns-after-loop-self-clause-bound : goal.returns-after-loop-self-clause-bound
+returns-after-loop-self-clause-bound g c = λ count w. (c.loop-self.invariant.bound count w).0

@@ -7,8 +7,8 @@ returns-then-from-gap g c =
     let s = c.args.self.now in let start = c.self.inside.start in
     let len : length s.front ≡ start = search rules in
     let past : start ≤ c.args.from = search rules in
-    copied_back s.front s.back c.back.result.now c.in_ok-from_slice-2.field-0.items c.args.from c.args.to start
-    c.requires.ordered len past c.back.ensures c.in_ok-from_slice-2.ensures.items
+    copied_back s.front s.back c.back.result.now c.in_ok-filled-2.field-0.items c.args.from c.args.to start
+    c.requires.ordered len past c.back.ensures c.in_ok-filled-2.ensures
 
 pub returns : goal.returns
 returns g c =
@@ -16,5 +16,5 @@ returns g c =
     let len : length s.front ≡ start = search rules in
     let low : c.args.from ≤ start = search rules in
     let high : start ≤ c.args.to = search rules in
-    copied_both s.front s.back c.front-2.result.now c.back-2.result.now c.in_ok-copy_both.field-0.items c.args.from c.args.to start
-    c.requires.ordered len low high c.front-2.ensures c.back-2.ensures c.in_ok-copy_both.ensures
+    copied_both s.front s.back c.front-2.result.now c.back-2.result.now c.in_ok-filled_by_both.field-0.items c.args.from c.args.to start
+    c.requires.ordered len low high c.front-2.ensures c.back-2.ensures c.in_ok-filled_by_both.ensures

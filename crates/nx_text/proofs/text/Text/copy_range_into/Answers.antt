@@ -4,7 +4,7 @@ use Rattle.std.proofs.lemmas.Str.{IsUtf8-between}
 use Rattle.nx_base.specs.Text.{IsPlace}
 use Rattle.nx_text.specs.Feeds.{joined}
 use Rattle.nx_text.proofs.Sides.{kept_utf8}
-use Rattle.nx_text.proofs.text.Text.copy_range.Goals as goal
+use Rattle.nx_text.proofs.text.Text.copy_range_into.Goals as goal
 
 pub returns-clause-utf8 : goal.returns-clause-utf8
 returns-clause-utf8 c =

@@ -1,6 +1,6 @@
 use Rattle.std.proofs.Common.{arith}
 use Rattle.nx_scan.proofs.Rows.{is-cut}
-use Rattle.nx_scan.proofs.scan.scan_token.Goals as goal
+use Rattle.nx_scan.proofs.scan.scan_token_into.Goals as goal
 
 pub returns-clause-token : goal.returns-clause-token
 returns-clause-token g c =
