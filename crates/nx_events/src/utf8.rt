@@ -1,6 +1,7 @@
 //! The character at the front of a text.
 
 ghost use Rattle.std.specs.Prelude.{◌≡◌, ◌+◌, ◌-◌, ◌*◌, ◌<◌, length};
+ghost use Rattle.std.specs.Char.{is_ascii_lowercase};
 ghost use Rattle.std.specs.Str.{continuation_len, lead_bits};
 ghost use Rattle.nx_base.specs.Characters.{is_char, is_name_start, is_name_char};
 ghost use Rattle.nx_events.specs.Utf8.{with_following, front_char, front_char_len};
@@ -94,11 +95,21 @@ pub(crate) fn is_char(code: u32) -> bool
     }
 }
 
+// Whether the code is that of a small letter from a to z, as most in names are: they are asked for first.
+fn is_small_letter(code: u32) -> bool
+    ensures { result ≡ is_ascii_lowercase code }
+{
+    97 <= code && code <= 122
+}
+
 /// Whether a name may begin with the character of this code.
 #[tactic(auto, unfolding(nx_base::specs::Characters::is_name_start))]
 pub(crate) fn is_name_start(code: u32) -> bool
     ensures { result ≡ is_name_start code }
 {
+    if is_small_letter(code) {
+        return true;
+    }
     match char::from_u32(code) {
         Some(c) => character::is_name_start(c),
         None => false,
@@ -110,6 +121,9 @@ pub(crate) fn is_name_start(code: u32) -> bool
 pub(crate) fn is_name_char(code: u32) -> bool
     ensures { result ≡ is_name_char code }
 {
+    if is_small_letter(code) {
+        return true;
+    }
     match char::from_u32(code) {
         Some(c) => character::is_name_char(c),
         None => false,

@@ -1,9 +1,10 @@
 //! Tags, XML 1.0 section 3.1, read character by character.
 
 ghost use Rattle.std.specs.Prelude.{◌≡◌};
+ghost use Rattle.nx_base.specs.Characters.{is_name_char, is_name_start};
 ghost use Rattle.nx_scan.specs.Tag.{left_of, left_after};
 
-use nx_base::character::{is_name_char, is_name_start, is_space};
+use nx_base::character::{self, is_space};
 
 /// What was read of a tag so far.
 #[derive(Clone, Copy, Debug, PartialEq, Eq)]
@@ -67,6 +68,30 @@ impl TagState {
             TagState::Start | TagState::Empty | TagState::End | TagState::Lost => TagState::Lost,
         }
     }
+}
+
+// Most characters of names are small letters, which are asked for first.
+
+/// Whether a name may begin with the character.
+#[tactic(auto, unfolding(nx_base::specs::Characters::is_name_start))]
+fn is_name_start(c: char) -> bool
+    ensures { result ≡ is_name_start c }
+{
+    if c.is_ascii_lowercase() {
+        return true;
+    }
+    character::is_name_start(c)
+}
+
+/// Whether the character may stand in a name.
+#[tactic(auto, unfolding(nx_base::specs::Characters::is_name_char, nx_base::specs::Characters::is_name_start))]
+fn is_name_char(c: char) -> bool
+    ensures { result ≡ is_name_char c }
+{
+    if c.is_ascii_lowercase() {
+        return true;
+    }
+    character::is_name_char(c)
 }
 
 #[tactic(auto, using(crate::proofs::Reading::open_rules))]
