@@ -1,8 +1,8 @@
 -- The document element among the items of a text that is read token by token.
-use Rattle.std.proofs.Common.{◌≡◌, refl, sym, ap, ◌∙◌, subst, ℕ, ◌+◌, ◌-◌, ◌<◌, ◌≤◌, ◌^◌, Bool, true, false, cond, eqb, List, [], ◌∷◌, ◌++◌, length, Option, Some, None, arith, append_assoc, append-nil, reverse, suc, take, drop, get_or, is_some, drop-cons, IsUtf8}
+use Rattle.std.proofs.Common.{◌≡◌, refl, sym, ap, ◌∙◌, subst, ℕ, ◌+◌, ◌-◌, ◌<◌, ◌≤◌, true, false, eqb, List, [], ◌∷◌, ◌++◌, length, Option, Some, None, arith, append_assoc, reverse, suc, take, drop, get_or, is_some, drop-cons, IsUtf8}
 use Rattle.std.specs.List.{AllByRecursion, flat_map}
 use Rattle.nx_base.specs.Text.{IsPlace}
-use Rattle.nx_base.specs.Tokens.{tokens_from, tokens_within, cut, end_of}
+use Rattle.nx_base.specs.Tokens.{tokens_from, cut}
 use Rattle.nx_base.specs.declared.fault.Kind.{Kind}
 use Rattle.nx_base.specs.declared.fault.Kind.TheVariants as kinds
 use Rattle.nx_base.specs.declared.fault.Span.{Span}

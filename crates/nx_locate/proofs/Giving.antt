@@ -1,19 +1,17 @@
 -- What rules give, one by one and all.
-use Rattle.std.proofs.Common.{◌≡◌, ◌≢◌, refl, sym, ap, ◌∙◌, subst, ℕ, Bool, true, false, cond, List, [], ◌∷◌, ◌++◌, length, Option, Some, None, option_map, is_some, Result, Ok, Err, arith, append_assoc, append-nil, IsUtf8, IfSome, Contains}
+use Rattle.std.proofs.Common.{◌≡◌, refl, sym, ap, ◌∙◌, subst, ℕ, Bool, true, false, cond, List, [], ◌∷◌, ◌++◌, length, Option, Some, None, option_map, is_some, Result, Ok, Err, arith, append_assoc, append-nil, IsUtf8}
 use Rattle.std.specs.List.{AllByRecursion}
 use Rattle.std.specs.Str.{bytes_eq}
 use Rattle.nx_base.specs.declared.locate_fault.LocateFault.{LocateFault}
 use Rattle.nx_base.specs.declared.locate_fault.LocateFault.TheVariants.{RulesAbsent, RulesNotUtf8, BadRules, RulesLoop, BadUri, Failed, NoMemory}
 use Rattle.nx_host.specs.Files.{FileMap}
-use Rattle.nx_host.specs.Uri.{Joins, IsBadUri}
 use Rattle.nx_locate.specs.declared.rule.PlacedRule.{PlacedRule}
 use Rattle.nx_locate.specs.declared.rule.Rule.{Rule}
 use Rattle.nx_locate.specs.declared.rule.Rule.TheVariants.{Include, Uri, DocumentElement as OnElement, Namespace, Default, Transform, TypeId}
 use Rattle.nx_locate.specs.declared.rule.Target.{Target}
-use Rattle.nx_locate.specs.declared.rule.Target.TheVariants as target
 use Rattle.nx_locate.specs.Answering.{Answers, GivesTo, AreTextPlaced, IsTextPlaced, MakesUri, ThereAnswers, IsMade, ResourceAnswers, PatternAnswers}
 use Rattle.nx_locate.specs.Making.{HasPatternRuns}
-use Rattle.nx_locate.specs.Leading.{Outcome, schema, nothing, bad, Question, Gives, FirstGives, AllGive, Leads, by_type, leads_of_type, leads_if_type, Refers, TransformGives, not_there, is_there, UriGives, no_resource, by_resource, by_pattern, by_neither, IsElsewhere}
+use Rattle.nx_locate.specs.Leading.{Outcome, schema, nothing, bad, Question, Gives, FirstGives, AllGive, Leads, leads_of_type, leads_if_type, Refers, TransformGives, not_there, is_there, UriGives, no_resource, by_resource, by_pattern, by_neither, IsElsewhere}
 use Rattle.nx_locate.specs.Locates.{IfTold, outcome_of}
 use Rattle.nx_locate.specs.Rules.{first_of}
 use Rattle.nx_locate.specs.RulesRead.{IsTextTarget, IsTextRule}

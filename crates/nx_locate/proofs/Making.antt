@@ -1,5 +1,5 @@
 -- Texts that patterns make.
-use Rattle.std.proofs.Common.{◌≡◌, refl, sym, ap, ◌∙◌, subst, ℕ, suc, zero, ◌+◌, ◌-◌, ◌<◌, ◌≤◌, Bool, true, false, cond, eqb, List, [], ◌∷◌, ◌++◌, length, take, drop, get_or, Option, Some, None, arith, append_assoc, append-nil, drop-cons, length-append, ltb, lt-ltb, not, ◌&&◌, Result, Ok, Err, IfOk, IsUtf8, IsAscii}
+use Rattle.std.proofs.Common.{◌≡◌, refl, sym, ap, ◌∙◌, subst, ℕ, suc, ◌+◌, ◌-◌, ◌<◌, ◌≤◌, Bool, true, false, cond, eqb, List, [], ◌∷◌, ◌++◌, length, take, drop, get_or, Option, Some, None, arith, append_assoc, append-nil, drop-cons, length-append, ltb, lt-ltb, not, ◌&&◌, Result, Ok, Err, IfOk, IsUtf8, IsAscii}
 use Rattle.std.specs.List.{AllByRecursion}
 use Rattle.std.specs.Prelude.{reverse, IsCharBoundary}
 use Rattle.std.proofs.lemmas.Grind.{common_steps}
@@ -11,7 +11,7 @@ use Rattle.std.specs.Cmp.Lexicographic.{bytes_decides}
 use Rattle.std.specs.List.{prefix_len}
 use Rattle.std.specs.Str.{bytes_eq}
 use Rattle.std.proofs.lemmas.List.Sums.{prefix_len_stops}
-use Rattle.std.proofs.lemmas.Str.{IsUtf8-nil, IsUtf8-append, IsUtf8-take, IsUtf8-drop, IsUtf8-from_ascii, IsCharBoundary-before_ascii, IsCharBoundary-after_ascii, IsAscii-take, IsAscii-drop, IsAscii-append}
+use Rattle.std.proofs.lemmas.Str.{IsUtf8-nil, IsUtf8-append, IsUtf8-take, IsUtf8-drop, IsUtf8-from_ascii, IsCharBoundary-before_ascii, IsCharBoundary-after_ascii, IsAscii-take, IsAscii-drop}
 use Rattle.nx_locate.specs.Patterns.{Fits, fit_end, fit_byte, fit_star, Matches, match_end, match_byte, match_star, PatternFits, fits_name, fits_whole, fits_in_folder, name_len, folder_len, folder_of, file_name_of, has_slash, has_scheme, is_colon_at, CanMatch, filled, made_in, made_text}
 use Rattle.nx_locate.specs.Making.{filled_by, runs_behind, HasPatternRuns}
 use Rattle.nx_locate.specs.Running.{HasRuns}

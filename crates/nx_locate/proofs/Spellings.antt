@@ -1,10 +1,10 @@
 -- What stands in a text from a place on.
-use Rattle.std.proofs.Common.{◌≡◌, refl, sym, ap, ◌∙◌, ℕ, zero, suc, ◌+◌, ◌-◌, ◌<◌, ◌≤◌, Bool, true, false, cond, eqb, leb, not, List, [], ◌∷◌, ◌++◌, length, take, drop, get_or, Option, Some, None, slice_get, arith, append_assoc, append-nil}
-use Rattle.std.specs.List.{before_first, position_or_len, prefix_len, suffix_len}
+use Rattle.std.proofs.Common.{◌≡◌, refl, sym, ap, ◌∙◌, ℕ, zero, suc, ◌+◌, ◌-◌, ◌<◌, ◌≤◌, Bool, true, false, eqb, leb, not, List, [], ◌∷◌, ◌++◌, length, take, drop, get_or, Some, None, slice_get, arith, append_assoc, append-nil}
+use Rattle.std.specs.List.{before_first, position_or_len, suffix_len}
 use Rattle.std.proofs.lemmas.List.{drop-drop}
-use Rattle.std.proofs.lemmas.List.Sums.{suffix_len_is, suffix_len-le-length}
+use Rattle.std.proofs.lemmas.List.Sums.{suffix_len_is}
 use Rattle.nx_events.specs.Tags.{written_name, start_name, ends_name}
-use Rattle.nx_locate.specs.Patterns.{folder_len, name_len}
+use Rattle.nx_locate.specs.Patterns.{folder_len}
 
 drop_at : (xs : List ℕ) (n b : ℕ) → Some b ≡ slice_get xs n → drop n xs ≡ b ∷ drop (suc n) xs
 drop_at [] n b h = let never : ⊥ = cc in absurd never

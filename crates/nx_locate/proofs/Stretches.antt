@@ -6,7 +6,7 @@ use Rattle.std.proofs.lemmas.Bool.{ne_eqb}
 use Rattle.nx_locate.specs.declared.pattern.Stretch.{Stretch}
 use Rattle.nx_locate.specs.Patterns.{has_slash, IsRun, Matches, match_end, match_byte, match_star, CanMatch, Fits, fit_end, fit_byte, fit_star}
 use Rattle.nx_locate.specs.Rules.{first_of}
-use Rattle.nx_locate.specs.Running.{front_len, next_stretch, longer, empty_run, HasRuns}
+use Rattle.nx_locate.specs.Running.{front_len, next_stretch, longer, empty_run}
 
 -- a run that is so many bytes longer
 abbrev pub later_by : ℕ → Stretch → Stretch

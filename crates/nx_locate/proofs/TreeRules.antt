@@ -1,5 +1,5 @@
 -- The rules of a document's tree, among the items of its text.
-use Rattle.std.proofs.Common.{◌≡◌, ◌≢◌, refl, sym, ap, ◌∙◌, subst, ℕ, suc, ◌+◌, ◌-◌, ◌≤◌, inl, inr, Bool, true, false, cond, eqb, List, [], ◌∷◌, ◌++◌, length, map, Option, Some, None, arith, append_assoc, append-nil, codes, Vec, Global, IsUtf8}
+use Rattle.std.proofs.Common.{◌≡◌, refl, sym, ap, ◌∙◌, subst, ℕ, ◌+◌, ◌-◌, ◌≤◌, inl, inr, Bool, true, false, cond, eqb, List, [], ◌∷◌, ◌++◌, map, Option, Some, None, arith, append_assoc, append-nil, codes, IsUtf8}
 use Rattle.std.specs.List.{list_any}
 use Rattle.std.specs.Str.{bytes_eq}
 use Rattle.std.proofs.lemmas.Bool.{ne_eqb}
@@ -15,12 +15,12 @@ use Rattle.nx_events.specs.Among.{faults_among, events_among}
 use Rattle.nx_events.specs.Items.{items_of_text}
 use Rattle.nx_events.specs.TreeEvents.{as_event}
 use Rattle.nx_events.specs.declared.item.Event.{Event}
-use Rattle.nx_events.specs.declared.item.Event.TheVariants.{Enter, EnterLost, Att, TagEnd, Chars, Leave}
+use Rattle.nx_events.specs.declared.item.Event.TheVariants.{Enter, Att, TagEnd, Chars, Leave}
 use Rattle.nx_events.specs.declared.item.Item.{Item}
 use Rattle.nx_events.specs.declared.item.Item.TheVariants as items
 use Rattle.nx_locate.specs.declared.rule.Rule.{Rule}
 use Rattle.nx_locate.specs.Rules.{Values, value_of, target_of, rule_by, rules_in, listed, rules_namespace, root_name, HasRules, HasNoRules, IsReadAs}
-use Rattle.nx_locate.specs.RulesRead.{entered, is_fault, attribute_in, value_or, value_among, rule_at, rule_entered, depth_behind, rules_from, begins_rules, FindsRules}
+use Rattle.nx_locate.specs.RulesRead.{entered, is_fault, value_among, rule_at, rule_entered, depth_behind, rules_from, begins_rules}
 
 -- ---- items without a fault
 

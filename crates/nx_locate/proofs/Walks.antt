@@ -1,22 +1,21 @@
 -- Rules files that are read in turns, along the chain of those that are open.
-use Rattle.std.proofs.Common.{◌≡◌, refl, sym, ap, ◌∙◌, subst, ℕ, suc, List, [], ◌∷◌, ◌++◌, length, map, reverse, Option, Some, None, Result, Ok, Err, Vec, Global, arith, append_assoc, append-nil, IsUtf8, Contains, IfOk, OnOk, Bool, true, false, ◌||◌}
-use Rattle.std.specs.List.{AllByRecursion, list_any}
+use Rattle.std.proofs.Common.{◌≡◌, refl, sym, ap, ◌∙◌, subst, ℕ, List, [], ◌∷◌, ◌++◌, length, map, reverse, Option, Some, None, Result, Ok, Err, Vec, Global, arith, append_assoc, append-nil, IsUtf8, Contains, IfOk, ◌||◌}
+use Rattle.std.specs.List.{list_any}
 use Rattle.std.specs.Str.{bytes_eq}
 use Rattle.std.proofs.lemmas.List.{reverse-append, reverse-reverse}
 use Rattle.nx_base.specs.declared.locate_fault.LocateFault.{LocateFault}
 use Rattle.nx_base.specs.declared.locate_fault.LocateFault.TheVariants.{RulesAbsent, RulesNotUtf8, BadRules, RulesLoop, BadUri, Failed, NoMemory}
 use Rattle.nx_host.specs.Files.{FileMap}
-use Rattle.nx_host.specs.Uri.{Joins, IsBadUri}
+use Rattle.nx_host.specs.Uri.{Joins}
 use Rattle.nx_locate.specs.declared.load.OpenFile.{OpenFile}
 use Rattle.nx_locate.specs.declared.rule.PlacedRule.{PlacedRule}
 use Rattle.nx_locate.specs.declared.rule.Rule.{Rule}
 use Rattle.nx_locate.specs.declared.rule.Rule.TheVariants.{Include, Uri, DocumentElement, Namespace, Default, Transform, TypeId}
-use Rattle.nx_locate.specs.Answering.{AreTextPlaced}
 use Rattle.nx_locate.specs.Loading.{ReadsFile}
 use Rattle.nx_locate.specs.Locates.{IfTold}
-use Rattle.nx_locate.specs.RulesFiles.{Says, included_by, AllRules, of_file, Replaced, no_rules, own_rule, included, Chain, the_first, a_further, IsReached, IsAbsent, IsNoText, IsBad, Includes, IsLoop, HasBadInclude}
-use Rattle.nx_locate.specs.RulesRead.{IsTextRule, AreTextRules}
-use Rattle.nx_locate.specs.Walking.{Open, opened, open_of, opens_of, left_in, uris_of, IsLeft, none_open, one_open, IsOpen, AreOpen, IsUnderWay, UnderWay, IsTextOpen, AreTextOpen, Refuses, NextUri, IsAdded, OpensFile, GoesOn, Lists, Loads}
+use Rattle.nx_locate.specs.RulesFiles.{Says, included_by, AllRules, of_file, Replaced, no_rules, own_rule, included, the_first, a_further, IsReached, IsAbsent, IsNoText, IsBad, Includes, HasBadInclude}
+use Rattle.nx_locate.specs.RulesRead.{AreTextRules}
+use Rattle.nx_locate.specs.Walking.{Open, opened, open_of, opens_of, left_in, uris_of, IsLeft, none_open, one_open, IsOpen, UnderWay, IsTextOpen, AreTextOpen, Refuses, NextUri, IsAdded, OpensFile, GoesOn}
 
 -- ---- a file that is refused
 

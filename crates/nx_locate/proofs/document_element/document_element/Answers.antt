@@ -1,4 +1,4 @@
-use Rattle.std.proofs.Common.{◌≡◌, sym, subst, arith, refl, ◌+◌, ◌≤◌, length, ap, Option, ℕ, ◌∙◌}
+use Rattle.std.proofs.Common.{◌≡◌, sym, subst, arith, ◌+◌, ◌≤◌, length, Option}
 use Rattle.std.proofs.lemmas.Str.{IsCharBoundary-start}
 use Rattle.nx_base.specs.Text.{IsPlace}
 use Rattle.nx_base.specs.Tokens.{CutAt}

@@ -1,4 +1,4 @@
-use Rattle.std.proofs.Common.{◌≡◌, sym, ◌∙◌, arith}
+use Rattle.std.proofs.Common.{sym, ◌∙◌, arith}
 use Rattle.nx_locate.proofs.Spellings.{no_tag, inside_at, name_ended, name_further, name_whole}
 use Rattle.nx_locate.proofs.document_element.start_name.Goals as goal
 

@@ -1,4 +1,4 @@
-use Rattle.std.proofs.Common.{◌≡◌, List, length}
+use Rattle.std.proofs.Common.{◌≡◌, length}
 use Rattle.nx_locate.specs.Answering.{question}
 use Rattle.nx_locate.proofs.Giving.{GaveNothing}
 use Rattle.nx_locate.proofs.leading.all_give.Given as goal

@@ -1,4 +1,4 @@
-use Rattle.std.proofs.Common.{◌≡◌, sym}
+use Rattle.std.proofs.Common.{sym}
 use Rattle.nx_locate.proofs.Giving.{lead_here, lead_further, no_lead}
 use Rattle.nx_locate.proofs.leading.leads_of_type.Goals as goal
 

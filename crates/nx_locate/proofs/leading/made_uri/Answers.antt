@@ -1,7 +1,7 @@
-use Rattle.std.proofs.Common.{◌≡◌, ◌≢◌, sym, subst, ap, ◌∙◌, refl, IsUtf8, ℕ, List, Option, Some, None, Err, length}
+use Rattle.std.proofs.Common.{sym, subst, ap, ◌∙◌, IsUtf8, ℕ, List, Some, None, Err}
 use Rattle.nx_host.specs.Uri.{Joins, IsBadUri}
 use Rattle.nx_locate.specs.Leading.{not_fitting, other_number, not_made}
-use Rattle.nx_locate.specs.Patterns.{PatternFits, stars, made_text}
+use Rattle.nx_locate.specs.Patterns.{stars, made_text}
 use Rattle.nx_locate.proofs.Making.{made_is_text, runs_are, made_are}
 use Rattle.nx_locate.proofs.leading.made_uri.Goals as goal
 

@@ -1,4 +1,4 @@
-use Rattle.std.proofs.Common.{◌≡◌, sym, subst, refl, ℕ, List, Option, Some, Ok, Bool}
+use Rattle.std.proofs.Common.{sym, subst, refl, ℕ, List, Option, Some, Ok, Bool}
 use Rattle.nx_locate.specs.Answering.{PatternAnswers}
 use Rattle.nx_locate.proofs.Giving.{pattern_told}
 use Rattle.nx_locate.proofs.Making.{runs_are}

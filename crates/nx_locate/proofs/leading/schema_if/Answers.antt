@@ -1,4 +1,4 @@
-use Rattle.std.proofs.Common.{◌≡◌, sym, subst, []}
+use Rattle.std.proofs.Common.{sym, subst, []}
 use Rattle.nx_locate.specs.Leading.{Leads, GivesIf, applies, passed_over, nothing}
 use Rattle.nx_locate.proofs.Giving.{answers_with}
 use Rattle.nx_locate.proofs.leading.schema_if.Goals as goal

@@ -1,7 +1,6 @@
 use Rattle.std.proofs.Common.{◌≡◌, sym, subst, ap, ◌∙◌, [], ◌∷◌, ◌++◌, List, ℕ, Some, None}
 use Rattle.nx_locate.specs.declared.rule.Target.{Target}
-use Rattle.nx_locate.specs.Leading.{Outcome, nothing, Refers, Leads, by_uri, by_type, type_met, type_unknown, leads_of_type}
-use Rattle.nx_locate.specs.RulesRead.{IsTextTarget}
+use Rattle.nx_locate.specs.Leading.{nothing, Refers, Leads, by_uri, by_type, type_met, type_unknown, leads_of_type}
 use Rattle.nx_locate.proofs.Among.{met_by, not_met_by}
 use Rattle.nx_locate.proofs.Giving.{answers_with, lead_texts}
 use Rattle.nx_locate.proofs.leading.schema_of.Goals as goal

@@ -1,5 +1,5 @@
-use Rattle.std.proofs.Common.{◌≡◌, subst, ℕ, List, Option, Some, Ok}
-use Rattle.nx_locate.specs.Answering.{MadeAnswers, IsMade}
+use Rattle.std.proofs.Common.{subst, ℕ, List, Option, Some, Ok}
+use Rattle.nx_locate.specs.Answering.{MadeAnswers}
 use Rattle.nx_locate.proofs.Giving.{made_there}
 use Rattle.nx_locate.proofs.leading.transform_gives.Goals as goal
 

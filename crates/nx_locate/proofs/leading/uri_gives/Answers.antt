@@ -1,4 +1,3 @@
-use Rattle.std.proofs.Common.{◌≡◌, sym, subst, []}
 use Rattle.std.proofs.lemmas.Result.{err_from_is_err_and}
 use Rattle.nx_locate.proofs.Giving.{resource_refused, by_resource_true, by_pattern_true, by_neither_true}
 use Rattle.nx_locate.proofs.leading.uri_gives.Goals as goal

@@ -1,4 +1,4 @@
-use Rattle.std.proofs.Common.{◌≡◌, ◌∙◌, ap, subst, sym, Ok, Err, IsUtf8, [], ◌∷◌}
+use Rattle.std.proofs.Common.{◌∙◌, ap, subst, sym, IsUtf8, []}
 use Rattle.std.proofs.lemmas.Result.{err_from_is_err_and}
 use Rattle.nx_locate.specs.Walking.{UnderWay, opens_of}
 use Rattle.nx_locate.specs.RulesFiles.{AllRules}

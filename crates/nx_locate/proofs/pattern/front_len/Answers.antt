@@ -1,5 +1,4 @@
-use Rattle.std.proofs.Common.{◌≡◌, ◌+◌, ◌∙◌, ap, sym, arith, rules, Some, None, length, eqb, true}
-use Rattle.nx_locate.specs.Running.{front_len}
+use Rattle.std.proofs.Common.{arith, Some, true}
 use Rattle.nx_locate.proofs.Stretches.{at_a_star, at_no_text, at_other, at_same, at_whole, at_part}
 use Rattle.nx_locate.proofs.pattern.front_len.Goals as goal
 

@@ -1,4 +1,4 @@
-use Rattle.std.proofs.Common.{◌≡◌, ℕ, ◌+◌, length, option_map}
+use Rattle.std.proofs.Common.{◌≡◌, ◌+◌, length, option_map}
 use Rattle.nx_locate.specs.Running.{front_len}
 use Rattle.nx_locate.proofs.pattern.front_len.Given as goal
 

@@ -1,4 +1,4 @@
-use Rattle.std.proofs.Common.{◌≡◌, ◌+◌, arith, length}
+use Rattle.std.proofs.Common.{arith}
 use Rattle.nx_locate.proofs.Stretches.{found_here, found_at_end, none_at_end, stopped, further}
 use Rattle.nx_locate.proofs.pattern.next_stretch.Goals as goal
 

@@ -1,5 +1,4 @@
-use Rattle.std.proofs.Common.{◌≡◌, ℕ, ◌+◌, length, option_map}
-use Rattle.nx_locate.specs.declared.pattern.Stretch.{Stretch}
+use Rattle.std.proofs.Common.{◌≡◌, ◌+◌, length, option_map}
 use Rattle.nx_locate.specs.Running.{next_stretch}
 use Rattle.nx_locate.proofs.Stretches.{later_by}
 use Rattle.nx_locate.proofs.pattern.next_stretch.Given as goal

@@ -1,5 +1,4 @@
-use Rattle.std.proofs.Common.{◌≡◌, ◌+◌, ◌∙◌, sym, arith, length, subst}
-use Rattle.nx_locate.specs.Patterns.{CanMatch}
+use Rattle.std.proofs.Common.{sym}
 use Rattle.nx_locate.proofs.Stretches.{nowhere, begins_by, goes_on_by, nowhere_by, fits_whole}
 use Rattle.nx_locate.proofs.pattern.runs_of.Goals as goal
 

@@ -1,4 +1,4 @@
-use Rattle.std.proofs.Common.{◌≡◌, ℕ, List, length}
+use Rattle.std.proofs.Common.{length}
 use Rattle.nx_locate.proofs.Stretches.{GoesOn}
 use Rattle.nx_locate.proofs.pattern.runs_of.Given as goal
 

@@ -1,6 +1,5 @@
 use Rattle.nx_locate.proofs.RuleItems.{depth_grows, rules_further, rules_end}
-use Rattle.std.proofs.Common.{arith, sym}
-use Rattle.nx_locate.specs.RulesRead.{rules_from}
+use Rattle.std.proofs.Common.{arith}
 use Rattle.nx_locate.proofs.read.rules_of.Goals as goal
 
 pub loop-item-preserved : goal.loop-item-preserved

@@ -1,5 +1,5 @@
 use Rattle.nx_locate.proofs.RuleItems.{value_here, value_stops, value_further, value_ends}
-use Rattle.std.proofs.Common.{◌≡◌, ◌∙◌, sym, ap, Some}
+use Rattle.std.proofs.Common.{◌∙◌, sym, ap, Some}
 use Rattle.nx_locate.proofs.read.value.Goals as goal
 
 pub returns-in_default-attribute_in : goal.returns-in_default-attribute_in

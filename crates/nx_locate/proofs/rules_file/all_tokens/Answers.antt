@@ -1,4 +1,4 @@
-use Rattle.std.proofs.Common.{◌≡◌, refl, sym, arith, subst, ◌∙◌, ◌+◌, ◌++◌, length, Option, IfSome, IsUtf8, List}
+use Rattle.std.proofs.Common.{◌≡◌, sym, arith, subst, ◌+◌, ◌++◌, length, Option, IfSome, IsUtf8}
 use Rattle.std.proofs.lemmas.Str.{IsCharBoundary-start}
 use Rattle.nx_base.specs.Text.{IsPlace}
 use Rattle.nx_base.specs.Tokens.{CutAt, tokens_from, tokens_of}

@@ -1,4 +1,4 @@
-use Rattle.std.proofs.Common.{◌≡◌, sym, subst}
+use Rattle.std.proofs.Common.{sym, subst}
 use Rattle.nx_locate.specs.RulesRead.{AreTextRules}
 use Rattle.nx_locate.proofs.RuleTexts.{rules_text}
 use Rattle.nx_locate.proofs.TreeRules.{has_rules, has_fault, has_other_root}

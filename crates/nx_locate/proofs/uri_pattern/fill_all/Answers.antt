@@ -1,4 +1,4 @@
-use Rattle.std.proofs.Common.{◌≡◌, sym, arith}
+use Rattle.std.proofs.Common.{arith}
 use Rattle.nx_locate.proofs.Making.{fill_more, fill_whole}
 use Rattle.nx_locate.proofs.uri_pattern.fill_all.Goals as goal
 

@@ -1,4 +1,4 @@
-use Rattle.std.proofs.Common.{◌≡◌, arith, ap, not}
+use Rattle.std.proofs.Common.{arith, ap, not}
 use Rattle.std.proofs.lemmas.Bool.{ne_eqb}
 use Rattle.nx_locate.proofs.Spellings.{slash_found, no_slash, one_further}
 use Rattle.nx_locate.proofs.uri_pattern.folder_len.Goals as goal

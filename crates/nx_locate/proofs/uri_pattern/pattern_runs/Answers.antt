@@ -1,4 +1,4 @@
-use Rattle.std.proofs.Common.{◌≡◌, sym, subst}
+use Rattle.std.proofs.Common.{sym, subst}
 use Rattle.nx_locate.specs.Making.{HasPatternRuns}
 use Rattle.nx_locate.specs.Patterns.{file_name_of, folder_of}
 use Rattle.nx_locate.specs.Running.{HasRuns}

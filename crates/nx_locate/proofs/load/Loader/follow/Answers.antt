@@ -1,4 +1,4 @@
-use Rattle.std.proofs.Common.{◌≡◌, sym, subst, arith, ◌∷◌, ◌∙◌}
+use Rattle.std.proofs.Common.{sym, subst, arith, ◌∷◌, ◌∙◌}
 use Rattle.std.proofs.lemmas.Result.{err_from_is_err_and}
 use Rattle.nx_locate.specs.Walking.{UnderWay, opens_of, open_of}
 use Rattle.nx_locate.proofs.Walks.{all_listed, none_open_left, put_behind, refuses_alike}

@@ -1,5 +1,5 @@
-use Rattle.std.proofs.Common.{◌≡◌, sym, subst, refl, ◌∷◌, arith}
-use Rattle.nx_locate.specs.Walking.{Open, left_in, opens_of, opened, UnderWay}
+use Rattle.std.proofs.Common.{subst, refl, ◌∷◌, arith}
+use Rattle.nx_locate.specs.Walking.{Open, opens_of, UnderWay}
 use Rattle.nx_locate.proofs.Walks.{taken, ended, none_waiting}
 use Rattle.nx_locate.proofs.load.Loader.go_on.Goals as goal
 

@@ -1,4 +1,3 @@
-use Rattle.std.proofs.Common.{◌≡◌, sym, subst}
 use Rattle.std.proofs.lemmas.Result.{err_from_is_err_and}
 use Rattle.nx_locate.specs.Walking.{left_in, opens_of}
 use Rattle.nx_locate.proofs.Walks.{not_next, opens_or_not, put_behind, opened_texts}

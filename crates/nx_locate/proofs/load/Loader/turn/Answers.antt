@@ -1,7 +1,7 @@
-use Rattle.std.proofs.Common.{◌≡◌, sym, subst, ap, ◌∙◌, ◌∷◌, ◌++◌, [], refl}
+use Rattle.std.proofs.Common.{sym, subst, ◌∷◌, refl}
 use Rattle.nx_locate.specs.declared.rule.Rule.{Rule}
-use Rattle.nx_locate.specs.Walking.{left_in, opens_of, opened, UnderWay, GoesOn}
-use Rattle.nx_locate.proofs.Walks.{is_include, listed_one, put_behind, listed_now, included_now}
+use Rattle.nx_locate.specs.Walking.{left_in, opens_of, opened, UnderWay}
+use Rattle.nx_locate.proofs.Walks.{is_include, listed_now, included_now}
 use Rattle.nx_locate.proofs.load.Loader.turn.Goals as goal
 
 pub returns-in-Some-clause-goes_on : goal.returns-in-Some-clause-goes_on
