@@ -4,7 +4,7 @@ ghost use Rattle.std.specs.Prelude.{◌≡◌, ◌<◌, length, IfOk};
 ghost use Rattle.std.specs.List.{filter};
 ghost use Rattle.rng_kept.specs.Required as required;
 ghost use Rattle.rng_live.specs.Calls.{AreRequired};
-ghost use Rattle.deriv_plain.specs.Possible.{ArePossible};
+ghost use Rattle.rng_live.specs.Possible.{ArePossible};
 ghost use Rattle.deriv_states.specs.Places.{IsThere, state_in, way_in};
 
 use deriv_states::branch::{Branch, Row};

@@ -1,13 +1,15 @@
-pub mod Answering
-pub mod DocumentElements
-pub mod ElementsFound
-pub mod Leading
-pub mod Loading
-pub mod Locates
-pub mod Making
+-- ---- what a reader must believe: what `locate` answers, and that on which it stands
 pub mod Patterns
 pub mod Rules
 pub mod RulesFiles
+pub mod DocumentElements
+pub mod Leading
+pub mod Locates
+-- ---- what private contracts and proofs cite
+pub mod Answering
+pub mod ElementsFound
+pub mod Loading
+pub mod Making
 pub mod RulesRead
 pub mod Running
 pub mod Walking
