@@ -7,6 +7,7 @@
 #![tactic(auto)]
 
 mod known;
+pub mod law;
 pub mod pool;
 mod recalling;
 mod required;

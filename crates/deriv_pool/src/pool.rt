@@ -28,7 +28,7 @@ use std::alloc::Global;
 #[derive(Drop)]
 pub struct Pool {
     schema: Schema,
-    states: States,
+    pub(crate) states: States,
     memory: Memory,
     ghost live: { ∥ IsLive (schema_language schema) ∥₁ },
     ghost sound: { ∥ IsSound schema.grammar ∥₁ },
