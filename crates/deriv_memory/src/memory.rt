@@ -100,7 +100,7 @@ impl Memory {
         Ok((ns, local))
     }
 
-    /// What was noted of a call.
+    /// The answer that was noted of a call, which may be that there is no state; none where nothing was noted.
     pub fn recalled(&self, call: Asked) -> Option<Option<usize>>
         ensures { result ≡ noted self.now call }
     {
