@@ -37,7 +37,7 @@ pub struct Pool {
 }
 
 impl Pool {
-    /// The matcher of a schema, with no state yet.
+    /// The matcher of a schema. It has the nodes of the contents of definitions, and no state yet.
     pub fn new(alloc: Global, schema: Schema) -> Result<Pool, NoMemory>
         requires live { IsLive (schema_language schema) }
         requires sound { IsSound schema.grammar }
@@ -53,7 +53,7 @@ impl Pool {
         })
     }
 
-    /// The node of the start.
+    /// The node of the schema's start.
     fn start(&mut self, alloc: Global) -> Result<usize, NoMemory>
         ensures schema { self.new.schema ≡ self.old.schema }
         ensures later { LaterPlaces self.old.states self.new.states }
