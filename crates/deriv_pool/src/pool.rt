@@ -176,7 +176,7 @@ impl Matcher for Pool {
     fn leave(&mut self, alloc: Global, s: &PoolState) -> Result<Option<PoolState>, NoMemory> {
         let defs = self.schema.grammar().defs.as_slice();
         match recalled_leave(&self.states, &self.memory, defs, *s) {
-            Some(answer) => Ok(answer),
+            Some(outside) => Ok(outside),
             None => left(alloc, &mut self.states, &mut self.memory, defs, *s),
         }
     }
