@@ -3,7 +3,6 @@ use Rattle.std.specs.Prelude.{◌≡◌, ◌↔◌, List, [], ◌++◌, Option}
 use Rattle.rng_core.specs.Patterns.{Pattern, Language, not_allowed}
 use Rattle.rng_kept.specs.Residuals.{Outer, document, Residual}
 use Rattle.rng_live.specs.Calls.{Answers, Gives}
-use Rattle.deriv_nodes.specs.Numbers.{AreSingle}
 use Rattle.deriv_states.specs.Tables.{AreApart}
 use Rattle.deriv_pool.specs.Later.{IsLater, IsStateOf, language_in, meaning_of}
 use Rattle.deriv_pool.specs.declared.pool.Pool.{Pool}
@@ -11,7 +10,7 @@ use Rattle.deriv_pool.specs.declared.state.PoolState.{PoolState}
 
 -- no two nodes stand for one pattern, no two outers are one, and no two states mean the same
 pub record HasNoDoubles (m : Pool) : Type 0 where
-  pub patterns : AreSingle m.states.patterns
+  pub patterns : AreApart not_allowed m.states.patterns
   pub outers : AreApart (document not_allowed) m.states.outers
   pub states : AreApart [] m.states.states
 

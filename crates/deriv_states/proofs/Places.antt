@@ -328,8 +328,8 @@ module _ (patterns : List Pattern) (xs : List Around) (rs : List Row) (cs : List
       ((λ t. outers_apart o u first second (told.0 t)), (λ e. told.1 (subst Q e refl)))) here there
 
   -- nothing stands twice
-  pub patterns_single : (places : Places) → places_of patterns xs rs cs ≡ places → AreSingle places.patterns
-  patterns_single places is = let P : Places → Type 0 = λ p. AreSingle p.patterns in subst P is single
+  pub patterns_single : (places : Places) → places_of patterns xs rs cs ≡ places → AreApart not_allowed places.patterns
+  patterns_single places is = let P : Places → Type 0 = λ p. AreApart not_allowed p.patterns in subst P is single
 
   pub outers_single : (places : Places) → places_of patterns xs rs cs ≡ places → AreApart (document not_allowed) places.outers
   outers_single places is = let P : Places → Type 0 = λ p. AreApart (document not_allowed) p.outers in subst P is outers_apart

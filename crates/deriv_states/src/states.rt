@@ -16,7 +16,7 @@ ghost use Rattle.rng_kept.specs.Merging as merging;
 ghost use Rattle.rng_kept.specs.Required as required;
 ghost use Rattle.rng_kept.specs.Residuals as residual;
 ghost use Rattle.deriv_pattern.specs.Leaves.{IsInOrder};
-ghost use Rattle.deriv_nodes.specs.Numbers.{at, AreSingle, IsAt};
+ghost use Rattle.deriv_nodes.specs.Numbers.{at, IsAt};
 ghost use Rattle.deriv_nodes.specs.Opened.{openings_at, AreNodes, AreOpened};
 ghost use Rattle.deriv_states.specs.Parts.{outer_made, state_made, ContentsAreInOrder, IsAroundBelow, IsRowBelow};
 ghost use Rattle.deriv_states.specs.Places.{AreContents, IsOuter, IsState, IsThere, LaterPlaces, outer_in, state_in, way_in};
@@ -403,7 +403,7 @@ impl States {
 
     /// No two nodes stand for the same pattern, no two outers are the same, and no two states mean the same. Nothing here runs.
     pub fn no_doubles(&self)
-        ensures patterns { AreSingle self.now.patterns }
+        ensures patterns { AreApart not_allowed self.now.patterns }
         ensures outers { AreApart (residual.document not_allowed) self.now.outers }
         ensures states { AreApart [] self.now.states }
     {
