@@ -1,5 +1,5 @@
 -- What is remembered: the parts of names by their numbers, and answers of calls.
-use Rattle.std.specs.Prelude.{◌≡◌, ℕ, ◌<◌, ◌≤◌, List, [], length, Option, Some, slice_index_or}
+use Rattle.std.specs.Prelude.{◌≡◌, ℕ, ◌<◌, ◌≤◌, ◌⊎◌, List, [], ◌∷◌, ◌++◌, length, Option, Some, slice_index_or}
 use Rattle.std.specs.Map.{lookup}
 use Rattle.nx_base.specs.declared.name.Name.{Name}
 use Rattle.deriv_memory.specs.declared.asked.Asked.{Asked}
@@ -29,6 +29,10 @@ pub record IsName (texts : List (List ℕ)) (name : Name) (numbers : ℕ × ℕ)
 -- no text has two numbers
 abbrev pub AreOnce : List (List ℕ) → Type 0
 AreOnce texts = (i j : ℕ) → i < length texts → j < length texts → slice_index_or texts i [] ≡ slice_index_or texts j [] → i ≡ j
+
+-- the texts as they were, or with this one at the end
+abbrev pub IsAtMostOneMore : List (List ℕ) → List (List ℕ) → List ℕ → Type 0
+IsAtMostOneMore old new text = (new ≡ old) ⊎ (new ≡ old ++ text ∷ [])
 
 -- ---- later memories
 

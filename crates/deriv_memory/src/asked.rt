@@ -7,7 +7,7 @@ ghost use Rattle.deriv_memory.specs.Calls.{form_of, state_of, ns_of, local_of, s
 
 use std::hash::{Hash, Hasher};
 
-/// A call on a state, by the state's number. Names are two numbers: that of the namespace and that of the local part.
+/// A call on a state, by the state's number. A name is two numbers: that of its namespace and that of its local part.
 #[derive(Clone, Copy, Debug)]
 pub enum Asked {
     /// Behind the start of an element of this name.
@@ -41,7 +41,7 @@ impl Asked {
         }
     }
 
-    /// The number of the name's namespace, where there is a name.
+    /// The number of the name's namespace; 0 where there is no name.
     fn ns(&self) -> usize
         ensures { result ≡ ns_of self.now }
     {
@@ -51,7 +51,7 @@ impl Asked {
         }
     }
 
-    /// The number of the name's local part, where there is a name.
+    /// The number of the name's local part; 0 where there is no name.
     fn local(&self) -> usize
         ensures { result ≡ local_of self.now }
     {

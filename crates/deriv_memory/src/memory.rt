@@ -1,8 +1,8 @@
 //! Texts and answers that are kept.
 
-ghost use Rattle.std.specs.Prelude.{◌≡◌, ℕ, [], Some, None, Option, IfOk, IfSome, IfNone, OnOk, OnErr};
+ghost use Rattle.std.specs.Prelude.{◌≡◌, ℕ, [], Some, None, Ok, Option, IfOk, IfSome, IfNone, OnOk, OnErr};
 ghost use Rattle.deriv_memory.specs.declared.asked.Asked.{Asked as TheAsked};
-ghost use Rattle.deriv_memory.specs.Remembered.{noted, IsText, IsName, AreOnce, LaterMemory, IsNoted};
+ghost use Rattle.deriv_memory.specs.Remembered.{noted, IsText, IsName, AreOnce, IsAtMostOneMore, LaterMemory, IsNoted};
 
 use crate::asked::Asked;
 use indexmap::{IndexMap, IndexSet};
@@ -56,6 +56,8 @@ impl Memory {
         ensures later { LaterMemory self.old self.new }
         ensures answers { self.new.answers ≡ self.old.answers }
         ensures made { IfOk result (IsText self.new.texts text.now) }
+        ensures only { IsAtMostOneMore self.old.texts self.new.texts text.now }
+        ensures known { (number : ℕ) → IsText self.old.texts text.now number → (result ≡ Ok number) × (self.new ≡ self.old) }
     {
         match self.text_number(text) {
             Some(number) => Ok(number),
@@ -63,12 +65,13 @@ impl Memory {
         }
     }
 
-    /// The number of a text that comes last.
+    /// The number of a text, which is put last where it isn't there.
     fn add_text(&mut self, alloc: Global, text: &[u8]) -> Result<usize, NoMemory>
         ensures once { AreOnce self.new.texts }
         ensures later { LaterMemory self.old self.new }
         ensures answers { self.new.answers ≡ self.old.answers }
         ensures made { IfOk result (IsText self.new.texts text.now) }
+        ensures only { IsAtMostOneMore self.old.texts self.new.texts text.now }
     {
         let (number, _) = self.texts.insert_full(Vec::from_slice(alloc, text)?)?;
         Ok(number)
@@ -97,7 +100,7 @@ impl Memory {
         Ok((ns, local))
     }
 
-    /// What was noted of a call.
+    /// The answer that was noted of a call, which may be that there is no state; none where nothing was noted.
     pub fn recalled(&self, call: Asked) -> Option<Option<usize>>
         ensures { result ≡ noted self.now call }
     {

@@ -2,3 +2,4 @@ pub mod InOrder
 pub mod Opened
 pub mod Needed
 pub mod Same
+pub mod Props

@@ -1,6 +1,5 @@
 mod Alike
 mod Joined
-pub mod Steady
-pub mod Needed
-pub mod Props
+mod Steady
+mod Needed
 mod Knowing

@@ -1,10 +1,8 @@
 -- The patterns of a state stay in order.
 use Rattle.std.specs.Prelude.{ℕ, List, [], ◌∷◌, ◌++◌, Bool, true, false, map, if◌then◌else◌, zero, suc, ◌≡◌}
-use Rattle.std.specs.List.{AllByRecursion}
 use Rattle.nx_base.specs.Characters.{is_blank}
 use Rattle.nx_base.specs.declared.name.Name.{Name}
 use Rattle.rng_core.specs.Patterns.{Pattern, Definition}
-use Rattle.rng_core.specs.Soundness.{IsSoundDefinition}
 use Rattle.rng_kept.specs.Nullable.{nullable}
 use Rattle.rng_kept.specs.SmallPatterns.{is_not_allowed}
 use Rattle.rng_kept.specs.Attributes.{after_attribute, after_any_attribute, close, drop}
@@ -15,7 +13,7 @@ use Rattle.rng_kept.specs.Merging.{can_join_ways, joined_outer, joined_way, with
 use Rattle.rng_kept.specs.Entering.{content_of, rest_at, has_number, tag_at_top, tag_of_both, tag_of_loose, others, enter_outer, enter_way, skip_outer, skip_way}
 use Rattle.rng_kept.specs.Tags.{tag_of, attribute_way, any_value_way, children_of, tag_end_way, missing_way}
 use Rattle.rng_kept.specs.Content.{is_dead_outer, among_of, loose_after, outer_after, chars_way, outer_after_any, any_string_way, may_leave, leave_outer, leave_way, leave_skip_outer, leave_skip_way}
-use Rattle.deriv_pattern.specs.Leaves.{IsInOrder, RestsAreInOrder, LeftInOrder, SoundAreInOrder}
+use Rattle.deriv_pattern.specs.Leaves.{IsInOrder, RestsAreInOrder, LeftInOrder}
 use Rattle.deriv_plain.specs.declared.step.Step.{Step}
 use Rattle.deriv_plain.specs.declared.step.Step.TheVariants as step
 use Rattle.deriv_plain.specs.Order.{OuterIsInOrder, WayIsInOrder, AreInOrder, ContentsAreInOrder, StepIsInOrder}
@@ -35,11 +33,6 @@ content_in_order : (g : List Definition) (i : ℕ) → ContentsAreInOrder g → 
 content_in_order [] i a = tt
 content_in_order (d ∷ g) zero a = a.0
 content_in_order (d ∷ g) (suc i) a = content_in_order g i a.1
-
--- the contents of a sound grammar
-pub sound_contents : SoundAreInOrder → (count : ℕ) (g : List Definition) → AllByRecursion (IsSoundDefinition count) g → ContentsAreInOrder g
-sound_contents sound count [] a = tt
-sound_contents sound count (d ∷ g) a = (sound count d.content (a.0).content_is, sound_contents sound count g a.1)
 
 module _ (left : LeftInOrder) where
   joined_in_order : (o u : Outer) → OuterIsInOrder o → OuterIsInOrder u → OuterIsInOrder (joined_outer o u)

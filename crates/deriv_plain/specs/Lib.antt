@@ -3,5 +3,4 @@ pub mod Sameness
 pub mod Order
 pub mod Steps
 pub mod Laws
-pub mod Possible
 pub mod Known

@@ -4,7 +4,7 @@ ghost use Rattle.std.specs.Prelude.{◌≡◌, IfOk};
 ghost use Rattle.std.specs.List.{filter};
 ghost use Rattle.rng_kept.specs.Required as required;
 ghost use Rattle.rng_live.specs.Calls.{AreRequired};
-ghost use Rattle.deriv_plain.specs.Possible.{ArePossible};
+ghost use Rattle.rng_live.specs.Possible.{ArePossible};
 ghost use Rattle.deriv_plain.specs.Ways.{way_of, residual_of};
 
 use crate::ways::OneWay;

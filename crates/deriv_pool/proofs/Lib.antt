@@ -2,3 +2,4 @@ pub mod Fits
 pub mod Knowing
 pub mod Needing
 pub mod Remembering
+pub mod Single

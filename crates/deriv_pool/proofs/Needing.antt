@@ -3,7 +3,7 @@ use Rattle.std.specs.Prelude.{◌≡◌, List, ◌∷◌, Result, Ok, Err, IfOk}
 use Rattle.std.proofs.Common.{sym, subst}
 use Rattle.nx_base.specs.declared.name.Name.{Name}
 use Rattle.rng_kept.specs.Residuals.{Residual, Outer, among}
-use Rattle.deriv_plain.specs.Possible.{ArePossible}
+use Rattle.rng_live.specs.Possible.{ArePossible}
 
 -- a way that is in no start tag requires nothing
 pub possible_more : {E : Type 0} (found : Result (List Name) E) (x more : Residual) (o : Outer) → x ≡ among o ∷ more →

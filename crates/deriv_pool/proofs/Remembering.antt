@@ -11,7 +11,7 @@ use Rattle.rng_kept.specs.Residuals.{Residual}
 use Rattle.rng_kept.specs.Merging.{answered}
 use Rattle.rng_kept.specs.Entering.{enter}
 use Rattle.rng_live.specs.Calls.{Answers, Call, call_enter, call_tag_end, call_leave}
-use Rattle.deriv_states.specs.Places.{Places, LaterPlaces, state_in}
+use Rattle.deriv_states.specs.Places.{Places, LaterPlaces, state_in, IsState as IsNumber}
 use Rattle.deriv_states.specs.Codes.{residual_code}
 use Rattle.deriv_states.specs.Tables.{AreApart}
 use Rattle.deriv_memory.specs.declared.asked.Asked.{Asked}
@@ -21,7 +21,7 @@ use Rattle.deriv_memory.specs.Remembered.{Remembered, noted, IsText, IsName, Are
 use Rattle.deriv_memory.proofs.Laws.{name_stays, one_name, noted_from}
 use Rattle.deriv_pool.specs.Meaning.{IsState, means_in}
 use Rattle.deriv_pool.specs.declared.state.PoolState.{PoolState}
-use Rattle.deriv_pool.specs.Remembering.{name_in, behind, IsAsked, as_states, IsAnswer, AreAnswers, Means, Asks, Remembers, KeepsNoted}
+use Rattle.deriv_pool.specs.Remembering.{name_in, behind, IsAsked, as_states, IsAnswer, AreAnswers, Asks, Remembers, KeepsNoted}
 
 -- ---- answers stay
 
@@ -143,7 +143,7 @@ name_is texts name numbers is =
 
 -- ---- calls that are remembered
 
-same_state : (places : Places) (s t : ℕ) (x : Residual) → AreApart [] places.states → s < length places.states → state_in places.states s ≡ x → Means places t x → t ≡ s
+same_state : (places : Places) (s t : ℕ) (x : Residual) → AreApart [] places.states → s < length places.states → state_in places.states s ≡ x → IsNumber places x t → t ≡ s
 same_state places s t x apart here is means = apart t s means.there here (means.meaning ∙ sym is)
 
 is_enter : (n m : Name) → call_enter n ≡ call_enter m → n ≡ m

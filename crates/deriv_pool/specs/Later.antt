@@ -23,7 +23,7 @@ language_in m = schema_language m.schema
 abbrev pub remembers_in : Pool → Residual → Call → Type 0
 remembers_in m x call = Remembers m.states m.memory x call
 
--- of the same schema, with all that was there
+-- of the same schema, with all that was there and all that was remembered
 pub record IsLater (m l : Pool) : Type 0 where
   pub schema : l.schema ≡ m.schema
   pub states : LaterPlaces m.states l.states

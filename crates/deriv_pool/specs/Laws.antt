@@ -10,10 +10,10 @@ use Rattle.deriv_memory.specs.declared.asked.Asked.TheVariants as calls
 use Rattle.deriv_memory.specs.Remembered.{Remembered, IsText, TextsGrow}
 use Rattle.rng_live.specs.Schemas.{schema_language}
 use Rattle.deriv_nodes.specs.Numbers.{Later}
-use Rattle.deriv_states.specs.Places.{Places, LaterPlaces}
+use Rattle.deriv_states.specs.Places.{Places, LaterPlaces, IsState as IsNumber}
 use Rattle.deriv_states.specs.Tables.{Grows}
 use Rattle.deriv_pool.specs.Later.{IsLater, IsStateOf, meaning_of, language_in, remembers_in}
-use Rattle.deriv_pool.specs.Remembering.{Asks, KeepsNoted, Means}
+use Rattle.deriv_pool.specs.Remembering.{Asks, KeepsNoted}
 
 grows_on : {M : Type 0} (none : M) (a b c : List M) → Grows none a b → Grows none b c → Grows none a c
 grows_on none a b c one other = record {
@@ -46,15 +46,15 @@ text_stays : (old new : List (List ℕ)) (text : List ℕ) (i : ℕ) → TextsGr
 text_stays old new text i grown is =
     record { there = omega (arith, is.there, grown.grows); meaning = grown.stays i is.there ∙ is.meaning }
 
-means_stays : (old new : Places) (s : ℕ) (x : Residual) → LaterPlaces old new → Means old s x → Means new s x
-means_stays old new s x later is =
+number_stays : (old new : Places) (s : ℕ) (x : Residual) → LaterPlaces old new → IsNumber old x s → IsNumber new x s
+number_stays old new s x later is =
     record { there = omega (arith, is.there, later.states.grows); meaning = later.states.stays s is.there ∙ is.meaning }
 
 asks_stays : (old new : Places) (before after : List (List ℕ)) (call : Asked) (x : Residual) (told : Call) → LaterPlaces old new
     → TextsGrow before after → Asks old before call x told → Asks new after call x told
 asks_stays old new before after (calls.Enter s ns local) x told later grown asks =
     let name = asks.1.0 in (
-      means_stays old new s x later asks.0,
+      number_stays old new s x later asks.0,
       (
         name,
         (
@@ -66,8 +66,8 @@ asks_stays old new before after (calls.Enter s ns local) x told later grown asks
         ),
       ),
     )
-asks_stays old new before after (calls.TagEnd s) x told later grown asks = (means_stays old new s x later asks.0, asks.1)
-asks_stays old new before after (calls.Leave s) x told later grown asks = (means_stays old new s x later asks.0, asks.1)
+asks_stays old new before after (calls.TagEnd s) x told later grown asks = (number_stays old new s x later asks.0, asks.1)
+asks_stays old new before after (calls.Leave s) x told later grown asks = (number_stays old new s x later asks.0, asks.1)
 
 keeps_same : (m : Remembered) → KeepsNoted m m
 keeps_same m = record { texts = record { grows = omega arith; stays = λ i here. refl }; calls = λ call some. some }

@@ -2,3 +2,4 @@ pub mod Later
 pub mod Laws
 pub mod Meaning
 pub mod Remembering
+pub mod Single

@@ -8,7 +8,7 @@ use Rattle.rng_kept.specs.Entering.{enter}
 use Rattle.rng_kept.specs.Tags.{tag_end}
 use Rattle.rng_kept.specs.Content.{leave}
 use Rattle.rng_live.specs.Calls.{Answers, Call, call_enter, call_tag_end, call_leave}
-use Rattle.deriv_states.specs.Places.{Places, state_in}
+use Rattle.deriv_states.specs.Places.{Places, state_in, IsState as IsNumber}
 use Rattle.deriv_memory.specs.declared.asked.Asked.{Asked}
 use Rattle.deriv_memory.specs.declared.asked.Asked.TheVariants as calls
 use Rattle.deriv_memory.specs.Calls.{state_of}
@@ -43,16 +43,11 @@ pub record IsAnswer (g : List Definition) (places : Places) (texts : List (List 
 abbrev pub AreAnswers : List Definition → Places → Remembered → Type 0
 AreAnswers g places memory = (call : Asked) (answer : Option ℕ) → noted memory call ≡ Some answer → IsAnswer g places memory.texts call answer
 
--- the number of a state that means this
-pub record Means (places : Places) (s : ℕ) (x : Residual) : Type 0 where
-  pub there : s < length places.states
-  pub meaning : state_in places.states s ≡ x
-
 -- numbers that stand for a call on a state that means this
 abbrev pub Asks : Places → List (List ℕ) → Asked → Residual → Call → Type 0
-Asks places texts (calls.Enter s ns local) x call = Means places s x × ((n : Name) × ((call ≡ call_enter n) × IsName texts n (ns, local)))
-Asks places texts (calls.TagEnd s) x call = Means places s x × (call ≡ call_tag_end)
-Asks places texts (calls.Leave s) x call = Means places s x × (call ≡ call_leave)
+Asks places texts (calls.Enter s ns local) x call = IsNumber places x s × ((n : Name) × ((call ≡ call_enter n) × IsName texts n (ns, local)))
+Asks places texts (calls.TagEnd s) x call = IsNumber places x s × (call ≡ call_tag_end)
+Asks places texts (calls.Leave s) x call = IsNumber places x s × (call ≡ call_leave)
 
 -- a call of which the answer is kept
 pub record Remembers (places : Places) (memory : Remembered) (x : Residual) (call : Call) : Type 0 where

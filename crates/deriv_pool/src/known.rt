@@ -14,7 +14,7 @@ use nx_base::memory::NoMemory;
 use nx_base::name::Name;
 use rng_core::grammar::Def;
 
-/// With a definition before those that are known, if it has the name.
+/// Where a definition has the name, a choice of it and of those that are known; else these alone.
 fn with_definition(
     states: &mut States,
     def: &Def,
@@ -35,7 +35,7 @@ fn with_definition(
     states.choice_of(one, known)
 }
 
-/// The node of the definitions that have a name, as a choice.
+/// The node of the choice of all definitions that have a name; notAllowed where none has it.
 pub(crate) fn known(states: &mut States, defs: &[Def], name: &Name) -> Result<usize, NoMemory>
     requires { length defs.now < 2 ^ 32 }
     ensures later { LaterPlaces states.old states.new }

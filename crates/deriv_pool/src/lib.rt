@@ -3,10 +3,12 @@
 //! `Pool` meets the contract of matchers of the crate rng_live with the residuals of `Plain`, but a state of it is one number: no two
 //! states mean the same, so whether two are the same is one comparison, and a copy of a state is the state. What states are made
 //! of is kept in deriv_states, each part once, so equal events make nothing new, and no pattern is copied. What `enter`, `tag_end`
-//! and `leave` answered on a state is kept in deriv_memory, and is the answer when the call is made again.
+//! and `leave` answered on a state is noted in deriv_memory, and is the answer when the call is made again, which makes nothing.
+//! What numbers tell of states, the laws say (`law`).
 #![tactic(auto)]
 
 mod known;
+pub mod law;
 pub mod pool;
 mod recalling;
 mod required;

@@ -28,7 +28,7 @@ use std::alloc::Global;
 #[derive(Drop)]
 pub struct Pool {
     schema: Schema,
-    states: States,
+    pub(crate) states: States,
     memory: Memory,
     ghost live: { ∥ IsLive (schema_language schema) ∥₁ },
     ghost sound: { ∥ IsSound schema.grammar ∥₁ },
@@ -37,7 +37,7 @@ pub struct Pool {
 }
 
 impl Pool {
-    /// The matcher of a schema, with no state yet.
+    /// The matcher of a schema. It has the nodes of the contents of definitions, and no state yet.
     pub fn new(alloc: Global, schema: Schema) -> Result<Pool, NoMemory>
         requires live { IsLive (schema_language schema) }
         requires sound { IsSound schema.grammar }
@@ -53,7 +53,7 @@ impl Pool {
         })
     }
 
-    /// The node of the start.
+    /// The node of the schema's start.
     fn start(&mut self, alloc: Global) -> Result<usize, NoMemory>
         ensures schema { self.new.schema ≡ self.old.schema }
         ensures later { LaterPlaces self.old.states self.new.states }
@@ -176,7 +176,7 @@ impl Matcher for Pool {
     fn leave(&mut self, alloc: Global, s: &PoolState) -> Result<Option<PoolState>, NoMemory> {
         let defs = self.schema.grammar().defs.as_slice();
         match recalled_leave(&self.states, &self.memory, defs, *s) {
-            Some(answer) => Ok(answer),
+            Some(outside) => Ok(outside),
             None => left(alloc, &mut self.states, &mut self.memory, defs, *s),
         }
     }

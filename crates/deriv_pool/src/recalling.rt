@@ -1,4 +1,4 @@
-//! Calls whose answers are kept.
+//! Calls whose answers are noted, so that they answer again.
 
 ghost use Rattle.std.specs.Prelude.{◌≡◌, ◌<◌, length, map, [], true, is_some, IfOk, IfSome, IfNone, OnOk};
 ghost use Rattle.rng_core.specs.Meaning.{definition_of};
@@ -25,7 +25,7 @@ use nx_base::name::Name;
 use rng_core::grammar::Def;
 use std::alloc::Global;
 
-/// An answer that was kept, as a state.
+/// An answer that was noted, as a state.
 fn as_state(kept: Option<usize>) -> Option<PoolState>
     ensures { result ≡ as_states kept }
 {
@@ -35,7 +35,7 @@ fn as_state(kept: Option<usize>) -> Option<PoolState>
     }
 }
 
-/// An answer as it is kept.
+/// An answer as it is noted.
 fn as_number(given: Option<PoolState>) -> Option<usize>
     ensures { as_states result ≡ given }
 {
@@ -45,7 +45,7 @@ fn as_number(given: Option<PoolState>) -> Option<usize>
     }
 }
 
-/// What is kept of a call.
+/// The answer that was noted of a call; none where nothing was noted.
 fn recalled(
     states: &States,
     memory: &Memory,
@@ -61,7 +61,7 @@ fn recalled(
     Some(as_state(kept))
 }
 
-/// What is kept of the start of an element.
+/// The answer that was noted of the start of an element; none where nothing was noted.
 pub(crate) fn recalled_enter(
     states: &States,
     memory: &Memory,
@@ -81,7 +81,7 @@ pub(crate) fn recalled_enter(
     recalled(states, memory, defs, Asked::Enter(state.number, ns, local))
 }
 
-/// What is kept of the end of a start tag.
+/// The answer that was noted of the end of a start tag; none where nothing was noted.
 pub(crate) fn recalled_tag_end(
     states: &States,
     memory: &Memory,
@@ -99,7 +99,7 @@ pub(crate) fn recalled_tag_end(
     recalled(states, memory, defs, Asked::TagEnd(state.number))
 }
 
-/// What is kept of the end of an element.
+/// The answer that was noted of the end of an element; none where nothing was noted.
 pub(crate) fn recalled_leave(
     states: &States,
     memory: &Memory,
@@ -117,7 +117,7 @@ pub(crate) fn recalled_leave(
     recalled(states, memory, defs, Asked::Leave(state.number))
 }
 
-/// What a call answers, which is kept.
+/// What a call answers; the answer is noted.
 pub(crate) fn noted_answer(
     alloc: Global,
     states: &mut States,
@@ -146,7 +146,7 @@ pub(crate) fn noted_answer(
     Ok(found)
 }
 
-/// Behind the start of an element, which is kept.
+/// Behind the start of an element; the answer is noted.
 pub(crate) fn entered(
     alloc: Global,
     states: &mut States,
@@ -177,7 +177,7 @@ pub(crate) fn entered(
     )
 }
 
-/// Behind the end of a start tag, which is kept.
+/// Behind the end of a start tag; the answer is noted.
 pub(crate) fn tag_ended(
     alloc: Global,
     states: &mut States,
@@ -205,7 +205,7 @@ pub(crate) fn tag_ended(
     )
 }
 
-/// Behind the end of an element, which is kept.
+/// Behind the end of an element; the answer is noted.
 pub(crate) fn left(
     alloc: Global,
     states: &mut States,

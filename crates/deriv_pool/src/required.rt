@@ -4,7 +4,7 @@ ghost use Rattle.std.specs.Prelude.{◌≡◌, ◌<◌, length, IfOk};
 ghost use Rattle.std.specs.List.{filter};
 ghost use Rattle.rng_kept.specs.Required as required;
 ghost use Rattle.rng_live.specs.Calls.{AreRequired};
-ghost use Rattle.deriv_plain.specs.Possible.{ArePossible};
+ghost use Rattle.rng_live.specs.Possible.{ArePossible};
 ghost use Rattle.deriv_states.specs.Places.{IsThere, state_in, way_in};
 
 use deriv_states::branch::{Branch, Row};
@@ -15,7 +15,8 @@ use nx_base::sequence::TryCopy;
 use rng_live::sorting::sort_names;
 use std::alloc::Global;
 
-/// Names among which are all that are required: those that the first start tag needs.
+/// Names among which are all that are required: those that the content of the first way in a start tag needs; none where no way
+/// is in a start tag.
 fn possible_names(alloc: Global, states: &States, state: usize) -> Result<Names, NoMemory>
     requires { state < length states.now.states }
     ensures { IfOk result (ArePossible (state_in states.now.states state)) }
@@ -30,7 +31,7 @@ fn possible_names(alloc: Global, states: &States, state: usize) -> Result<Names,
     }
 }
 
-/// Whether a way needs an attribute of the name.
+/// Whether a way needs an attribute of the name. A way among children speaks against none.
 fn way_needs(alloc: Global, states: &States, name: &Name, way: Branch) -> Result<bool, NoMemory>
     requires { IsThere states.now way }
     ensures { IfOk result (λ found. found ≡ required.way_needs name.now (way_in states.now way)) }
@@ -41,7 +42,7 @@ fn way_needs(alloc: Global, states: &States, name: &Name, way: Branch) -> Result
     }
 }
 
-/// Whether each way does.
+/// Whether each way of a state needs an attribute of the name.
 fn all_need(alloc: Global, states: &States, name: &Name, state: usize) -> Result<bool, NoMemory>
     requires { state < length states.now.states }
     ensures { IfOk result (λ found. found ≡ required.is_required name.now (state_in states.now.states state)) }
@@ -57,7 +58,7 @@ fn all_need(alloc: Global, states: &States, name: &Name, state: usize) -> Result
     }
 }
 
-/// Those of the names that are required.
+/// Those of the names that each way of a state needs.
 fn required_among(
     alloc: Global,
     states: &States,

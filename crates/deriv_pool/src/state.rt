@@ -40,7 +40,7 @@ fn as_answer(states: &States, state: PoolState) -> Option<PoolState>
     }
 }
 
-/// Before what a node begins.
+/// Before any event, where a node is what may come.
 pub(crate) fn begun(states: &mut States, start: usize) -> Result<PoolState, NoMemory>
     requires { start < length states.old.patterns }
     ensures later { LaterPlaces states.old states.new }
@@ -105,7 +105,7 @@ pub(crate) fn answer(
     Ok(as_answer(states, behind))
 }
 
-/// Behind an attribute. A value that is no text isn't given.
+/// Behind an attribute. A value that isn't UTF-8, which no caller gives, is answered as want of memory.
 pub(crate) fn behind_attribute(
     alloc: Global,
     states: &mut States,
@@ -124,7 +124,7 @@ pub(crate) fn behind_attribute(
     }
 }
 
-/// Behind a string. One that is no text isn't given.
+/// Behind a string. One that isn't UTF-8, which no caller gives, is answered as want of memory.
 pub(crate) fn behind_chars(
     alloc: Global,
     states: &mut States,

@@ -327,6 +327,13 @@ module _ (patterns : List Pattern) (xs : List Around) (rs : List Row) (cs : List
       (same_outer (outer_in (outers_of patterns xs) o) (outer_in (outers_of patterns xs) u)) (Decides-eqb o u)
       ((λ t. outers_apart o u first second (told.0 t)), (λ e. told.1 (subst Q e refl)))) here there
 
+  -- nothing stands twice
+  pub patterns_single : (places : Places) → places_of patterns xs rs cs ≡ places → AreApart not_allowed places.patterns
+  patterns_single places is = let P : Places → Type 0 = λ p. AreApart not_allowed p.patterns in subst P is single
+
+  pub outers_single : (places : Places) → places_of patterns xs rs cs ≡ places → AreApart (document not_allowed) places.outers
+  outers_single places is = let P : Places → Type 0 = λ p. AreApart (document not_allowed) p.outers in subst P is outers_apart
+
   pub states_single : (places : Places) → places_of patterns xs rs cs ≡ places → AreApart [] places.states
   states_single places is = let P : Places → Type 0 = λ p. AreApart [] p.states in subst P is states_apart
 

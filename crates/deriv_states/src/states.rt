@@ -401,9 +401,11 @@ impl States {
         self.with_first(one, end)
     }
 
-    /// States that mean the same are one. Nothing here runs.
+    /// No two nodes stand for the same pattern, no two outers are the same, and no two states mean the same. Nothing here runs.
     pub fn no_doubles(&self)
-        ensures { AreApart [] self.now.states }
+        ensures patterns { AreApart not_allowed self.now.patterns }
+        ensures outers { AreApart (residual.document not_allowed) self.now.outers }
+        ensures states { AreApart [] self.now.states }
     {
         self.nodes.no_doubles();
     }

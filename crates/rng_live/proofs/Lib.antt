@@ -28,3 +28,4 @@ mod Assembled
 mod Knowing
 mod InOrder
 mod Findings
+pub mod Needed

@@ -6,26 +6,29 @@ use rng_core::grammar::{Def, Grammar, Pat};
 /// path and take some two and a half kilobytes of stack for it, and a program's first thread has eight megabytes.
 pub const MOST_NODES_ON_A_PATH: usize = 2_000;
 
-/// How many nodes the longest path of the pattern has.
-fn depth_of(pattern: &Pat) -> usize {
+/// Whether no path of the pattern has more nodes than `most`, judged in a stack that doesn't grow past this bound.
+fn is_within(pattern: &Pat, most: usize) -> bool {
+    if most == 0 {
+        return false;
+    }
     match pattern {
-        Pat::NotAllowed => 1,
-        Pat::Empty => 1,
-        Pat::Text => 1,
-        Pat::Typed(_, _) => 1,
-        Pat::Value(_, _) => 1,
-        Pat::Ref(_) => 1,
-        Pat::List(body) => depth_of(body).saturating_add(1),
-        Pat::Attribute(_, body) => depth_of(body).saturating_add(1),
-        Pat::OneOrMore(body) => depth_of(body).saturating_add(1),
-        Pat::Choice(first, second) => depth_of(first).max(depth_of(second)).saturating_add(1),
-        Pat::Group(first, second) => depth_of(first).max(depth_of(second)).saturating_add(1),
-        Pat::Interleave(first, second) => depth_of(first).max(depth_of(second)).saturating_add(1),
+        Pat::NotAllowed => true,
+        Pat::Empty => true,
+        Pat::Text => true,
+        Pat::Typed(_, _) => true,
+        Pat::Value(_, _) => true,
+        Pat::Ref(_) => true,
+        Pat::List(body) => is_within(body, most - 1),
+        Pat::Attribute(_, body) => is_within(body, most - 1),
+        Pat::OneOrMore(body) => is_within(body, most - 1),
+        Pat::Choice(first, second) => is_within(first, most - 1) && is_within(second, most - 1),
+        Pat::Group(first, second) => is_within(first, most - 1) && is_within(second, most - 1),
+        Pat::Interleave(first, second) => is_within(first, most - 1) && is_within(second, most - 1),
     }
 }
 
 fn is_shallow(pattern: &Pat) -> bool {
-    depth_of(pattern) <= MOST_NODES_ON_A_PATH
+    is_within(pattern, MOST_NODES_ON_A_PATH)
 }
 
 fn are_shallow(defs: &[Def]) -> bool {

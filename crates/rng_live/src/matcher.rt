@@ -48,7 +48,7 @@ pub trait Matcher: Drop {
     ghost language: { Self → Language };
 
     /// The calls that are remembered: `enter`, `tag_end` or `leave`, of a state that means this. Made again, such a call
-    /// answers, whatever memory there is.
+    /// answers, whatever memory there is, and changes nothing.
     ghost remembers: { Self → Residual → Call → Type 0 };
 
     /// Whether each such call that was answered is remembered.
@@ -76,7 +76,8 @@ pub trait Matcher: Drop {
         ensures gives { IfOk result (Answers (is_state self.new) (means self.new)
             (answered (entering.enter (language self.old).definitions name.now (means self.old s.now)))) }
         ensures remembered { IsTrue remembers_answers → OnOk result (remembers self.new (means self.old s.now) (call_enter name.now)) }
-        ensures again { remembers self.old (means self.old s.now) (call_enter name.now) → IsOk result };
+        ensures again { remembers self.old (means self.old s.now) (call_enter name.now) → IsOk result }
+        ensures still { remembers self.old (means self.old s.now) (call_enter name.now) → self.new ≡ self.old };
 
     /// Behind children that are missing and the start of an element.
     fn enter_skip(
@@ -122,7 +123,8 @@ pub trait Matcher: Drop {
         ensures later { later self.old self.new }
         ensures gives { IfOk result (Answers (is_state self.new) (means self.new) (answered (tags.tag_end (means self.old s.now)))) }
         ensures remembered { IsTrue remembers_answers → OnOk result (remembers self.new (means self.old s.now) call_tag_end) }
-        ensures again { remembers self.old (means self.old s.now) call_tag_end → IsOk result };
+        ensures again { remembers self.old (means self.old s.now) call_tag_end → IsOk result }
+        ensures still { remembers self.old (means self.old s.now) call_tag_end → self.new ≡ self.old };
 
     /// Behind attributes that are missing and the end of a start tag.
     fn tag_end_missing(&mut self, alloc: Global, s: &Self::State) -> Result<Self::State, NoMemory>
@@ -162,7 +164,8 @@ pub trait Matcher: Drop {
         ensures later { later self.old self.new }
         ensures gives { IfOk result (Answers (is_state self.new) (means self.new) (answered (content.leave (means self.old s.now)))) }
         ensures remembered { IsTrue remembers_answers → OnOk result (remembers self.new (means self.old s.now) call_leave) }
-        ensures again { remembers self.old (means self.old s.now) call_leave → IsOk result };
+        ensures again { remembers self.old (means self.old s.now) call_leave → IsOk result }
+        ensures still { remembers self.old (means self.old s.now) call_leave → self.new ≡ self.old };
 
     /// Behind children that are missing and the end of an element.
     fn leave_skip(&mut self, alloc: Global, s: &Self::State) -> Result<Self::State, NoMemory>

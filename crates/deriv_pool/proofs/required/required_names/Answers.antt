@@ -4,7 +4,7 @@ use Rattle.nx_base.specs.declared.name.Name.{Name}
 use Rattle.rng_kept.specs.Required.{is_required}
 use Rattle.rng_kept.specs.Residuals.{Residual}
 use Rattle.rng_live.specs.Calls.{AreRequired}
-use Rattle.deriv_plain.proofs.Needed.{required_exactly}
+use Rattle.rng_live.proofs.Needed.{required_exactly}
 use Rattle.deriv_states.specs.Places.{state_in}
 use Rattle.deriv_pool.proofs.required.required_names.Goals as goal
 

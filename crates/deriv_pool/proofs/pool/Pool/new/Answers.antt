@@ -2,7 +2,7 @@ use Rattle.std.proofs.Common.{◌≡◌, List, map, sym, ap, subst, ◌∙◌}
 use Rattle.rng_core.specs.declared.grammar.Def.{Def}
 use Rattle.rng_core.specs.declared.grammar.Grammar.{Grammar}
 use Rattle.rng_core.specs.Meaning.{definition_of}
-use Rattle.deriv_plain.proofs.Steady.{sound_contents}
+use Rattle.deriv_pattern.proofs.Props.{sound_contents}
 use Rattle.rng_live.specs.Schemas.{schema_language}
 use Rattle.deriv_states.specs.Parts.{ContentsAreInOrder}
 use Rattle.deriv_states.specs.Places.{AreContents}

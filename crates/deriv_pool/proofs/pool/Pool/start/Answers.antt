@@ -3,7 +3,7 @@ use Rattle.std.proofs.Math.Logic.{∥∥₁_elim}
 use Rattle.rng_core.specs.declared.grammar.Grammar.{Grammar}
 use Rattle.rng_core.specs.Meaning.{pattern_of}
 use Rattle.deriv_pattern.specs.Leaves.{IsInOrder}
-use Rattle.deriv_plain.proofs.Props.{in_order_alike}
+use Rattle.deriv_pattern.proofs.Props.{in_order_alike}
 use Rattle.rng_live.specs.Schemas.{schema_language}
 use Rattle.deriv_pool.proofs.Remembering.{answers_on}
 use Rattle.deriv_pool.proofs.pool.Pool.start.Goals as goal

@@ -1,4 +1,4 @@
--- That a pattern is in order can be so in one way only.
+-- That a pattern is in order can be so in one way only, and contents of a sound grammar are in order.
 use Rattle.std.specs.Prelude.{◌≡◌, ℕ, List, [], ◌∷◌, Bool}
 use Rattle.std.specs.List.{AllByRecursion}
 use Rattle.std.specs.Coded.{×_prop, Unit-prop, le_prop, coded_bool, Coded-set}
@@ -6,9 +6,9 @@ use Rattle.std.proofs.Common.{ap, ◌∙◌}
 use Rattle.rng_types.specs.declared.datatype.Datatype.{Datatype}
 use Rattle.rng_types.specs.declared.datatype.Except.{Except}
 use Rattle.rng_types.specs.Types.{Accepts}
-use Rattle.rng_core.specs.Patterns.{Pattern, Definition, Language, not_allowed, empty, any_text, typed, literal, listed, attribute, ref, one_or_more, choice, group, interleave}
-use Rattle.deriv_pattern.specs.Leaves.{IsInOrder}
-use Rattle.deriv_plain.specs.Order.{ContentsAreInOrder}
+use Rattle.rng_core.specs.Patterns.{Pattern, Definition, not_allowed, empty, any_text, typed, literal, listed, attribute, ref, one_or_more, choice, group, interleave}
+use Rattle.rng_core.specs.Soundness.{IsSoundDefinition}
+use Rattle.deriv_pattern.specs.Leaves.{IsInOrder, SoundAreInOrder}
 
 flags_alike : (b c : Bool) → IsProp (b ≡ c)
 flags_alike b c = Coded-set coded_bool b c
@@ -38,6 +38,13 @@ in_order_alike (choice p q) = ×_prop (in_order_alike p) (in_order_alike q)
 in_order_alike (group p q) = ×_prop (in_order_alike p) (in_order_alike q)
 in_order_alike (interleave p q) = ×_prop (in_order_alike p) (in_order_alike q)
 
-pub contents_alike : (g : List Definition) → IsProp (ContentsAreInOrder g)
+-- of the contents of definitions
+pub contents_alike : (g : List Definition) → IsProp (AllByRecursion (λ (d : Definition). IsInOrder d.content) g)
 contents_alike [] = Unit-prop
 contents_alike (d ∷ g) = ×_prop (in_order_alike d.content) (contents_alike g)
+
+-- the contents of a sound grammar
+pub sound_contents : SoundAreInOrder → (count : ℕ) (g : List Definition) → AllByRecursion (IsSoundDefinition count) g →
+    AllByRecursion (λ (d : Definition). IsInOrder d.content) g
+sound_contents sound count [] a = tt
+sound_contents sound count (d ∷ g) a = (sound count d.content (a.0).content_is, sound_contents sound count g a.1)
