@@ -20,7 +20,7 @@ use Rattle.nx_marks.proofs.Places.{next, reaches}
 use Rattle.nx_marks.proofs.Edits.{whole-link}
 use Rattle.nx_marks.proofs.Splits.{split-is, split-whole, split-ends}
 use Rattle.nx_marks.proofs.Taking.{chain-tail, reach-snoc, whole-last, tags-snoc}
-use Rattle.nx_marks.proofs.Reading.{front-led, led}
+use Rattle.nx_marks.proofs.Reading.{front-led, led, after-append, cuts-append}
 use Rattle.nx_marks.proofs.Stepping.{reach-append}
 use Rattle.nx_marks.proofs.Pending.{or-right, or-none, or-cases}
 
@@ -84,19 +84,29 @@ among-right : (at : ℕ) (ps qs : List ℕ) → IsAmong at qs → IsAmong at (ps
 among-right at [] qs h = h
 among-right at (p ∷ ps) qs h = inr (among-right at ps qs h)
 
-stands-behind : {S : Type 0} (at p q : ℕ) (xs ys : List (Mark S)) → p + reach xs ≡ q → Stands at q ys → Stands at p (xs ++ ys)
-stands-behind at p q [] ys e h = let P : ℕ → Type 0 = λ n. Stands at n ys in let there : q ≡ p = omega arith in subst P there h
-stands-behind at p q (x ∷ xs) ys e h = inr (stands-behind at (p + x.len) q xs ys (omega arith) h)
+module _ {S M : Type 0} (means : S → M) (r : Rules M) (t : List ℕ) where
+  stands-behind : (at p q : ℕ) (xs ys : List (Mark S)) → p + reach xs ≡ q → Stands means r t at q ys → Stands means r t at p (xs ++ ys)
+  stands-behind at p q [] ys e h = let P : ℕ → Type 0 = λ n. Stands means r t at n ys in let there : q ≡ p = omega arith in subst P there h
+  stands-behind at p q (x ∷ xs) ys e h = inr (stands-behind at (p + x.len) q xs ys (omega arith) h)
 
--- each of these, which are whole, is a mark
-stands-whole : {S : Type 0} (at p : ℕ) (xs ys : List (Mark S)) → AreWhole xs → IsAmong at (places_from p xs) → Stands at p (xs ++ ys)
-stands-whole at p [] ys w h = absurd h
-stands-whole at p (x ∷ xs) ys w (inl e) = inl (e, whole_is x.whole x.saved w.0)
-  where
-    whole_is : (a b : Bool) → a ≡ true → (a || b) ≡ true
-    whole_is true b e = refl
-    whole_is false b e = absurd (cc)
-stands-whole at p (x ∷ xs) ys w (inr h) = inr (stands-whole at (p + x.len) xs ys w.1 h)
+  -- tokens lead to each of these, the first of them at a place
+  abbrev AreLed : ℕ → List (Mark S) → Type 0
+  AreLed p [] = Unit {0}
+  AreLed p (x ∷ xs) = LeadsTo means r t p x.state × AreLed (p + x.len) xs
+
+  led-behind : (p q : ℕ) (xs ys : List (Mark S)) → p + reach xs ≡ q → AreLed p (xs ++ ys) → AreLed q ys
+  led-behind p q [] ys e h = let P : ℕ → Type 0 = λ n. AreLed n ys in let there : p ≡ q = omega arith in subst P there h
+  led-behind p q (x ∷ xs) ys e h = led-behind (p + x.len) q xs ys (omega arith) h.1
+
+  -- each of these, which are whole, is a mark
+  stands-whole : (at p : ℕ) (xs ys : List (Mark S)) → AreWhole xs → AreLed p xs → IsAmong at (places_from p xs) → Stands means r t at p (xs ++ ys)
+  stands-whole at p [] ys w l h = absurd h
+  stands-whole at p (x ∷ xs) ys w l (inl e) = inl (e, whole_is x.whole x.saved w.0, l.0)
+    where
+      whole_is : (a b : Bool) → a ≡ true → (a || b) ≡ true
+      whole_is true b e = refl
+      whole_is false b e = absurd (cc)
+  stands-whole at p (x ∷ xs) ys w l (inr h) = inr (stands-whole at (p + x.len) xs ys w.1 l.1 h)
 
 reach-both : {S : Type 0} (xs ys : List (Mark S)) → reach (xs ++ ys) ≡ reach xs + reach ys
 reach-both xs ys = reach-append xs ys
@@ -106,7 +116,7 @@ both-empty [] ys e = (refl, e)
 both-empty (x ∷ xs) ys e = absurd (let n = ap length e in omega arith)
 
 module _ {M : Type 0} (r : Rules M) (t : List ℕ) where
-  called-more : (stood older : ℕ → Type 0) (q : ℕ) (ps : List ℕ) → ((at : ℕ) → stood at → older at) → AreCalledFor r t stood q ps → AreCalledFor r t older q ps
+  pub called-more : (stood older : ℕ → Type 0) (q : ℕ) (ps : List ℕ) → ((at : ℕ) → stood at → older at) → AreCalledFor r t stood q ps → AreCalledFor r t older q ps
   called-more stood older q [] f h = tt
   called-more stood older q (p ∷ ps) f h = (by h.0, called-more stood older p ps f h.1)
     where
@@ -163,12 +173,12 @@ module _ {S M : Type 0} (means : S → M) (r : Rules M) (t : List ℕ) where
       now : (at : ℕ) → IsAmong at (places_of b) → IsAmong at (places_of c)
       now at i = let P : List ℕ → Type 0 = λ l. IsAmong at l in subst P (sym g.stay) (among-left at (places_of b) g.more i)
 
-      due : ((at : ℕ) → Stands at (next_of b) b.aside → Stands at (next_of a) a.aside) → AreCalledFor r t (λ at. Stands at (next_of a) a.aside) (last_of 0 (places_of a)) (h.more ++ g.more)
+      due : ((at : ℕ) → Stands means r t at (next_of b) b.aside → Stands means r t at (next_of a) a.aside) → AreCalledFor r t (λ at. Stands means r t at (next_of a) a.aside) (last_of 0 (places_of a)) (h.more ++ g.more)
       due f =
-          let P : ℕ → Type 0 = λ n. AreCalledFor r t (λ at. Stands at (next_of a) a.aside) n g.more in
+          let P : ℕ → Type 0 = λ n. AreCalledFor r t (λ at. Stands means r t at (next_of a) a.aside) n g.more in
           let e : last_of 0 (places_of b) ≡ last_of (last_of 0 (places_of a)) h.more = ap (last_of 0) h.stay ∙ last-append 0 (places_of a) h.more in
-          called-append r t (λ at. Stands at (next_of a) a.aside) (last_of 0 (places_of a)) h.more g.more h.due
-          (subst P e (called-more r t (λ at. Stands at (next_of b) b.aside) (λ at. Stands at (next_of a) a.aside) (last_of 0 (places_of b)) g.more f g.due))
+          called-append r t (λ at. Stands means r t at (next_of a) a.aside) (last_of 0 (places_of a)) h.more g.more h.due
+          (subst P e (called-more r t (λ at. Stands means r t at (next_of b) b.aside) (λ at. Stands means r t at (next_of a) a.aside) (last_of 0 (places_of b)) g.more f g.due))
 
       first : AreUsed means r t (places_of c) (next_of a) h.gone
       first = used-more (places_of b) (places_of c) (next_of a) h.gone now h.used
@@ -181,7 +191,7 @@ module _ {S M : Type 0} (means : S → M) (r : Rules M) (t : List ℕ) where
           record {
             more = h.more ++ g.more;
             stay = stay;
-            due = due (λ at s. absurd (let R : List (Mark S) → Type 0 = λ l. Stands at (next_of b) l in subst R none s));
+            due = due (λ at s. absurd (let R : List (Mark S) → Type 0 = λ l. Stands means r t at (next_of b) l in subst R none s));
             gone = h.gone ++ g.gone;
             aside = aside;
             next = inl empty.1;
@@ -190,7 +200,7 @@ module _ {S M : Type 0} (means : S → M) (r : Rules M) (t : List ℕ) where
       by (inr e) n = record {
         more = h.more ++ g.more;
         stay = stay;
-        due = due (λ at s. (let P : List (Mark S) → Type 0 = λ l. Stands at (next_of a) l in subst P (sym h.aside) (stands-behind at (next_of a) (next_of b) h.gone b.aside (sym e) s)));
+        due = due (λ at s. (let P : List (Mark S) → Type 0 = λ l. Stands means r t at (next_of a) l in subst P (sym h.aside) (stands-behind means r t at (next_of a) (next_of b) h.gone b.aside (sym e) s)));
         gone = h.gone ++ g.gone;
         aside = aside;
         next = far n;
@@ -244,6 +254,23 @@ within-or a b h = grind (arith, nat_tests)
 -- ---- one step
 
 module _ {S M : Type 0} (is_state : S → Type 0) (means : S → M) (r : Rules M) (t : List ℕ) (laws : RulesLaws r) where
+  row-led : (p q : ℕ) (xs : List (Mark S)) (z : Mark S) (zs : List (Mark S)) (before : List Lexeme) (m : M) → p + reach xs ≡ q → CutsTo t 0 before p → m ≡ after_all r r.first before →
+      AreWhole xs → FirstMeans means m (xs ++ z ∷ zs) → Chain is_state means r t p (xs ++ z ∷ zs) → AreLed means r t p xs × LeadsTo means r t q z.state
+  row-led p q [] z zs before m e cuts is w f h =
+      let C : ℕ → Type 0 = λ n. CutsTo t 0 before n in
+      let at : p ≡ q = omega arith in
+      (tt, record { tokens = before; cuts = subst C at cuts; meaning = f ∙ is })
+  row-led p q (x ∷ xs) z zs before m e cuts is w f h =
+      let g = whole-link means r t p x.whole x (xs ++ z ∷ zs) w.0 h.1.0 in
+      let on : after_all r (means x.state) g.tokens ≡ after_all r r.first (before ++ g.tokens) = ap (λ n. after_all r n g.tokens) (f ∙ is) ∙ sym (after-append r r.first before g.tokens) in
+      let rest = row-led (p + x.len) q xs z zs (before ++ g.tokens) (after_all r (means x.state) g.tokens) (omega arith)
+      (cuts-append t 0 p (p + x.len) before g.tokens cuts g.segment.cuts) on w.1 g.leads h.1.1 in
+      ((record { tokens = before; cuts = cuts; meaning = f ∙ is }, rest.0), rest.1)
+
+  -- tokens lead to each mark in front, and to the frontier's state
+  all-led : (k : Kept S) → IsRight is_state means r t k → AreLed means r t 0 k.front × LeadsTo means r t (reach k.front) k.here.state
+  all-led k h = row-led 0 (reach k.front) k.front k.here k.aside [] r.first (omega arith) refl refl h.holds.whole h.holds.first h.holds.chain
+
   -- by the rule, where the frontier is a mark behind a segment
   due-there : (k : Kept S) (before : List (Mark S)) (x : Mark S) → IsRight is_state means r t k → k.front ≡ before ++ x ∷ [] → is_due r (means k.here.state) x.tags ≡ true → IsDueAt r t (0 + reach before) (reach k.front)
   due-there k before x h front_is due =
@@ -443,15 +470,28 @@ module _ {S M : Type 0} (is_state : S → Type 0) (means : S → M) (r : Rules M
 
   module _ (k row j : Kept S) (e : ℕ) (g : Row k row j e) where
     abbrev stood : ℕ → Type 0
-    stood at = Stands at (next_of k) k.aside
+    stood at = Stands means r t at (next_of k) k.aside
+
+    led-front : AreLed means r t 0 (k.front ++ row.front) × LeadsTo means r t (reach (k.front ++ row.front)) j.here.state
+    led-front = let P : List (Mark S) → Type 0 = λ l. AreLed means r t 0 l × LeadsTo means r t (reach l) j.here.state in subst P g.front (all-led j g.right)
+
+    led-row : AreLed means r t (next_of k) row.front
+    led-row = led-behind means r t 0 (next_of k) k.front row.front (let d = g.at in omega arith) led-front.0
+
+    led-end : LeadsTo means r t e row.here.state
+    led-end =
+        let P : ℕ → Type 0 = λ n. LeadsTo means r t n row.here.state in
+        let Q : S → Type 0 = λ s. LeadsTo means r t (reach (k.front ++ row.front)) s in
+        let at : reach (k.front ++ row.front) ≡ e = (let a = reach-append k.front row.front in let c = g.end in let d = g.at in omega arith) in
+        subst P at (subst Q g.state led-front.1)
 
     stood-row : (at : ℕ) → IsAmong at (places_from (next_of k) row.front) → stood at
-    stood-row at i = let P : List (Mark S) → Type 0 = λ l. Stands at (next_of k) l in subst P (sym g.list) (stands-whole at (next_of k) row.front (row.here ∷ row.aside) g.wholes i)
+    stood-row at i = let P : List (Mark S) → Type 0 = λ l. Stands means r t at (next_of k) l in subst P (sym g.list) (stands-whole means r t at (next_of k) row.front (row.here ∷ row.aside) g.wholes led-row i)
 
     stood-end : row.here.saved ≡ true → stood e
     stood-end s =
-        let P : List (Mark S) → Type 0 = λ l. Stands e (next_of k) l in
-        subst P (sym g.list) (stands-behind e (next_of k) e row.front (row.here ∷ row.aside) (sym g.end) (inl (refl, or-right row.here.whole row.here.saved s)))
+        let P : List (Mark S) → Type 0 = λ l. Stands means r t e (next_of k) l in
+        subst P (sym g.list) (stands-behind means r t e (next_of k) e row.front (row.here ∷ row.aside) (sym g.end) (inl (refl, or-right row.here.whole row.here.saved s, led-end)))
 
     front-places : places_from 0 j.front ≡ places_from 0 k.front ++ places_from (next_of k) row.front
     front-places = ap (places_from 0) g.front ∙ places-append 0 k.front row.front ∙ (let d = g.at in let z : 0 + reach k.front ≡ next_of k = omega arith in ap (λ n. places_from 0 k.front ++ places_from n row.front) z)
@@ -583,6 +623,12 @@ module _ {Self S M : Type 0} (later : Self → Self → Type 0) (is_state : Self
       by (inl i) = inl i
       by (inr never) = inr (λ w. never (record { tokens = w.tokens; cuts = w.cuts; meaning = laws.meaning a b x.state l h.0 ∙ w.meaning }))
 
+  stands-earlier : (a b : Self) (r : Rules M) (t : List ℕ) (at p q : ℕ) (xs : List (Mark S)) → later a b → Chain (is_state a) (means a) r t q xs → Stands (means b) r t at p xs → Stands (means a) r t at p xs
+  stands-earlier a b r t at p q [] l h s = s
+  stands-earlier a b r t at p q (x ∷ xs) l h (inl s) =
+      let w = s.2 in inl (s.0, s.1, record { tokens = w.tokens; cuts = w.cuts; meaning = sym (laws.meaning a b x.state l h.0) ∙ w.meaning })
+  stands-earlier a b r t at p q (x ∷ xs) l h (inr s) = inr (stands-earlier a b r t at (p + x.len) (q + x.len) xs l h.1.1 s)
+
   -- on with a later machine
   pub keeps_later : (a b : Self) (t : List ℕ) (old k j : Kept S) → later a b → IsRight (is_state a) (means a) (rules a) t old → KeepsMarks (means a) (rules a) t old k → KeepsMarks (means b) (rules b) t k j → KeepsMarks (means a) (rules a) t old j
   keeps_later a b t old k j l h g s =
@@ -590,16 +636,18 @@ module _ {Self S M : Type 0} (later : Self → Self → Type 0) (is_state : Self
       let C : ℕ → List (Mark S) → Type 0 = λ p l. Chain (is_state a) (means a) (rules a) t p l in
       let here : ℕ = 0 + reach old.front + old.here.len in
       let first = subst (λ (l : List (Mark S)). C here l) g.aside tail.1.1 in
+      let left = chain-tail (is_state a) (means a) (rules a) t here (here + reach g.gone) g.gone k.aside refl first in
       let P : Rules M → Type 0 = λ r. KeepsMarks (means b) r t k j in
       let e : KeepsMarks (means b) (rules a) t k j = subst P (laws.rule a b l) s in
       keeps_on (means a) (rules a) t old k j g (record {
         more = e.more;
         stay = e.stay;
-        due = e.due;
+        due = called-more (rules a) t (λ at. Stands (means b) (rules a) t at (next_of k) k.aside) (λ at. Stands (means a) (rules a) t at (next_of k) k.aside) (last_of 0 (places_of k)) e.more
+            (λ at s. stands-earlier a b (rules a) t at (next_of k) (here + reach g.gone) k.aside l left s) e.due;
         gone = e.gone;
         aside = e.aside;
         next = e.next;
-        used = used-earlier a b (rules a) t (places_of j) (next_of k) (here + reach g.gone) e.gone j.aside l (subst (λ (l : List (Mark S)). C (here + reach g.gone) l) e.aside (chain-tail (is_state a) (means a) (rules a) t here (here + reach g.gone) g.gone k.aside refl first)) e.used;
+        used = used-earlier a b (rules a) t (places_of j) (next_of k) (here + reach g.gone) e.gone j.aside l (subst (λ (l : List (Mark S)). C (here + reach g.gone) l) e.aside left) e.used;
       })
 
 -- how far the first mark aside is, where fewer are aside

@@ -24,3 +24,4 @@ pub mod Rejoining
 pub mod Moving
 pub mod Listing
 pub mod Counting
+pub mod Meant

@@ -1,10 +1,9 @@
 -- The state at the frontier says that it is no mark, before an edit.
-use Rattle.std.proofs.Common.{◌≡◌, ℕ, ◌+◌, ◌-◌, ◌<◌, ◌^◌, false, List, ◌∷◌, ◌++◌, subst, arith}
+use Rattle.std.proofs.Common.{◌≡◌, ℕ, false, ◌∷◌, subst, arith}
 use Rattle.nx_marks.specs.Chain.{AreWhole, Kept, frontier_of}
 use Rattle.nx_marks.specs.Editing.{edit_kept, edit_noted, noted}
 use Rattle.nx_marks.specs.Frontier.{FrontierAfterEdit}
 use Rattle.nx_marks.specs.Walking.{Fits}
-use Rattle.nx_marks.specs.declared.mark.Mark.{Mark}
 use Rattle.nx_marks.proofs.Stepping.{reach-append}
 
 noted_fits : {S : Type 0} (from to added : ℕ) (k : Kept S) → Fits from to added k → Fits from to added (noted k)

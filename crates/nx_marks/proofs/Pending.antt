@@ -1,9 +1,9 @@
 -- In no mark a text run is pending.
-use Rattle.std.proofs.Common.{◌≡◌, ◌⊎◌, inl, inr, ℕ, ◌+◌, ◌<◌, ◌-◌, Bool, true, false, ◌||◌, nat_lt, List, [], ◌∷◌, ◌++◌, refl, sym, ap, subst, ◌∙◌, arith}
+use Rattle.std.proofs.Common.{◌≡◌, ◌⊎◌, inl, inr, ℕ, ◌+◌, ◌-◌, Bool, true, false, ◌||◌, nat_lt, List, [], ◌∷◌, ◌++◌, refl, sym, subst, ◌∙◌}
 use Rattle.std.proofs.lemmas.Bool.{false≢true}
 use Rattle.std.specs.Prelude.{if◌then◌else◌}
 use Rattle.nx_base.specs.Rules.{Rules}
-use Rattle.nx_marks.specs.Chain.{Chain, AreWhole, Kept, all_of, is_mark, reach}
+use Rattle.nx_marks.specs.Chain.{Chain, AreWhole, Kept, all_of, is_mark}
 use Rattle.nx_marks.specs.Editing.{stays, is_apart, first_kept, broken, kept_mark, kept_marks, edit_all, place_after, split, split_all}
 use Rattle.nx_marks.specs.Right.{NonePends, IsRight}
 use Rattle.nx_marks.specs.declared.mark.Mark.{Mark}

@@ -25,10 +25,17 @@ abbrev pub IsAmong : ℕ → List ℕ → Type 0
 IsAmong at [] = ⊥
 IsAmong at (place ∷ others) = (at ≡ place) ⊎ IsAmong at others
 
--- one of these, the first of them at a place, is a mark and lies there
-abbrev pub Stands : {S : Type 0} → ℕ → ℕ → List (Mark S) → Type 0
-Stands at place [] = ⊥
-Stands at place (x ∷ xs) = ((at ≡ place) × (is_mark x ≡ true)) ⊎ Stands at (place + x.len) xs
+-- tokens lead from the start to the place and to what the state means
+pub record LeadsTo {S M : Type 0} (means : S → M) (r : Rules M) (t : List ℕ) (place : ℕ) (state : S) : Type 0 where
+  pub tokens : List Lexeme
+  pub cuts : CutsTo t 0 tokens place
+  pub meaning : means state ≡ after_all r r.first tokens
+
+-- one of these, the first of them at a place, is a mark and lies there, and tokens lead to it
+abbrev pub Stands : {S M : Type 0} → (S → M) → Rules M → List ℕ → ℕ → ℕ → List (Mark S) → Type 0
+Stands means r t at place [] = ⊥
+Stands means r t at place (x ∷ xs) =
+    ((at ≡ place) × (is_mark x ≡ true) × LeadsTo means r t place x.state) ⊎ Stands means r t at (place + x.len) xs
 
 -- by the rule a mark stands at a place, behind the tokens that lead there from the start; `since` are those behind the last mark
 pub record IsDueAt {M : Type 0} (r : Rules M) (t : List ℕ) (last place : ℕ) : Type 0 where
@@ -38,7 +45,7 @@ pub record IsDueAt {M : Type 0} (r : Rules M) (t : List ℕ) (last place : ℕ) 
   pub on : CutsTo t last since place
   pub due : is_due r (after_all r (after_all r r.first before) since) (tags_in since) ≡ true
 
--- each of these places, behind a mark at `last`, is one where a mark stood aside, or where one is due
+-- each of these places, behind a mark at `last`, is one where a mark stood aside to which tokens lead, or where one is due
 abbrev pub AreCalledFor : {M : Type 0} → Rules M → List ℕ → (ℕ → Type 0) → ℕ → List ℕ → Type 0
 AreCalledFor r t stood last [] = Unit {0}
 AreCalledFor r t stood last (place ∷ others) = (stood place ⊎ IsDueAt r t last place) × AreCalledFor r t stood place others
@@ -47,24 +54,18 @@ abbrev pub last_of : ℕ → List ℕ → ℕ
 last_of place [] = place
 last_of place (other ∷ others) = last_of other others
 
--- tokens lead from the start to the place and to what the state means
-pub record LeadsTo {S M : Type 0} (means : S → M) (r : Rules M) (t : List ℕ) (place : ℕ) (state : S) : Type 0 where
-  pub tokens : List Lexeme
-  pub cuts : CutsTo t 0 tokens place
-  pub meaning : means state ≡ after_all r r.first tokens
-
 -- each of these that is a mark, the first of them at a place, stands at one of the places `now`, or tokens don't lead to it
 abbrev pub AreUsed : {S M : Type 0} → (S → M) → Rules M → List ℕ → List ℕ → ℕ → List (Mark S) → Type 0
 AreUsed means r t now place [] = Unit {0}
 AreUsed means r t now place (x ∷ xs) =
     (is_mark x ≡ true → IsAmong place now ⊎ (LeadsTo means r t place x.state → ⊥)) × AreUsed means r t now (place + x.len) xs
 
--- the marks up to the old frontier stay where they are, and none is saved behind it but where one stood aside or is due. Of the marks
--- aside the first ones go, each to stand up to the frontier or since tokens don't lead to it; the others stay with their segments
+-- the marks up to the old frontier stay where they are, and none is saved behind it but where one stood aside to which tokens lead, or
+-- where one is due. Of the marks aside the first ones go, each to stand up to the frontier or since tokens don't lead to it; the others stay with their segments
 pub record KeepsMarks {S M : Type 0} (means : S → M) (r : Rules M) (t : List ℕ) (old new : Kept S) : Type 0 where
   pub more : List ℕ
   pub stay : places_of new ≡ places_of old ++ more
-  pub due : AreCalledFor r t (λ at. Stands at (next_of old) old.aside) (last_of 0 (places_of old)) more
+  pub due : AreCalledFor r t (λ at. Stands means r t at (next_of old) old.aside) (last_of 0 (places_of old)) more
   pub gone : List (Mark S)
   pub aside : old.aside ≡ gone ++ new.aside
   pub next : (new.aside ≡ []) ⊎ (next_of new ≡ next_of old + reach gone)

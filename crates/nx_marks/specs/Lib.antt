@@ -12,3 +12,4 @@ pub mod Starting
 pub mod Walking
 pub mod Rejoining
 pub mod Keeping
+pub mod Meant

@@ -8,6 +8,8 @@ ghost use Rattle.nx_marks.specs.Bound.{WillJoin};
 ghost use Rattle.nx_marks.specs.Chain.{AreWhole, FirstMeans, Kept, frontier_of};
 ghost use Rattle.nx_marks.specs.Editing.{EditAt, EditBehind, edit_kept, noted};
 ghost use Rattle.nx_marks.specs.Frontier.{IsBorder};
+ghost use Rattle.nx_marks.specs.Keeping.{KeepsMarks};
+ghost use Rattle.nx_marks.specs.Meant.{kept_by, is_any, itself};
 ghost use Rattle.nx_marks.specs.Right.{IsRight, StaysRight};
 
 use nx_base::machine::Machine;
@@ -49,4 +51,38 @@ pub fn one_edit_keeps_the_row<A: Machine>()
         → FirstMeans (A.means machine) (after_all (A.rules machine) (A.means machine (edit_kept from to (length added) kept).here.state) left)
         (edit_kept from to (length added) kept).aside
         → WillJoin (A.means machine) (A.rules machine) (edited text from to added) (length left) (edit_kept from to (length added) kept) }
+{}
+
+/// An edit looks at no state, so it does to meanings what it does to states.
+pub fn edits_look_at_no_state<A: Machine>()
+    ensures { (machine : A) (from to added : ℕ) (kept : Kept A.State)
+        → kept_by (A.means machine) (edit_kept from to added kept) ≡ edit_kept from to added (kept_by (A.means machine) kept) }
+{}
+
+/// What is right for a machine and a text is right of meanings.
+pub fn meanings_are_right<A: Machine>()
+    ensures { (machine : A) (text : List ℕ) (kept : Kept A.State) → IsRight (A.is_state machine) (A.means machine) (A.rules machine) text kept
+        → IsRight is_any itself (A.rules machine) text (kept_by (A.means machine) kept) }
+{}
+
+/// A later machine gives the same meanings.
+pub fn later_machines_mean_the_same<A: Machine>()
+    ensures { (earlier now : A) (text : List ℕ) (kept : Kept A.State) → A.later earlier now
+        → IsRight (A.is_state earlier) (A.means earlier) (A.rules earlier) text kept
+        → kept_by (A.means now) kept ≡ kept_by (A.means earlier) kept }
+{}
+
+/// What reading on does to states, it does to their meanings, each by the machine of its time.
+pub fn reading_on_keeps_meanings<A: Machine>()
+    ensures { (earlier now : A) (text : List ℕ) (old new : Kept A.State) → A.later earlier now
+        → IsRight (A.is_state earlier) (A.means earlier) (A.rules earlier) text old
+        → KeepsMarks (A.means earlier) (A.rules earlier) text old new
+        → KeepsMarks itself (A.rules earlier) text (kept_by (A.means earlier) old) (kept_by (A.means now) new) }
+{}
+
+/// Where meanings will be joined in so many tokens, their states will.
+pub fn meanings_join_as_states<A: Machine>()
+    ensures { (machine : A) (text : List ℕ) (count : ℕ) (kept : Kept A.State)
+        → WillJoin itself (A.rules machine) text count (kept_by (A.means machine) kept)
+        → WillJoin (A.means machine) (A.rules machine) text count kept }
 {}

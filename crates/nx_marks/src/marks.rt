@@ -9,8 +9,10 @@ ghost use Rattle.nx_marks.specs.Chain.{AreWhole, frontier_of};
 ghost use Rattle.nx_marks.specs.Editing.{edit_kept};
 ghost use Rattle.nx_marks.specs.Frontier.{FrontierAfterEdit, MovesOver};
 ghost use Rattle.nx_marks.specs.Keeping.{KeepsMarks};
+ghost use Rattle.nx_marks.specs.Meant.{kept_by};
 ghost use Rattle.nx_marks.specs.Right.{IsRight, IsRightForLength, IsRightForSome};
 ghost use Rattle.nx_marks.specs.Before.{IsMarkBefore};
+ghost use Rattle.nx_marks.specs.Starting.{started};
 ghost use Rattle.nx_marks.specs.Walking.{Fits};
 
 use crate::kept::{Kept, begin_here, step};
@@ -76,6 +78,7 @@ impl<A: Machine> Marks<A> {
         ensures frontier { IfOk result (λ marks. frontier_of marks.kept ≡ 0) }
         ensures taken { IfOk result (λ marks. marks.taken ≡ 0) }
         ensures none { IfOk result (λ marks. (marks.kept.front ≡ []) × (marks.kept.aside ≡ [])) }
+        ensures meant { IfOk result (λ marks. kept_by (A.means machine.new) marks.kept ≡ started (A.rules machine.new).first) }
     {
         let first = machine.start(alloc)?;
         Ok(Marks {
@@ -96,6 +99,11 @@ impl<A: Machine> Marks<A> {
             → length text < 2 ^ 64 → length (edited text edit.now.from edit.now.to added) < 2 ^ 64
             → IsRight (A.is_state a) (A.means a) (A.rules a) text self.old.kept
             → IsRight (A.is_state a) (A.means a) (A.rules a) (edited text edit.now.from edit.now.to added) self.new.kept }
+        ensures told { (a : A) (text added : List ℕ) → IsUtf8 text → IsUtf8 added → IsPlace text edit.now.from
+            → IsPlace text edit.now.to → edit.now.from ≤ edit.now.to → edit.now.added ≡ length added
+            → length text < 2 ^ 64 → length (edited text edit.now.from edit.now.to added) < 2 ^ 64
+            → IsRight (A.is_state a) (A.means a) (A.rules a) text self.old.kept
+            → self.new.kept ≡ edit_kept edit.now.from edit.now.to edit.now.added self.old.kept }
         ensures frontier { FrontierAfterEdit edit.now.from (frontier_of self.old.kept) (frontier_of self.new.kept) }
         ensures marks { edit.now.from ≤ edit.now.to → Fits edit.now.from edit.now.to edit.now.added self.old.kept
             → AreWhole self.old.kept.front
@@ -187,6 +195,8 @@ impl<A: Machine> Marks<A> {
         ensures none_aside { OnOk result (self.new.kept.aside ≡ []) }
         ensures bound { OnOk result ((count : ℕ) → WillJoin (A.means machine.old) (A.rules machine.old) text.now count self.old.kept
             → self.new.taken ≤ token_count text.now (frontier_of self.old.kept) (frontier_of self.old.kept + self.old.kept.here.len)) }
+        ensures few { OnOk result ((count : ℕ) → WillJoin (A.means machine.old) (A.rules machine.old) text.now count self.old.kept
+            → self.new.taken ≤ count) }
         ensures keeps { KeepsMarks (A.means machine.old) (A.rules machine.old) text.now self.old.kept self.new.kept }
     {
         // A text has fewer bytes, so fewer tokens, than the greatest number.

@@ -1,4 +1,4 @@
-use Rattle.std.proofs.Common.{◌≡◌, ℕ, ◌+◌, ◌-◌, [], ◌∷◌, false, ap, subst, sym, arith}
+use Rattle.std.proofs.Common.{◌≡◌, ℕ, ◌+◌, ◌-◌, ◌∷◌, ap, subst, sym, arith}
 use Rattle.nx_marks.specs.Chain.{Kept, frontier_of, reach}
 use Rattle.nx_marks.specs.Walking.{DropsBetween, cut_off}
 use Rattle.nx_marks.specs.Editing.{broken}

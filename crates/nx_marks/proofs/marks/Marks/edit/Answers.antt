@@ -22,6 +22,16 @@ returns-clause-right g c = λ a t added utf8 added_utf8 f u o long small new h.
     let done = edited_from_noted from to c.args.edit.now.added k c.note.new.self c.edit.new.self c.note.ensures (c.edit.ensures.edited o) fits h.holds.whole h.holds.ends in
     subst P (sym done) (subst E (sym long) (edit_right (m.is_state a) (m.means a) (m.rules a) (g.met.A.Machine.rule_laws a) t added from to utf8 added_utf8 f u o k h))
 
+pub returns-clause-told : goal.returns-clause-told
+returns-clause-told g c = λ a t added utf8 added_utf8 f u o long small new h.
+    let m = g.A.Machine in
+    let k = c.args.self.now.kept in
+    let from = c.args.edit.now.from in
+    let to = c.args.edit.now.to in
+    let F : ℕ → Type 0 = λ n. Fits from to n k in
+    let fits = subst F (sym long) (fits_text (m.is_state a) (m.means a) (m.rules a) t added from to k utf8 added_utf8 f u o h small new) in
+    edited_from_noted from to c.args.edit.now.added k c.note.new.self c.edit.new.self c.note.ensures (c.edit.ensures.edited o) fits h.holds.whole h.holds.ends
+
 pub returns-clause-frontier : goal.returns-clause-frontier
 returns-clause-frontier g c = frontier_from_noted c.args.edit.now.from c.args.self.now.kept c.note.new.self c.edit.new.self c.note.ensures c.edit.ensures.frontier
 
