@@ -15,7 +15,7 @@ use Rattle.rng_simplify.specs.Broken.{IsBroken, WholeIsBroken, clash}
 use Rattle.rng_simplify.specs.Classes.{has_bad_except, names_declarations, names_declarations_of_attribute}
 use Rattle.rng_simplify.specs.Composed.{Clauses, end_of_clauses, clause_then}
 use Rattle.rng_simplify.specs.Composed as composed
-use Rattle.rng_simplify.specs.Composing.{Says, ComposesSchema, top, of_grammar, no_item, definition, inclusion, none_anew, definition_anew, by_element, by_ref, by_empty}
+use Rattle.rng_simplify.specs.ComposedFiles.{Says, ComposesSchema, top, of_grammar, no_item, definition, inclusion, none_anew, definition_anew, by_element, by_ref, by_empty}
 use Rattle.rng_simplify.specs.Forms.{Form, Value, choice_of, group_of, one_or_more_of, list_of, values_of, nodes, depth}
 use Rattle.rng_simplify.specs.Forms as form
 use Rattle.rng_simplify.specs.Places.{the_whole, further_in, a_content, a_definition, to_part, to_definition, in_one_step, in_more_steps}

@@ -21,13 +21,13 @@ use Rattle.rng_simplify.specs.declared.shape.Shape.{Shape}
 use Rattle.rng_simplify.specs.declared.shape.Shape.TheVariants as shape
 use Rattle.rng_simplify.specs.Cells.{Cell, cell_of}
 use Rattle.rng_simplify.specs.Cells as cell
-use Rattle.rng_simplify.specs.Denoting.{IsCell}
+use Rattle.rng_simplify.specs.CellMeanings.{IsCell}
 use Rattle.rng_simplify.specs.Forms.{Form, Value, list_of, attribute_of, one_or_more_of, join_of}
 use Rattle.rng_simplify.specs.Forms as form
-use Rattle.rng_simplify.specs.Forming.{cell_form, bodies_form, combined_form, form_in, form_of, IsKnown, IsBefore, IsInOrder, AreFormed, IsNumberedBelow, IsCellMade, MakesCell, IsCombinedMade, MakesCombined, AreAllJoined, JoinsAll, Makes, IsPlaced}
+use Rattle.rng_simplify.specs.NodeForms.{cell_form, bodies_form, combined_form, form_in, form_of, IsKnown, IsBefore, IsInOrder, AreFormed, IsNumberedBelow, IsCellMade, MakesCell, IsCombinedMade, MakesCombined, AreAllJoined, JoinsAll, Makes, IsPlaced}
 use Rattle.rng_simplify.specs.declared.resolve.Target.{Target}
 use Rattle.rng_simplify.specs.declared.resolve.Target.TheVariants.{Nothing}
-use Rattle.rng_simplify.specs.Resolving.{combined_number, element_number, target_at, number_at, cell_leads, combined_leads, leads_if, leads, link_at}
+use Rattle.rng_simplify.specs.ResolvedNodes.{combined_number, element_number, target_at, number_at, cell_leads, combined_leads, leads_if, leads, link_at}
 use Rattle.rng_simplify.specs.Shown.{value_in, type_in, params_in, class_in, joined_of, form_by, form_at, IsBehindParts, shape_parts, IsOfSchema, IsShown, Shows, Adds}
 use Rattle.rng_simplify.proofs.Nodes.{in_none, in_first, in_more}
 use Rattle.rng_simplify.proofs.Showing.{shows_still, shows_last, before_or_last}

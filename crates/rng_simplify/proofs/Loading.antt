@@ -17,10 +17,10 @@ use Rattle.rng_simplify.specs.declared.load.Link.{Link}
 use Rattle.rng_simplify.specs.declared.load.Loaded.{Loaded}
 use Rattle.rng_simplify.specs.declared.mention.Mention.{Mention as Kept}
 use Rattle.rng_simplify.specs.Broken.{IsAbsent, IsNoText, HasBadUri, IsRefused, HasIncludeLoop}
-use Rattle.rng_simplify.specs.Composing.{Context, top, referred, Says, Opens}
-use Rattle.rng_simplify.specs.Following.{uris_of, IsLink, IsChain, no_link, further_link, IsUnderWay, IsAdded, NextUri}
-use Rattle.rng_simplify.specs.Loading.{Waiting, waiting_in, IsRead, AreRead, all_read, one_read, AllLoaded, IsNoTextAt, IsOfReading, IsRefusedText, Unreads, SaysBytes, Fetches, ReadsFile}
-use Rattle.rng_simplify.specs.Mentioning.{kept_of, kept_of_all}
+use Rattle.rng_simplify.specs.ComposedFiles.{Context, top, referred, Says, Opens}
+use Rattle.rng_simplify.specs.FileChains.{uris_of, IsLink, IsChain, no_link, further_link, IsUnderWay, IsAdded, NextUri}
+use Rattle.rng_simplify.specs.LoadedFiles.{Waiting, waiting_in, IsRead, AreRead, all_read, one_read, AllLoaded, IsNoTextAt, IsOfReading, IsRefusedText, Unreads, SaysBytes, Fetches, ReadsFile}
+use Rattle.rng_simplify.specs.KeptMentions.{kept_of, kept_of_all}
 use Rattle.rng_simplify.specs.References.{Mention, Mentions, Reached, the_first, a_further, reference_of, mentions_of}
 use Rattle.rng_simplify.specs.Simplified.{IfTold, Answers}
 

@@ -11,7 +11,7 @@ use Rattle.rng_simplify.specs.Composed.{Composed, Clauses, end_of_clauses, claus
 use Rattle.rng_simplify.specs.Composed as composed
 use Rattle.rng_simplify.specs.Forms.{Form, FormDefinition, Value, list_of, attribute_of, one_or_more_of, choice_of, group_of, interleave_of, combine_of, values_of}
 use Rattle.rng_simplify.specs.Forms as form
-use Rattle.rng_simplify.specs.Forming.{bodies_form}
+use Rattle.rng_simplify.specs.NodeForms.{bodies_form}
 use Rattle.rng_simplify.specs.Places.{place, Occurs, the_whole, further_in, a_part, a_content, a_definition}
 use Rattle.rng_simplify.specs.Simple.{Simple, Defines, AreSimple, simple_element, simple_attribute, simple_list, simple_empty, simple_text, simple_not_allowed, simple_value, simple_type, simple_one_or_more, simple_choice, simple_group, simple_interleave, simple_grammar, simple_ref, simple_parent_ref, joined_in_order, none_simple, next_simple}
 use Rattle.rng_simplify.specs.Whole.{IsForm}

@@ -11,10 +11,10 @@ use Rattle.rnc_parse.specs.Reads.{Refuses}
 use Rattle.rnc_parse.specs.Written.{WrittenPattern, WrittenItem, WrittenItems, WrittenReplacement, WrittenReplacements, WrittenSurface, a_pattern, a_grammar}
 use Rattle.rnc_parse.specs.Written as written
 use Rattle.rnc_parse.proofs.WholeTexts.{read_not_refused}
-use Rattle.rng_simplify.specs.Agreeing.{ArePassed}
+use Rattle.rng_simplify.specs.Unambiguous.{ArePassed}
 use Rattle.rng_simplify.specs.Broken.{IsAbsent, IsNoText, HasBadUri, IsRefused, HasIncludeLoop, IncludesOther, ReplacesNothing}
 use Rattle.rng_simplify.specs.Composed.{Composed, Clauses, end_of_clauses, clause_then, then_clauses, defines, names_of}
-use Rattle.rng_simplify.specs.Composing.{Context, referred, Says, Opens, grammar_items, DefinesEach, Composes, by_element, by_attribute, by_list, by_ref, by_parent_ref, by_empty, by_text, by_not_allowed, by_value, by_type, by_type_but, by_external, by_grammar, by_optional, by_zero_or_more, by_one_or_more, by_mixed, by_choice, by_group, by_interleave, ComposesFile, of_pattern, of_grammar, Gathers, no_item, definition, division, inclusion, GathersAnew, none_anew, definition_anew, division_anew, ComposesSchema}
+use Rattle.rng_simplify.specs.ComposedFiles.{Context, referred, Says, Opens, grammar_items, DefinesEach, Composes, by_element, by_attribute, by_list, by_ref, by_parent_ref, by_empty, by_text, by_not_allowed, by_value, by_type, by_type_but, by_external, by_grammar, by_optional, by_zero_or_more, by_one_or_more, by_mixed, by_choice, by_group, by_interleave, ComposesFile, of_pattern, of_grammar, Gathers, no_item, definition, division, inclusion, GathersAnew, none_anew, definition_anew, division_anew, ComposesSchema}
 use Rattle.rng_simplify.specs.References.{Mention, an_external, an_include, reference_of, mentions, mentions_of_items, mentions_anew, mentions_of, names_anew, Reached, the_first, a_further, Mentions}
 use Rattle.rng_simplify.specs.Unnumbered.{unnumbered_in}
 use Rattle.rng_simplify.proofs.Nodes.{in_none, in_cases, in_one}

@@ -21,7 +21,7 @@ use Rattle.rnc_parse.specs.Reads.{Refuses}
 use Rattle.rng_simplify.specs.Classes.{has_bad_except, names_declarations, names_declarations_of_attribute}
 use Rattle.rng_simplify.specs.Composed.{Composed, Clauses, defines, defining, combines, numbers}
 use Rattle.rng_simplify.specs.Composed as composed
-use Rattle.rng_simplify.specs.Composing.{Context, Opens, grammar_items, Gathers, ComposesSchema}
+use Rattle.rng_simplify.specs.ComposedFiles.{Context, Opens, grammar_items, Gathers, ComposesSchema}
 use Rattle.rng_simplify.specs.Datatypes.{datatype_of, MayWrite, builtin_string, builtin_token}
 use Rattle.rng_simplify.specs.Forms.{Form, FormDefinition, Value, values_of, nodes, depth}
 use Rattle.rng_simplify.specs.Places.{place, Occurs, LeadsOn}

@@ -3,8 +3,8 @@
 ghost use Rattle.std.specs.Prelude.{◌≡◌, ◌+◌, ◌<◌, ℕ, length, map, slice_index, slice_get, Some, Contains};
 ghost use Rattle.rng_simplify.specs.Cells.{cell_of};
 ghost use Rattle.rng_simplify.specs.Forms.{join_of};
-ghost use Rattle.rng_simplify.specs.Forming.{IsKnown, IsRoom, IsInOrder, MakesCell, MakesCombined, JoinsAll, Makes, Places, MakesForms};
-ghost use Rattle.rng_simplify.specs.Resolving.{cell_leads, leads, combined_number};
+ghost use Rattle.rng_simplify.specs.NodeForms.{IsKnown, IsRoom, IsInOrder, MakesCell, MakesCombined, JoinsAll, Makes, Places, MakesForms};
+ghost use Rattle.rng_simplify.specs.ResolvedNodes.{cell_leads, leads, combined_number};
 ghost use Rattle.rng_simplify.specs.Shown.{joined_of};
 
 use crate::fault::SchemaFault;

@@ -16,10 +16,10 @@ use Rattle.rng_simplify.specs.declared.resolve.Target.{Target}
 use Rattle.rng_simplify.specs.declared.shape.Shape.{Shape}
 use Rattle.rng_simplify.specs.Cells.{Cell}
 use Rattle.rng_simplify.specs.Cells as cell
-use Rattle.rng_simplify.specs.Denoting.{IsCell}
+use Rattle.rng_simplify.specs.CellMeanings.{IsCell}
 use Rattle.rng_simplify.specs.Forms.{Form, Value, list_of, attribute_of, one_or_more_of, join_of, values_of}
 use Rattle.rng_simplify.specs.Forms as form
-use Rattle.rng_simplify.specs.Resolving.{combined_number, element_number, target_at, number_at, leads}
+use Rattle.rng_simplify.specs.ResolvedNodes.{combined_number, element_number, target_at, number_at, leads}
 use Rattle.rng_simplify.specs.Shown.{joined_of, form_at, AreOfSchema}
 
 -- ---- forms of cells and combined definitions
