@@ -363,7 +363,7 @@ module _ (joins_or_bad : TextsJoinOrAreBad) (read_or_refused : TextsAreReadOrRef
               mention = mention;
               mentioned = mentioned;
               other = joined.0;
-              joined = joined.1;
+              refers = joined.1;
               leads_here = back;
             },
           )
@@ -374,7 +374,7 @@ module _ (joins_or_bad : TextsJoinOrAreBad) (read_or_refused : TextsAreReadOrRef
                 inner = inner;
                 surface = s.0;
                 piece = h.0;
-                opens = record { uri = joined.0; joined = joined.1; inner_is = refl; no_loop = apart; says = s.1 };
+                opens = record { uri = joined.0; refers = joined.1; inner_is = refl; no_loop = apart; says = s.1 };
                 composes = h.1;
               })))
         ]

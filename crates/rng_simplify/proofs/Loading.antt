@@ -245,7 +245,7 @@ module _ (told : Option FileMap) (uri : List ℕ) where
           mention = next.mention;
           mentioned = m;
           other = other;
-          joined = uri_at other joins;
+          refers = uri_at other joins;
           leads_here = subst (λ us. Contains us other) (sym next.chain_is) among;
         }) next.mentioned
 
@@ -302,7 +302,7 @@ module _ (told : Option FileMap) (uri : List ℕ) where
               told_with told (λ files. Says files other (surface_of surface)) (λ files. Opens files next.context (reference_of next.mention)
               inner (surface_of surface)) (λ files s. record {
                 uri = other;
-                joined = uri_at other joins;
+                refers = uri_at other joins;
                 inner_is = refl;
                 no_loop = no_loop_at other no_loop;
                 says = s;

@@ -34,7 +34,7 @@ pub opens_one : JoinsIsDecided →
     (files : FileMap) (context : Context) (reference : FileReference) (inner other : Context) (surface others : WrittenSurface) →
     Opens files context reference inner surface → Opens files context reference other others → OpensOne inner other surface others
 opens_one decided files context reference inner other surface others is also =
-    let uris : is.uri ≡ also.uri = decided.1 context.uri reference.uri is.uri also.uri is.joined also.joined in
+    let uris : is.uri ≡ also.uri = decided.1 context.uri reference.uri is.uri also.uri is.refers also.refers in
     let P : List ℕ → Type 0 = λ uri. Says files uri surface in
     record {
       context = is.inner_is ∙ ap (referred context reference) uris ∙ sym also.inner_is;

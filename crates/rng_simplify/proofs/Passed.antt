@@ -182,7 +182,7 @@ module _ (files : FileMap) where
     good_file (a_further {context = context} {surface = surface} {mention = mention} {other = other} reached says mentioned joins apart) =
         let leads = leads_from (good_file reached) says mentioned in
         let uris : leads.opens.uri ≡ other =
-        decided.1 context.uri (reference_of mention).uri leads.opens.uri other leads.opens.joined joins in
+        decided.1 context.uri (reference_of mention).uri leads.opens.uri other leads.opens.refers joins in
         let inner : leads.inner ≡ referred context (reference_of mention) other =
         leads.opens.inner_is ∙ ap (referred context (reference_of mention)) uris in
         let P : List ℕ → Type 0 = λ u. Says files u leads.surface in
@@ -211,7 +211,7 @@ module _ (files : FileMap) where
     bad_uri_never text h =
         let leads = mention_leads h.mentioned in
         let P : List ℕ → Type 0 = λ t. IsBadUri h.context.uri t in
-        decided.0 h.context.uri (reference_of h.mention).uri leads.opens.uri leads.opens.joined (subst P h.text_is h.bad)
+        decided.0 h.context.uri (reference_of h.mention).uri leads.opens.uri leads.opens.refers (subst P h.text_is h.bad)
 
     refused_never : (why : Cause) → IsRefused files uri why → ⊥
     refused_never why h =
@@ -224,7 +224,7 @@ module _ (files : FileMap) where
     loop_never h =
         let leads = mention_leads h.mentioned in
         let P : List ℕ → Type 0 = λ u. Contains h.context.chain u in
-        leads.opens.no_loop (subst P (decided.1 h.context.uri (reference_of h.mention).uri h.other leads.opens.uri h.joined leads.opens.joined) h.leads_here)
+        leads.opens.no_loop (subst P (decided.1 h.context.uri (reference_of h.mention).uri h.other leads.opens.uri h.refers leads.opens.refers) h.leads_here)
 
     other_never : IncludesOther files uri → ⊥
     other_never h =

@@ -467,7 +467,7 @@ module _ (files : FileMap) (uri : List ℕ) where
   inner_of waiting inner surface mentioned opens =
       subst (λ c. Inner c surface) (sym opens.inner_is)
       (record {
-        reached = a_further mentioned.reached mentioned.says mentioned.mentioned opens.joined opens.no_loop;
+        reached = a_further mentioned.reached mentioned.says mentioned.mentioned opens.refers opens.no_loop;
         says = opens.says;
       })
 

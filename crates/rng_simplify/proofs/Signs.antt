@@ -1,4 +1,4 @@
--- How definitions of one name are joined, with one more of them.
+-- How definitions of one name are combined, with one more of them.
 use Rattle.std.proofs.Common.{◌≡◌, refl, sym, ap, ◌∙◌, ℕ, ◌+◌, Bool, true, false, cond, List, [], ◌∷◌, ◌++◌, length, Some, None, arith, length-append}
 use Rattle.std.specs.Prelude.{◌&&◌, ◌||◌, nat_lt, filter}
 use Rattle.std.specs.List.{list_any}

@@ -71,7 +71,7 @@ pub record HasIncludeLoop (files : FileMap) (uri : List ℕ) : Type 0 where
   pub mention : Mention
   pub mentioned : Mentions files uri context mention
   pub other : List ℕ
-  pub joined : Joins context.uri (reference_of mention).uri other
+  pub refers : Joins context.uri (reference_of mention).uri other
   pub leads_here : Contains context.chain other
 
 -- one includes a file that is no grammar
@@ -140,7 +140,7 @@ is_interleave combine.Alone = false
 is_interleave combine.Choice = false
 is_interleave combine.Interleave = true
 
--- two say nothing of how definitions of one name are joined, or two say it in two ways: 7.18
+-- two say nothing of how definitions of one name are combined, or two say it in two ways: 7.18
 abbrev pub clash : List Combine → Bool
 clash all = nat_lt 1 (length (filter is_alone all)) || (list_any is_choice all && list_any is_interleave all)
 

@@ -266,8 +266,8 @@ impl Combined {
             return Err(SchemaFault::Unreadable(Cause::CombineClash));
         }
         match both(self.combine, combine) {
-            Some(joined) => {
-                self.combine = joined;
+            Some(said) => {
+                self.combine = said;
                 self.has_alone = one_alone(self.has_alone, combine);
                 self.bodies.push(body)?;
                 Ok(())
