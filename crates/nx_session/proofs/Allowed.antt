@@ -38,7 +38,7 @@ use Rattle.nx_views.specs.States.{ViewState}
 use Rattle.rng_core.specs.declared.grammar.Grammar.{Grammar}
 use Rattle.rng_core.specs.Patterns.{Pattern, Definition}
 use Rattle.rng_core.specs.Meaning.{language_of, pattern_of, definitions_of}
-use Rattle.rng_simplify.specs.Agreeing.{ArePassed, ComposedArePassed, SimplifiedIsNotBroken}
+use Rattle.rng_simplify.specs.Unambiguous.{ArePassed, ComposedArePassed, SimplifiedIsNotBroken}
 use Rattle.rng_simplify.specs.Broken.{IsBroken}
 use Rattle.rng_simplify.specs.Simplified.{IfTold, IsOfSimplification, Simplifies}
 

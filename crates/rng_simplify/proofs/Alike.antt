@@ -9,10 +9,10 @@ use Rattle.rnc_parse.specs.Written.{joined}
 use Rattle.rng_core.specs.Names.{Class}
 use Rattle.rng_simplify.specs.Composed.{Composed, Clauses, end_of_clauses, clause_then, same_defined, defining, combines, bodies}
 use Rattle.rng_simplify.specs.Composed as composed
-use Rattle.rng_simplify.specs.Forms.{Form, Value, list_of, attribute_of, one_or_more_of, choice_of, group_of, interleave_of, combine_of, join_of, values_of}
+use Rattle.rng_simplify.specs.Forms.{Form, Value, list_of, attribute_of, one_or_more_of, choice_of, group_of, interleave_of, combine_of, combined_by, values_of}
 use Rattle.rng_simplify.specs.Forms as form
 use Rattle.rng_simplify.specs.Places.{parts}
-use Rattle.rng_simplify.specs.Simple.{Simple, Defines, AreSimple, simple_element, simple_attribute, simple_list, simple_empty, simple_text, simple_not_allowed, simple_value, simple_type, simple_one_or_more, simple_choice, simple_group, simple_interleave, simple_grammar, simple_ref, simple_parent_ref, joined_in_order, none_simple, next_simple}
+use Rattle.rng_simplify.specs.Simple.{Simple, Defines, AreSimple, simple_element, simple_attribute, simple_list, simple_empty, simple_text, simple_not_allowed, simple_value, simple_type, simple_one_or_more, simple_choice, simple_group, simple_interleave, simple_grammar, simple_ref, simple_parent_ref, combined_in_order, none_simple, next_simple}
 use Rattle.rng_simplify.specs.Unnumbered.{unnumbered, unnumbered_in}
 
 -- ---- forms without numbers
@@ -65,16 +65,16 @@ interleave_plain form.empty q = refl
 interleave_plain p form.empty = refl
 interleave_plain p q = refl
 
-join_plain : (c : Combine) (p q : Form) → plain (join_of c p q) ≡ join_of c (plain p) (plain q)
-join_plain combine.Alone p q = choice_plain p q
-join_plain combine.Choice p q = choice_plain p q
-join_plain combine.Interleave p q = interleave_plain p q
+combined_plain : (c : Combine) (p q : Form) → plain (combined_by c p q) ≡ combined_by c (plain p) (plain q)
+combined_plain combine.Alone p q = choice_plain p q
+combined_plain combine.Choice p q = choice_plain p q
+combined_plain combine.Interleave p q = interleave_plain p q
 
 joined_plain : (c : Combine) (first : Form) (more : List Form) →
-    plain (joined (join_of c) first more) ≡ joined (join_of c) (plain first) (map plain more)
+    plain (joined (combined_by c) first more) ≡ joined (combined_by c) (plain first) (map plain more)
 joined_plain c first [] = refl
 joined_plain c first (next ∷ more) =
-    joined_plain c (join_of c first next) more ∙ ap (λ p. joined (join_of c) p (map plain more)) (join_plain c first next)
+    joined_plain c (combined_by c first next) more ∙ ap (λ p. joined (combined_by c) p (map plain more)) (combined_plain c first next)
 
 values_plain : (p : Form) → values_of (plain p) ≡ values_of p
 values_plain form.not_allowed = refl
@@ -232,7 +232,7 @@ both_alike by commutes p q r s one other = commutes p q ∙ ap (λ f. by f (plai
 
 -- definitions of as many patterns
 defines_of : (scope : Clauses) (outer : List Clauses) (name : Defined) (c : Combine) (first : Form) (more : List Form) (q : Form)
-    (forms : List Form) → c ≡ combine_of (combines (defining name scope)) → q ≡ joined (join_of c) first more →
+    (forms : List Form) → c ≡ combine_of (combines (defining name scope)) → q ≡ joined (combined_by c) first more →
     map plain (first ∷ more) ≡ map plain forms → AreSimple (scope ∷ outer) (bodies (defining name scope)) forms →
     DefinesAlike scope outer name q
 defines_of scope outer name c first more q [] c_is is same are = let never : ⊥ = cc in absurd never
@@ -240,15 +240,15 @@ defines_of scope outer name c first more q (other ∷ others) c_is is same are =
     let head : plain first ≡ plain other = cc in
     let tail : map plain more ≡ map plain others = cc in
     record {
-      form = joined (join_of (combine_of (combines (defining name scope)))) other others;
-      defines = joined_in_order are refl;
+      form = joined (combined_by (combine_of (combines (defining name scope)))) other others;
+      defines = combined_in_order are refl;
       same =
           ap plain is
           ∙ joined_plain c first more
-          ∙ ap (λ p. joined (join_of c) p (map plain more)) head
-          ∙ ap (joined (join_of c) (plain other)) tail
+          ∙ ap (λ p. joined (combined_by c) p (map plain more)) head
+          ∙ ap (joined (combined_by c) (plain other)) tail
           ∙ sym (joined_plain c other others)
-          ∙ ap (λ d. plain (joined (join_of d) other others)) c_is;
+          ∙ ap (λ d. plain (joined (combined_by d) other others)) c_is;
     }
 
 mutual
@@ -317,7 +317,7 @@ mutual
   defines_alike : {scope : Clauses} {outer : List Clauses} {name : Defined} {q : Form} → Defines scope outer name q →
       (other : Clauses) (rest : List Clauses) → unnumbered_in scope ≡ unnumbered_in other →
       map unnumbered_in outer ≡ map unnumbered_in rest → DefinesAlike other rest name q
-  defines_alike (joined_in_order {scope = scope} {outer = outer} {name = name} {first = first} {q = q} {more = more} are is) other rest same
+  defines_alike (combined_in_order {scope = scope} {outer = outer} {name = name} {first = first} {q = q} {more = more} are is) other rest same
       around =
       let h =
       all_alike are (other ∷ rest) (bodies (defining name other))

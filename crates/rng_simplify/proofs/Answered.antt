@@ -8,7 +8,7 @@ use Rattle.rng_core.specs.Meaning.{pattern_of, definitions_of}
 use Rattle.rng_simplify.specs.declared.compose.Whole.{Whole}
 use Rattle.rng_simplify.specs.declared.fault.SchemaFault.{SchemaFault}
 use Rattle.rng_simplify.specs.declared.fault.SchemaFault.TheVariants as fault
-use Rattle.rng_simplify.specs.Breaking.{cells_of}
+use Rattle.rng_simplify.specs.Refusals.{cells_of}
 use Rattle.rng_simplify.specs.Broken.{PieceIsBroken, IsBroken}
 use Rattle.rng_simplify.specs.Cells.{Cell}
 use Rattle.rng_simplify.specs.Composition.{IsOnePiece, GivesWhole}

@@ -10,8 +10,8 @@ use Rattle.std.specs.Str.{bytes_eq}
 use Rattle.rng_simplify.specs.declared.load.Link.{Link}
 use Rattle.rng_simplify.specs.declared.mention.Mention.{Mention as Kept}
 use Rattle.rng_simplify.specs.declared.names.Names.{Names}
-use Rattle.rng_simplify.specs.Following.{uris_of, AreOpened}
-use Rattle.rng_simplify.specs.Keeping.{kept_named, KeepsOne}
+use Rattle.rng_simplify.specs.FileChains.{uris_of, AreOpened}
+use Rattle.rng_simplify.specs.NameTables.{kept_named, KeepsOne}
 
 or_true : (b r : Bool) → r ≡ true → (b || r) ≡ true
 or_true true r h = refl

@@ -18,7 +18,7 @@ use Rattle.rng_simplify.specs.Broken.{IsRefused, IsBroken}
 use Rattle.rng_simplify.specs.Classes.{class_in}
 use Rattle.rng_simplify.specs.Composed.{Composed, Clauses, end_of_clauses, clause_then, then_clauses, defines, but_for, names_of}
 use Rattle.rng_simplify.specs.Composed as composed
-use Rattle.rng_simplify.specs.Composing.{Context, top, referred, Says, Opens, grammar_items, DefinesEach, Composes, by_element, by_attribute, by_list, by_ref, by_parent_ref, by_empty, by_text, by_not_allowed, by_value, by_type, by_type_but, by_external, by_grammar, by_optional, by_zero_or_more, by_one_or_more, by_mixed, by_choice, by_group, by_interleave, ComposesFile, of_pattern, of_grammar, Gathers, no_item, definition, division, inclusion, GathersAnew, none_anew, definition_anew, division_anew, ComposesSchema}
+use Rattle.rng_simplify.specs.ComposedFiles.{Context, top, referred, Says, Opens, grammar_items, DefinesEach, Composes, by_element, by_attribute, by_list, by_ref, by_parent_ref, by_empty, by_text, by_not_allowed, by_value, by_type, by_type_but, by_external, by_grammar, by_optional, by_zero_or_more, by_one_or_more, by_mixed, by_choice, by_group, by_interleave, ComposesFile, of_pattern, of_grammar, Gathers, no_item, definition, division, inclusion, GathersAnew, none_anew, definition_anew, division_anew, ComposesSchema}
 use Rattle.rng_simplify.specs.Exact.{AreWithin, SimplifiedOrBroken}
 use Rattle.rng_simplify.specs.References.{Mention, an_external, an_include, reference_of, mentions, mentions_of_item, mentions_of_items, mentions_of_replacement, mentions_anew, mentions_of, Reached, the_first, a_further, Mentions}
 use Rattle.rng_simplify.specs.Simplified.{Simplifies}
@@ -363,7 +363,7 @@ module _ (joins_or_bad : TextsJoinOrAreBad) (read_or_refused : TextsAreReadOrRef
               mention = mention;
               mentioned = mentioned;
               other = joined.0;
-              joined = joined.1;
+              refers = joined.1;
               leads_here = back;
             },
           )
@@ -374,7 +374,7 @@ module _ (joins_or_bad : TextsJoinOrAreBad) (read_or_refused : TextsAreReadOrRef
                 inner = inner;
                 surface = s.0;
                 piece = h.0;
-                opens = record { uri = joined.0; joined = joined.1; inner_is = refl; no_loop = apart; says = s.1 };
+                opens = record { uri = joined.0; refers = joined.1; inner_is = refl; no_loop = apart; says = s.1 };
                 composes = h.1;
               })))
         ]

@@ -7,8 +7,8 @@ use Rattle.rng_simplify.specs.Cells as cell
 use Rattle.rng_simplify.specs.Composed.{Composed, Clauses, end_of_clauses, clause_then}
 use Rattle.rng_simplify.specs.Composed as composed
 use Rattle.rng_simplify.specs.Composition.{WellFormedDenotes}
-use Rattle.rng_simplify.specs.Denoting.{IsCell, Denotes, DenoteAll, is_element, is_attribute, is_list, is_ref, is_parent_ref, is_empty, is_text, is_not_allowed, is_value, is_type, is_grammar, is_one_or_more, is_joined, composed_by, none_denoted, next_denoted}
-use Rattle.rng_simplify.specs.Standing.{inner_nodes, bodies_of, AreWellFormed}
+use Rattle.rng_simplify.specs.CellMeanings.{IsCell, Denotes, DenoteAll, is_element, is_attribute, is_list, is_ref, is_parent_ref, is_empty, is_text, is_not_allowed, is_value, is_type, is_grammar, is_one_or_more, is_joined, composed_by, none_denoted, next_denoted}
+use Rattle.rng_simplify.specs.NodePlaces.{inner_nodes, bodies_of, AreWellFormed}
 
 module _ (cells : List Cell) (number : ℕ → ℕ) where
   pub record Denoted (i : ℕ) : Type 0 where

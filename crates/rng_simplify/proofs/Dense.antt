@@ -14,10 +14,10 @@ use Rattle.rng_simplify.specs.Cells.{Cell}
 use Rattle.rng_simplify.specs.Cells as cell
 use Rattle.rng_simplify.specs.Composed.{Composed, Clauses, numbers, numbers_in, bodies}
 use Rattle.rng_simplify.specs.Composed as composed
-use Rattle.rng_simplify.specs.Denoting.{IsCell, Denotes, DenoteAll, composed_by, is_element, is_attribute, is_list, is_ref, is_parent_ref, is_empty, is_text, is_not_allowed, is_value, is_type, is_grammar, is_one_or_more, is_joined, none_denoted, next_denoted}
+use Rattle.rng_simplify.specs.CellMeanings.{IsCell, Denotes, DenoteAll, composed_by, is_element, is_attribute, is_list, is_ref, is_parent_ref, is_empty, is_text, is_not_allowed, is_value, is_type, is_grammar, is_one_or_more, is_joined, none_denoted, next_denoted}
 use Rattle.rng_simplify.specs.Places.{Place, parts, IsIn, a_part as part_in, a_content as content_in, a_definition as definition_in, Occurs, the_whole, further_in}
-use Rattle.rng_simplify.specs.Standing.{bodies_of, inner_nodes, AreWellFormed, Stands, the_root, IsStanding}
-use Rattle.rng_simplify.specs.Resolving.{IsResolved, number_at}
+use Rattle.rng_simplify.specs.NodePlaces.{bodies_of, inner_nodes, AreWellFormed, Stands, the_root, IsStanding}
+use Rattle.rng_simplify.specs.ResolvedNodes.{IsResolved, number_at}
 use Rattle.rng_simplify.proofs.Nodes.{in_none, in_first, in_more, in_cases, in_one, denoted_by, place_of}
 use Rattle.rng_simplify.proofs.Posts.{stands_in}
 use Rattle.rng_simplify.proofs.WalkTurns.{distinct_by_place}

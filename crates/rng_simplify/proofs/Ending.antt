@@ -13,10 +13,10 @@ use Rattle.rnc_parse.specs.Written.{joined}
 use Rattle.rng_simplify.specs.Broken.{Has, LeadsBack, WholeIsBroken}
 use Rattle.rng_simplify.specs.Composed.{Composed, Clauses, end_of_clauses, clause_then, same_defined, defines, defining, combines, bodies}
 use Rattle.rng_simplify.specs.Composed as composed
-use Rattle.rng_simplify.specs.Forms.{Form, Value, list_of, attribute_of, one_or_more_of, choice_of, group_of, interleave_of, combine_of, join_of, values_of}
+use Rattle.rng_simplify.specs.Forms.{Form, Value, list_of, attribute_of, one_or_more_of, choice_of, group_of, interleave_of, combine_of, combined_by, values_of}
 use Rattle.rng_simplify.specs.Forms as form
 use Rattle.rng_simplify.specs.Places.{Place, place, parts, Occurs, LeadsTo, to_part, to_definition, to_outer_definition, to_start, LeadsOn, in_one_step, in_more_steps}
-use Rattle.rng_simplify.specs.Simple.{Simple, Defines, AreSimple, simple_element, simple_attribute, simple_list, simple_empty, simple_text, simple_not_allowed, simple_value, simple_type, simple_one_or_more, simple_choice, simple_group, simple_interleave, simple_grammar, simple_ref, simple_parent_ref, joined_in_order, none_simple, next_simple}
+use Rattle.rng_simplify.specs.Simple.{Simple, Defines, AreSimple, simple_element, simple_attribute, simple_list, simple_empty, simple_text, simple_not_allowed, simple_value, simple_type, simple_one_or_more, simple_choice, simple_group, simple_interleave, simple_grammar, simple_ref, simple_parent_ref, combined_in_order, none_simple, next_simple}
 use Rattle.rng_simplify.proofs.Deciding.{all_or, place_occurs}
 use Rattle.rng_simplify.proofs.Nodes.{in_none, in_cases, in_first, in_more, in_one}
 use Rattle.rng_simplify.proofs.Renumbered.{among_from, among_map}
@@ -275,7 +275,7 @@ defines_with : (scope : Clauses) (outer : List Clauses) (name : Defined) (qs : L
     AreSimple (scope ∷ outer) (bodies (defining name scope)) qs → DefinesOr scope outer name
 defines_with scope outer name [] are = inr (undefined_by name scope (none_of are))
 defines_with scope outer name (first ∷ more) are =
-    inl (joined (join_of (combine_of (combines (defining name scope)))) first more, joined_in_order are refl)
+    inl (joined (combined_by (combine_of (combines (defining name scope)))) first more, combined_in_order are refl)
 
 defines_or : (scope : Clauses) (outer : List Clauses) (name : Defined) →
     ((to : Place) → Contains (named_led (scope ∷ outer) name) to → HasForm to) → DefinesOr scope outer name

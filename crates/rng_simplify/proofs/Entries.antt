@@ -14,7 +14,7 @@ use Rattle.rnc_parse.specs.declared.surface.Defined.{Defined}
 use Rattle.rnc_parse.specs.declared.surface.Defined.TheVariants as defined
 use Rattle.rng_simplify.specs.declared.names.Names.{Names}
 use Rattle.rng_simplify.specs.Composed.{same_defined}
-use Rattle.rng_simplify.specs.Keeping.{kept_for}
+use Rattle.rng_simplify.specs.NameTables.{kept_for}
 use Rattle.std.proofs.lemmas.Map.Lookups.{exact_bytes}
 use Rattle.std.proofs.lemmas.Map.Text.{is_eq-slice_cmp}
 

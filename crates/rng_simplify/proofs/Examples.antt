@@ -15,12 +15,12 @@ use Rattle.rng_simplify.specs.Broken.{IsBroken, WholeIsBroken, clash}
 use Rattle.rng_simplify.specs.Classes.{has_bad_except, names_declarations, names_declarations_of_attribute}
 use Rattle.rng_simplify.specs.Composed.{Clauses, end_of_clauses, clause_then}
 use Rattle.rng_simplify.specs.Composed as composed
-use Rattle.rng_simplify.specs.Composing.{Says, ComposesSchema, top, of_grammar, no_item, definition, inclusion, none_anew, definition_anew, by_element, by_ref, by_empty}
+use Rattle.rng_simplify.specs.ComposedFiles.{Says, ComposesSchema, top, of_grammar, no_item, definition, inclusion, none_anew, definition_anew, by_element, by_ref, by_empty}
 use Rattle.rng_simplify.specs.Forms.{Form, Value, choice_of, group_of, one_or_more_of, list_of, values_of, nodes, depth}
 use Rattle.rng_simplify.specs.Forms as form
 use Rattle.rng_simplify.specs.Places.{the_whole, further_in, a_content, a_definition, to_part, to_definition, in_one_step, in_more_steps}
 use Rattle.rng_simplify.specs.References.{the_first, an_include}
-use Rattle.rng_simplify.specs.Simple.{Simple, simple_element, simple_empty, simple_grammar, simple_ref, simple_choice, simple_text, simple_one_or_more, joined_in_order, none_simple, next_simple}
+use Rattle.rng_simplify.specs.Simple.{Simple, simple_element, simple_empty, simple_grammar, simple_ref, simple_choice, simple_text, simple_one_or_more, combined_in_order, none_simple, next_simple}
 
 abbrev named : List ℕ → WrittenClass
 named local = written.the_name Inherited local
@@ -54,7 +54,7 @@ replaced_start_is_dropped files m i says_m says_i joined no_loop = record {
   surface = main_file;
   says = says_m;
   composed = of_grammar (inclusion
-      (record { uri = i; joined = joined; inner_is = refl; no_loop = no_loop; says = says_i })
+      (record { uri = i; refers = joined; inner_is = refl; no_loop = no_loop; says = says_i })
       refl
       (definition (by_element 7 by_ref) (definition (by_element 1 by_empty) no_item))
       (definition_anew (by_element 0 by_ref) none_anew)
@@ -65,10 +65,10 @@ replaced_start_is_dropped files m i says_m says_i joined no_loop = record {
 
 -- the start refers to a, whose content refers to c, which is empty
 pub start_refers_to_a : Simple [] (composed.grammar both_clauses) (form.ref 0)
-start_refers_to_a = simple_grammar (joined_in_order (next_simple simple_element none_simple) refl)
+start_refers_to_a = simple_grammar (combined_in_order (next_simple simple_element none_simple) refl)
 
 pub a_refers_to_c : Simple (both_clauses ∷ []) (composed.ref x) (form.ref 1)
-a_refers_to_c = simple_ref (joined_in_order (next_simple simple_element none_simple) refl)
+a_refers_to_c = simple_ref (combined_in_order (next_simple simple_element none_simple) refl)
 
 pub c_is_empty : Simple (both_clauses ∷ []) composed.empty form.empty
 c_is_empty = simple_empty
@@ -84,7 +84,7 @@ a_file_includes_itself files i says joined = record {
   mention = an_include to_i written.no_replacements;
   mentioned = record { reached = the_first; surface = own_file; says = says; mentioned = (0, omega arith, refl) };
   other = i;
-  joined = joined;
+  refers = joined;
   leads_here = (0, omega arith, refl);
 }
 
@@ -121,16 +121,16 @@ nothing_has_no_start = record { scopes = []; pattern = composed.grammar end_of_c
 pub nothing_is_defined : WholeIsBroken (composed.element 0 any_name (composed.ref x)) cause.NoDefinition
 nothing_is_defined = record { scopes = []; pattern = composed.ref x; occurs = further_in the_whole a_content; is = tt }
 
--- ---- text*, and definitions that are joined
+-- ---- text*, and combined definitions
 
 pub text_many_times : Simple [] (composed.choice (composed.one_or_more composed.any_text) composed.empty) (form.choice form.empty (form.one_or_more form.any_text))
 text_many_times = simple_choice (simple_one_or_more simple_text) simple_empty
 
-abbrev three_joined : Clauses
-three_joined = clause_then Start Interleave composed.any_text (clause_then Start Alone composed.empty (clause_then Start Interleave (composed.element 4 any_name composed.empty) (clause_then Start Interleave composed.any_text end_of_clauses)))
+abbrev three_combined : Clauses
+three_combined = clause_then Start Interleave composed.any_text (clause_then Start Alone composed.empty (clause_then Start Interleave (composed.element 4 any_name composed.empty) (clause_then Start Interleave composed.any_text end_of_clauses)))
 
-pub joined_to_the_left : Simple [] (composed.grammar three_joined) (form.interleave (form.interleave form.any_text (form.ref 4)) form.any_text)
-joined_to_the_left = simple_grammar (joined_in_order (next_simple simple_text (next_simple simple_empty (next_simple simple_element (next_simple simple_text none_simple)))) refl)
+pub combined_to_the_left : Simple [] (composed.grammar three_combined) (form.interleave (form.interleave form.any_text (form.ref 4)) form.any_text)
+combined_to_the_left = simple_grammar (combined_in_order (next_simple simple_text (next_simple simple_empty (next_simple simple_element (next_simple simple_text none_simple)))) refl)
 
 -- ---- what is not allowed, and what is empty
 

@@ -21,13 +21,13 @@ use Rattle.rng_simplify.specs.declared.shape.Shape.{Shape}
 use Rattle.rng_simplify.specs.declared.shape.Shape.TheVariants as shape
 use Rattle.rng_simplify.specs.Cells.{Cell, cell_of}
 use Rattle.rng_simplify.specs.Cells as cell
-use Rattle.rng_simplify.specs.Denoting.{IsCell}
-use Rattle.rng_simplify.specs.Forms.{Form, Value, list_of, attribute_of, one_or_more_of, join_of}
+use Rattle.rng_simplify.specs.CellMeanings.{IsCell}
+use Rattle.rng_simplify.specs.Forms.{Form, Value, list_of, attribute_of, one_or_more_of, combined_by}
 use Rattle.rng_simplify.specs.Forms as form
-use Rattle.rng_simplify.specs.Forming.{cell_form, bodies_form, combined_form, form_in, form_of, IsKnown, IsBefore, IsInOrder, AreFormed, IsNumberedBelow, IsCellMade, MakesCell, IsCombinedMade, MakesCombined, AreAllJoined, JoinsAll, Makes, IsPlaced}
+use Rattle.rng_simplify.specs.NodeForms.{cell_form, bodies_form, combined_form, form_in, form_of, IsKnown, IsBefore, IsInOrder, AreFormed, IsNumberedBelow, IsCellMade, MakesCell, IsCombinedMade, MakesCombined, AreAllJoined, JoinsAll, Makes, IsPlaced}
 use Rattle.rng_simplify.specs.declared.resolve.Target.{Target}
 use Rattle.rng_simplify.specs.declared.resolve.Target.TheVariants.{Nothing}
-use Rattle.rng_simplify.specs.Resolving.{combined_number, element_number, target_at, number_at, cell_leads, combined_leads, leads_if, leads, link_at}
+use Rattle.rng_simplify.specs.ResolvedNodes.{combined_number, element_number, target_at, number_at, cell_leads, combined_leads, leads_if, leads, link_at}
 use Rattle.rng_simplify.specs.Shown.{value_in, type_in, params_in, class_in, joined_of, form_by, form_at, IsBehindParts, shape_parts, IsOfSchema, IsShown, Shows, Adds}
 use Rattle.rng_simplify.proofs.Nodes.{in_none, in_first, in_more}
 use Rattle.rng_simplify.proofs.Showing.{shows_still, shows_last, before_or_last}
@@ -193,7 +193,7 @@ one_more_joined old mid new of by first done other next number further so_far kn
   kept = λ cells elements are. shown.kept cells elements tt (so_far.kept cells elements are);
 }
 
-pub all_joined : (old new : List Shape) (of : List ℕ) (combine : Combine) (by : Sign) (bodies others : List ℕ) (first start : ℕ) (result : Result ℕ SchemaFault) → bodies ≡ first ∷ others → start ≡ slice_index of first → joined_of by ≡ join_of combine → JoinsAll old new of by start others result → MakesCombined old new of combine bodies result
+pub all_joined : (old new : List Shape) (of : List ℕ) (combine : Combine) (by : Sign) (bodies others : List ℕ) (first start : ℕ) (result : Result ℕ SchemaFault) → bodies ≡ first ∷ others → start ≡ slice_index of first → joined_of by ≡ combined_by combine → JoinsAll old new of by start others result → MakesCombined old new of combine bodies result
 all_joined old new of combine by bodies others first start (Ok number) parts is same made =
     let P : List ℕ → Type 0 = λ all. IsCombinedMade old new of combine all number in
     subst P (sym parts) (record {
@@ -203,7 +203,7 @@ all_joined old new of combine by bodies others first start (Ok number) parts is 
       shows = λ cells taken.
           made.shows cells taken
           ∙ ap (λ join. joined join (form_at cells taken old start) (map (form_in cells taken old of) others)) same
-          ∙ ap (λ n. joined (join_of combine) (form_at cells taken old n) (map (form_in cells taken old of) others)) is;
+          ∙ ap (λ n. joined (combined_by combine) (form_at cells taken old n) (map (form_in cells taken old of) others)) is;
       kept = made.kept;
     })
 all_joined old new of combine by bodies others first start (Err fault.NoMemory) parts is same made = tt

@@ -16,9 +16,9 @@ use Rattle.rng_simplify.specs.declared.node.Clause.{Clause}
 use Rattle.rng_simplify.specs.declared.resolve.Combined.{Combined}
 use Rattle.rng_simplify.specs.Broken.{clash}
 use Rattle.rng_simplify.specs.Composed.{same_defined}
-use Rattle.rng_simplify.specs.Keeping.{kept_for, KeepsOne}
-use Rattle.rng_simplify.specs.Resolving.{clauses_of, combines_of}
-use Rattle.rng_simplify.specs.Scoping.{HasSigns, AddsTo, IsCombinedOf, IsGatheredAs, IsGathered, KeepsFirst, GathersOne, Gathers}
+use Rattle.rng_simplify.specs.NameTables.{kept_for, KeepsOne}
+use Rattle.rng_simplify.specs.ResolvedNodes.{clauses_of, combines_of}
+use Rattle.rng_simplify.specs.Findings.{HasSigns, AddsTo, IsCombinedOf, IsGatheredAs, IsGathered, KeepsFirst, GathersOne, Gathers}
 use Rattle.rng_simplify.proofs.Scopes.{stays_behind, last_there}
 use Rattle.rng_simplify.proofs.Signs.{clash_more}
 

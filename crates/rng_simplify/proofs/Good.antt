@@ -11,17 +11,17 @@ use Rattle.rng_simplify.specs.declared.node.Node.{Node}
 use Rattle.rng_simplify.specs.declared.resolve.Resolved.{Resolved}
 use Rattle.rng_simplify.specs.declared.resolve.Scope.{Scope}
 use Rattle.rng_simplify.specs.declared.resolve.Scope.TheVariants.{Nowhere}
-use Rattle.rng_simplify.specs.Breaking.{IsRefusal, OkOrRefused}
+use Rattle.rng_simplify.specs.Refusals.{IsRefusal, OkOrRefused}
 use Rattle.rng_simplify.specs.Broken.{HasBadExcept, HasXmlnsName}
 use Rattle.rng_simplify.specs.Cells.{Cell, cell_of}
 use Rattle.rng_simplify.specs.Cells as cell
 use Rattle.rng_simplify.specs.Classes.{has_bad_except, names_declarations, names_declarations_of_attribute}
 use Rattle.rng_simplify.specs.Composed.{Composed}
-use Rattle.rng_simplify.specs.Denoting.{IsCell}
-use Rattle.rng_simplify.specs.Judging.{JudgesCell, IsGood, IsGoodAt, AreGood}
-use Rattle.rng_simplify.specs.Resolving.{IsResolved}
-use Rattle.rng_simplify.specs.Seeing.{JudgesElementClass, JudgesAttributeClass}
-use Rattle.rng_simplify.specs.Standing.{IsStanding}
+use Rattle.rng_simplify.specs.CellMeanings.{IsCell}
+use Rattle.rng_simplify.specs.GoodClasses.{JudgesCell, IsGood, IsGoodAt, AreGood}
+use Rattle.rng_simplify.specs.ResolvedNodes.{IsResolved}
+use Rattle.rng_simplify.specs.JudgedClasses.{JudgesElementClass, JudgesAttributeClass}
+use Rattle.rng_simplify.specs.NodePlaces.{IsStanding}
 use Rattle.rng_simplify.proofs.Nodes.{one_cell, cell_there, denoted_by}
 use Rattle.rng_simplify.proofs.Scopes.{has_at}
 use Rattle.rng_simplify.proofs.WalkTurns.{scope_there}

@@ -24,24 +24,24 @@ use Rattle.rng_simplify.specs.declared.node.Sign.{Sign}
 use Rattle.rng_simplify.specs.declared.node.Sign.TheVariants as sign
 use Rattle.rng_simplify.specs.declared.resolve.Resolved.{Resolved}
 use Rattle.rng_simplify.specs.declared.types.NodeType.{NodeType}
-use Rattle.rng_simplify.specs.Breaking.{IsRefusal}
+use Rattle.rng_simplify.specs.Refusals.{IsRefusal}
 use Rattle.rng_simplify.specs.Broken.{Has, HasRefusedType, IsBadValue, IsUnsupported, HasTooManyExcepts, node_limit, depth_limit, nodes_of_all as all_nodes, IsTooDeep, IsTooLarge, WholeIsBroken}
 use Rattle.rng_simplify.specs.Cells.{Cell}
 use Rattle.rng_simplify.specs.Cells as cell
 use Rattle.rng_simplify.specs.Composed.{Composed, Clauses, numbers}
 use Rattle.rng_simplify.specs.Composed as composed
 use Rattle.rng_simplify.specs.Datatypes.{datatype_of, MayWrite, AreExcepts, no_except, own_value, own_value_beside, string_value, token_value, builtin_string, builtin_token}
-use Rattle.rng_simplify.specs.Denoting.{IsCell, Denotes, composed_by, is_element, is_attribute, is_list, is_ref, is_parent_ref, is_empty, is_text, is_not_allowed, is_value, is_type, is_grammar, is_one_or_more, is_joined}
-use Rattle.rng_simplify.specs.Forming.{form_of, IsKnown, IsBefore, IsInOrder, AreTaken, MakesForms}
+use Rattle.rng_simplify.specs.CellMeanings.{IsCell, Denotes, composed_by, is_element, is_attribute, is_list, is_ref, is_parent_ref, is_empty, is_text, is_not_allowed, is_value, is_type, is_grammar, is_one_or_more, is_joined}
+use Rattle.rng_simplify.specs.NodeForms.{form_of, IsKnown, IsBefore, IsInOrder, AreTaken, MakesForms}
 use Rattle.rng_simplify.specs.Forms.{Form, FormDefinition, Value, values_of, nodes, depth}
 use Rattle.rng_simplify.specs.Grammars.{IsSorted, HasForms, HasTypes, IsMeasured, IsGrammarOf, GivesGrammar}
-use Rattle.rng_simplify.specs.Limiting.{content_in, content_of, class_of_element, AreElements, nodes_of_all, AreWithinLimits, AreBeyondLimits, IsWithinLimits}
+use Rattle.rng_simplify.specs.Limits.{content_in, content_of, class_of_element, AreElements, nodes_of_all, AreWithinLimits, AreBeyondLimits, IsWithinLimits}
 use Rattle.rng_simplify.specs.Places.{place}
-use Rattle.rng_simplify.specs.Resolving.{number_at, link_at, leads}
+use Rattle.rng_simplify.specs.ResolvedNodes.{number_at, link_at, leads}
 use Rattle.rng_simplify.specs.Simple.{Simple}
-use Rattle.rng_simplify.specs.Spelling.{IsReady, AreDefinitions, no_definitions, next_definition, IsBuilt, Builds}
-use Rattle.rng_simplify.specs.Standing.{Stands, the_root, a_part, a_content, IsStanding, AreScopes, no_scopes}
-use Rattle.rng_simplify.specs.Typing.{AreKnown, IsTypeOf, known_at, MakesTypes}
+use Rattle.rng_simplify.specs.SpelledShapes.{IsReady, AreDefinitions, no_definitions, next_definition, IsBuilt, Builds}
+use Rattle.rng_simplify.specs.NodePlaces.{Stands, the_root, a_part, a_content, IsStanding, AreScopes, no_scopes}
+use Rattle.rng_simplify.specs.NodeTypes.{AreKnown, IsTypeOf, known_at, MakesTypes}
 use Rattle.rng_simplify.specs.Whole.{IsForm, IsDefinedAt}
 use Rattle.rng_simplify.proofs.Dense.{numbers_distinct, each_number}
 use Rattle.rng_simplify.proofs.Forming.{before_later, cell_leads_are}

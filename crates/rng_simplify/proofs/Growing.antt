@@ -3,8 +3,8 @@ use Rattle.std.proofs.Common.{refl, ℕ, zero, suc, List, [], ◌∷◌, ◌++�
 use Rattle.rng_simplify.specs.Cells.{Cell}
 use Rattle.rng_simplify.specs.Composed.{Composed, Clauses}
 use Rattle.rng_simplify.specs.declared.node.Clause.{Clause}
-use Rattle.rng_simplify.specs.Supplying.{Grows}
-use Rattle.rng_simplify.specs.Denoting.{IsCell, Denotes, DenoteAll, is_element, is_attribute, is_list, is_ref, is_parent_ref, is_empty, is_text, is_not_allowed, is_value, is_type, is_grammar, is_one_or_more, is_joined, none_denoted, next_denoted}
+use Rattle.rng_simplify.specs.SuppliedPieces.{Grows}
+use Rattle.rng_simplify.specs.CellMeanings.{IsCell, Denotes, DenoteAll, is_element, is_attribute, is_list, is_ref, is_parent_ref, is_empty, is_text, is_not_allowed, is_value, is_type, is_grammar, is_one_or_more, is_joined, none_denoted, next_denoted}
 
 pub grows_not : (cells : List Cell) → Grows cells cells
 grows_not cells = record { stays = λ i c h. h }

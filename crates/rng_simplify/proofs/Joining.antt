@@ -14,11 +14,11 @@ use Rattle.rng_simplify.specs.declared.node.Sign.{Sign}
 use Rattle.rng_simplify.specs.declared.node.Sign.TheVariants as sign
 use Rattle.rng_simplify.specs.declared.stop.Stop.{Stop}
 use Rattle.rng_simplify.specs.declared.stop.Stop.TheVariants as stops
-use Rattle.rng_simplify.specs.Composing.{grammar_items}
-use Rattle.rng_simplify.specs.Making.{Making, Outcome, made, ◌>>=◌, Makes, FilePiece, of_pattern, piece_of, make, make_next, make_behind, make_row, make_file, lone_made}
+use Rattle.rng_simplify.specs.ComposedFiles.{grammar_items}
+use Rattle.rng_simplify.specs.MadeCells.{Stock, Outcome, made, ◌>>=◌, Makes, FilePiece, of_pattern, piece_of, make, make_next, make_behind, make_row, make_file, lone_made}
 use Rattle.rng_simplify.specs.declared.mention.Mention.{Mention as Kept}
 use Rattle.rng_simplify.specs.Classes.{namespace_in}
-use Rattle.rng_simplify.specs.Mentioning.{kept_of_all, mentions_of_each}
+use Rattle.rng_simplify.specs.KeptMentions.{kept_of_all, mentions_of_each}
 use Rattle.rng_simplify.specs.References.{mentions, mentions_of_item, mentions_anew}
 use Rattle.rng_simplify.specs.Rows.{join_by, none_by, row_of}
 use Rattle.rng_simplify.proofs.Rows.{row_in, then_again, then_nothing, joined_made, none_joined_made}
@@ -75,13 +75,13 @@ row_is_none by (first ∷ next ∷ more) other =
     (join_is_none by (pattern_of first) (pattern_of next))
 
 -- a file of a pattern that is no grammar alone
-pub lone_is : (ns : List ℕ) (p : WrittenPattern) (now : Making) → grammar_items (a_pattern p) ≡ None →
+pub lone_is : (ns : List ℕ) (p : WrittenPattern) (now : Stock) → grammar_items (a_pattern p) ≡ None →
     make_file ns (a_pattern p) now ≡ lone_made ns p now
 lone_is ns (written.grammar items) now h = let never : ⊥ = cc in absurd never
 lone_is ns p now h = refl
 
 -- patterns behind one are made behind it
-behind_made : (ns : List ℕ) (by : Sign) (before : WrittenPattern) (more : List Pattern) (now : Making) →
+behind_made : (ns : List ℕ) (by : Sign) (before : WrittenPattern) (more : List Pattern) (now : Stock) →
     make ns (joined (join_by by) before (map pattern_of more)) now ≡ (make ns before now >>= λ i. make_behind ns by i more)
 behind_made ns by before [] now = sym (then_nothing (make ns before now))
 behind_made ns by before (next ∷ more) now =
@@ -89,19 +89,19 @@ behind_made ns by before (next ∷ more) now =
     ∙ ap (λ outcome. outcome >>= λ i. make_behind ns by i more) (joined_made ns by before (pattern_of next) now)
     ∙ then_again (make ns before now) (λ i. make_next ns by (Some i) next) (λ i. make_behind ns by i more)
 
-row_made : (ns : List ℕ) (by : Sign) (patterns : List Pattern) (now : Making) → make ns (row_of by patterns) now ≡ make_row ns by patterns now
+row_made : (ns : List ℕ) (by : Sign) (patterns : List Pattern) (now : Stock) → make ns (row_of by patterns) now ≡ make_row ns by patterns now
 row_made ns by [] now = none_joined_made ns by now
 row_made ns by (first ∷ more) now = behind_made ns by (pattern_of first) more now
 
 -- a file of a row of none, or of two or more
-pub row_file_is : (ns : List ℕ) (by : Sign) (patterns : List Pattern) (now : Making) → length patterns ≢ 1 →
+pub row_file_is : (ns : List ℕ) (by : Sign) (patterns : List Pattern) (now : Stock) → length patterns ≢ 1 →
     make_file ns (a_pattern (row_of by patterns)) now ≡ (make_row ns by patterns now >>= λ root. made (of_pattern root))
 row_file_is ns by patterns now other =
     lone_is ns (row_of by patterns) now (row_is_none by patterns other)
     ∙ ap (λ outcome. outcome >>= λ root. made (of_pattern root)) (row_made ns by patterns now)
 
 -- where nothing is made of the row, nothing is made of the file
-pub row_refused : (after : Making) (outcome : Outcome ℕ) (file : Outcome FilePiece) (stop : Stop) →
+pub row_refused : (after : Stock) (outcome : Outcome ℕ) (file : Outcome FilePiece) (stop : Stop) →
     file ≡ (outcome >>= λ root. made (of_pattern root)) → Makes {A = ℕ} after (λ i. i) outcome (Err stop) →
     Makes {A = Piece} after piece_of file (Err stop)
 row_refused after outcome file (stops.Unreadable why) is h = is ∙ ap (λ o. o >>= λ root. made (of_pattern root)) h

@@ -10,9 +10,9 @@ use Rattle.rng_simplify.specs.declared.fault.SchemaFault.TheVariants as fault
 use Rattle.rng_simplify.specs.declared.form.Forms.{Forms}
 use Rattle.rng_simplify.specs.Broken.{node_limit, depth_limit}
 use Rattle.rng_simplify.specs.Cells.{Cell}
-use Rattle.rng_simplify.specs.Forming.{form_of}
+use Rattle.rng_simplify.specs.NodeForms.{form_of}
 use Rattle.rng_simplify.specs.Forms.{Value, nodes, depth}
-use Rattle.rng_simplify.specs.Limiting.{content_of, nodes_of_all, AreWithinLimits, IsWithinLimits, IsCounted, Counts}
+use Rattle.rng_simplify.specs.Limits.{content_of, nodes_of_all, AreWithinLimits, IsWithinLimits, IsCounted, Counts}
 use Rattle.rng_simplify.proofs.Showing.{before_or_last}
 
 -- so many nodes are counted, and all are within the limits

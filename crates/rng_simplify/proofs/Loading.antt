@@ -17,10 +17,10 @@ use Rattle.rng_simplify.specs.declared.load.Link.{Link}
 use Rattle.rng_simplify.specs.declared.load.Loaded.{Loaded}
 use Rattle.rng_simplify.specs.declared.mention.Mention.{Mention as Kept}
 use Rattle.rng_simplify.specs.Broken.{IsAbsent, IsNoText, HasBadUri, IsRefused, HasIncludeLoop}
-use Rattle.rng_simplify.specs.Composing.{Context, top, referred, Says, Opens}
-use Rattle.rng_simplify.specs.Following.{uris_of, IsLink, IsChain, no_link, further_link, IsUnderWay, IsAdded, NextUri}
-use Rattle.rng_simplify.specs.Loading.{Waiting, waiting_in, IsRead, AreRead, all_read, one_read, AllLoaded, IsNoTextAt, IsOfReading, IsRefusedText, Unreads, SaysBytes, Fetches, ReadsFile}
-use Rattle.rng_simplify.specs.Mentioning.{kept_of, kept_of_all}
+use Rattle.rng_simplify.specs.ComposedFiles.{Context, top, referred, Says, Opens}
+use Rattle.rng_simplify.specs.FileChains.{uris_of, IsLink, IsChain, no_link, further_link, IsUnderWay, IsAdded, NextUri}
+use Rattle.rng_simplify.specs.LoadedFiles.{Waiting, waiting_in, IsRead, AreRead, all_read, one_read, AllLoaded, IsNoTextAt, IsOfReading, IsRefusedText, Unreads, SaysBytes, Fetches, ReadsFile}
+use Rattle.rng_simplify.specs.KeptMentions.{kept_of, kept_of_all}
 use Rattle.rng_simplify.specs.References.{Mention, Mentions, Reached, the_first, a_further, reference_of, mentions_of}
 use Rattle.rng_simplify.specs.Simplified.{IfTold, Answers}
 
@@ -245,7 +245,7 @@ module _ (told : Option FileMap) (uri : List ℕ) where
           mention = next.mention;
           mentioned = m;
           other = other;
-          joined = uri_at other joins;
+          refers = uri_at other joins;
           leads_here = subst (λ us. Contains us other) (sym next.chain_is) among;
         }) next.mentioned
 
@@ -302,7 +302,7 @@ module _ (told : Option FileMap) (uri : List ℕ) where
               told_with told (λ files. Says files other (surface_of surface)) (λ files. Opens files next.context (reference_of next.mention)
               inner (surface_of surface)) (λ files s. record {
                 uri = other;
-                joined = uri_at other joins;
+                refers = uri_at other joins;
                 inner_is = refl;
                 no_loop = no_loop_at other no_loop;
                 says = s;

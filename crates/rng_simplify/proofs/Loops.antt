@@ -9,18 +9,18 @@ use Rattle.rng_simplify.specs.declared.fault.SchemaFault.TheVariants.{Unreadable
 use Rattle.rng_simplify.specs.declared.node.Clause.{Clause}
 use Rattle.rng_simplify.specs.declared.resolve.Combined.{Combined}
 use Rattle.rng_simplify.specs.declared.resolve.Resolved.{Resolved}
-use Rattle.rng_simplify.specs.Breaking.{IsRefusal}
+use Rattle.rng_simplify.specs.Refusals.{IsRefusal}
 use Rattle.rng_simplify.specs.Broken.{Has, LeadsBack}
 use Rattle.rng_simplify.specs.Cells.{Cell}
 use Rattle.rng_simplify.specs.Cells as cell
 use Rattle.rng_simplify.specs.Composed.{Composed, Clauses, same_defined, defining, bodies, clause_then}
 use Rattle.rng_simplify.specs.Composed as composed
-use Rattle.rng_simplify.specs.Denoting.{IsCell, Denotes, DenoteAll, none_denoted, next_denoted}
+use Rattle.rng_simplify.specs.CellMeanings.{IsCell, Denotes, DenoteAll, none_denoted, next_denoted}
 use Rattle.rng_simplify.specs.Places.{Place, place, LeadsTo, to_part, to_definition, to_outer_definition, to_start, LeadsOn, in_one_step, in_more_steps}
-use Rattle.rng_simplify.specs.Standing.{cell_parts, bodies_of, AreWellFormed, Stands, a_part, a_definition, IsStanding, AreScopes}
-use Rattle.rng_simplify.specs.Standing as standing
-use Rattle.rng_simplify.specs.Resolving.{clauses_of, IsCombined, IsCombinedIn, IsCombinedOutside, IsResolved, link_at, cell_leads, combined_leads, leads_if, leads}
-use Rattle.rng_simplify.specs.Walking.{IsMet, is_linked}
+use Rattle.rng_simplify.specs.NodePlaces.{cell_parts, bodies_of, AreWellFormed, Stands, a_part, a_definition, IsStanding, AreScopes}
+use Rattle.rng_simplify.specs.NodePlaces as standing
+use Rattle.rng_simplify.specs.ResolvedNodes.{clauses_of, IsCombined, IsCombinedIn, IsCombinedOutside, IsResolved, link_at, cell_leads, combined_leads, leads_if, leads}
+use Rattle.rng_simplify.specs.NodeWalks.{IsMet, is_linked}
 use Rattle.rng_simplify.proofs.Nodes.{in_none, in_first, in_more, in_cases, in_one, PartIs, part_denoted, denoted_by, place_of}
 use Rattle.rng_simplify.proofs.Posts.{stands_within, innermost_stands, scopes_by, one_grammar, IsAt, at_once}
 

@@ -15,21 +15,21 @@ use Rattle.rng_simplify.specs.Cells.{Cell}
 use Rattle.rng_simplify.specs.Cells as cell
 use Rattle.rng_simplify.specs.Composed.{Composed, Clauses, end_of_clauses, clause_then, then_clauses, but_for}
 use Rattle.rng_simplify.specs.Composed as composed
-use Rattle.rng_simplify.specs.Composing.{Context, Opens, grammar_items, Composes, ComposesFile, Gathers, by_element, by_attribute, by_list, by_ref, by_parent_ref, by_empty, by_text, by_not_allowed, by_value, by_type, by_type_but, by_external, by_grammar, by_optional, by_zero_or_more, by_one_or_more, by_mixed, by_choice, by_group, by_interleave, of_pattern as file_of_pattern, of_grammar as file_of_grammar, GathersAnew, no_item, definition, division, inclusion, none_anew, definition_anew, division_anew}
-use Rattle.rng_simplify.specs.Denoting.{IsCell, Denotes, DenoteAll, is_element, is_attribute, is_list, is_ref, is_parent_ref, is_empty, is_text, is_not_allowed, is_value, is_type, is_grammar, is_one_or_more, is_joined, composed_by, none_denoted, next_denoted}
-use Rattle.rng_simplify.specs.Making.{Making, Outcome, made, refused, no_piece, ◌>>=◌, FilePiece, of_pattern, of_grammar, cell_made, or_empty_made, next_piece, as_pattern, as_grammar, next_grammar, make, make_item, make_items, make_replacement, make_anew, replaced_if, defines_all, with_new}
+use Rattle.rng_simplify.specs.ComposedFiles.{Context, Opens, grammar_items, Composes, ComposesFile, Gathers, by_element, by_attribute, by_list, by_ref, by_parent_ref, by_empty, by_text, by_not_allowed, by_value, by_type, by_type_but, by_external, by_grammar, by_optional, by_zero_or_more, by_one_or_more, by_mixed, by_choice, by_group, by_interleave, of_pattern as file_of_pattern, of_grammar as file_of_grammar, GathersAnew, no_item, definition, division, inclusion, none_anew, definition_anew, division_anew}
+use Rattle.rng_simplify.specs.CellMeanings.{IsCell, Denotes, DenoteAll, is_element, is_attribute, is_list, is_ref, is_parent_ref, is_empty, is_text, is_not_allowed, is_value, is_type, is_grammar, is_one_or_more, is_joined, composed_by, none_denoted, next_denoted}
+use Rattle.rng_simplify.specs.MadeCells.{Stock, Outcome, made, refused, no_piece, ◌>>=◌, FilePiece, of_pattern, of_grammar, cell_made, or_empty_made, next_piece, as_pattern, as_grammar, next_grammar, make, make_item, make_items, make_replacement, make_anew, replaced_if, defines_all, with_new}
 use Rattle.rng_simplify.specs.References.{Mention, an_external, an_include, mentions, mentions_of_items, mentions_anew}
 use Rattle.rnc_parse.specs.declared.surface.Defined.{Defined}
 use Rattle.rnc_parse.specs.declared.surface.Combine.{Combine}
 use Rattle.rng_simplify.proofs.Replacing.{both_denoted, each_defined, replaced_alike, then_again_clauses}
-use Rattle.rng_simplify.specs.Supplying.{Grows, Supply, a_pattern_piece, a_grammar_piece, Supplies, nothing_more, one_further, IsMadeOf, PatternsAreComposed}
+use Rattle.rng_simplify.specs.SuppliedPieces.{Grows, Supply, a_pattern_piece, a_grammar_piece, Supplies, nothing_more, one_further, IsMadeOf, PatternsAreComposed}
 use Rattle.rng_simplify.proofs.Growing.{grows_not, grows_on, denotes_on, denote_all_on, one_more, last_cell}
 
 -- ---- steps
 
-pub record Both {A B : Type 0} (outcome : Outcome A) (more : A → Making → Outcome B) (b : B) (new : Making) : Type 0 where
+pub record Both {A B : Type 0} (outcome : Outcome A) (more : A → Stock → Outcome B) (b : B) (new : Stock) : Type 0 where
   pub value : A
-  pub mid : Making
+  pub mid : Stock
   pub first : outcome ≡ made value mid
   pub second : more value mid ≡ made b new
 
@@ -38,7 +38,7 @@ value_or other (made value now) = value
 value_or other (refused why) = other
 value_or other no_piece = other
 
-abbrev pub now_or : {A : Type 0} → Making → Outcome A → Making
+abbrev pub now_or : {A : Type 0} → Stock → Outcome A → Stock
 now_or other (made value now) = now
 now_or other (refused why) = other
 now_or other no_piece = other
@@ -48,7 +48,7 @@ is_made (made value now) = Unit {0}
 is_made (refused why) = ⊥
 is_made no_piece = ⊥
 
-pub both : {A B : Type 0} → (outcome : Outcome A) (more : A → Making → Outcome B) (b : B) (new : Making) → (outcome >>= more) ≡ made b new → Both outcome more b new
+pub both : {A B : Type 0} → (outcome : Outcome A) (more : A → Stock → Outcome B) (b : B) (new : Stock) → (outcome >>= more) ≡ made b new → Both outcome more b new
 both (made value mid) more b new h = record { value = value; mid = mid; first = refl; second = h }
 both (refused why) more b new h = absurd (subst is_made (sym h) tt)
 both no_piece more b new h = absurd (subst is_made (sym h) tt)
@@ -64,11 +64,11 @@ supplies_on grows (one_further first rest) = one_further (supply_on grows first)
 -- ---- what is made of a pattern
 
 module _ (files : FileMap) (number : ℕ → ℕ) (context : Context) where
-  abbrev Made : WrittenPattern → List Mention → ℕ → Making → Making → Type 0
+  abbrev Made : WrittenPattern → List Mention → ℕ → Stock → Stock → Type 0
   Made = IsMadeOf files number context
 
   -- a further cell
-  leaf : (p : WrittenPattern) (q : ℕ → Composed) (more : List Mention) (c : Cell) (i : ℕ) (old new : Making) → ((i : ℕ) → Composes files context p (q i)) → ((cells : List Cell) (i : ℕ) → IsCell cells i c → Denotes cells number i (q i)) → Supplies files number context old.cells more old.pieces → cell_made c old ≡ made i new → Made p more i old new
+  leaf : (p : WrittenPattern) (q : ℕ → Composed) (more : List Mention) (c : Cell) (i : ℕ) (old new : Stock) → ((i : ℕ) → Composes files context p (q i)) → ((cells : List Cell) (i : ℕ) → IsCell cells i c → Denotes cells number i (q i)) → Supplies files number context old.cells more old.pieces → cell_made c old ≡ made i new → Made p more i old new
   leaf p q more c i old new composes denotes supplied is =
       subst (λ n. Made p more i old n) (ap (now_or old) is) (subst (λ j. Made p more j old (record { cells = old.cells ++ c ∷ []; pieces = old.pieces })) (ap (value_or i) is) (record {
         whole = q (length old.cells);
@@ -79,7 +79,7 @@ module _ (files : FileMap) (number : ℕ → ℕ) (context : Context) where
       }))
 
   -- a further cell around one part
-  around : (p w : WrittenPattern) (q : ℕ → Composed → Composed) (more : List Mention) (c : ℕ → Cell) (part i : ℕ) (old mid new : Making) → ((i : ℕ) (whole : Composed) → Composes files context p whole → Composes files context w (q i whole)) → ((cells : List Cell) (part i : ℕ) (whole : Composed) → IsCell cells i (c part) → Denotes cells number part whole → Denotes cells number i (q i whole)) → Made p more part old mid → cell_made (c part) mid ≡ made i new → Made w more i old new
+  around : (p w : WrittenPattern) (q : ℕ → Composed → Composed) (more : List Mention) (c : ℕ → Cell) (part i : ℕ) (old mid new : Stock) → ((i : ℕ) (whole : Composed) → Composes files context p whole → Composes files context w (q i whole)) → ((cells : List Cell) (part i : ℕ) (whole : Composed) → IsCell cells i (c part) → Denotes cells number part whole → Denotes cells number i (q i whole)) → Made p more part old mid → cell_made (c part) mid ≡ made i new → Made w more i old new
   around p w q more c part i old mid new composes denotes inner is =
       subst (λ n. Made w more i old n) (ap (now_or mid) is) (subst (λ j. Made w more j old (record { cells = mid.cells ++ c part ∷ []; pieces = mid.pieces })) (ap (value_or i) is) (record {
         whole = q (length mid.cells) inner.whole;
@@ -90,7 +90,7 @@ module _ (files : FileMap) (number : ℕ → ℕ) (context : Context) where
       }))
 
   -- a further cell around two
-  between : (p1 p2 w : WrittenPattern) (more more2 : List Mention) (by : Sign) (first second i : ℕ) (old mid then new : Making) → ((q1 q2 : Composed) → Composes files context p1 q1 → Composes files context p2 q2 → Composes files context w (composed_by by q1 q2)) → Made p1 more2 first old mid → Made p2 more second mid then → cell_made (cell.joined by first second) then ≡ made i new → Made w more i old new
+  between : (p1 p2 w : WrittenPattern) (more more2 : List Mention) (by : Sign) (first second i : ℕ) (old mid then new : Stock) → ((q1 q2 : Composed) → Composes files context p1 q1 → Composes files context p2 q2 → Composes files context w (composed_by by q1 q2)) → Made p1 more2 first old mid → Made p2 more second mid then → cell_made (cell.joined by first second) then ≡ made i new → Made w more i old new
   between p1 p2 w more more2 by first second i old mid then new composes one two is =
       let c : Cell = cell.joined by first second in
       let further : Grows then.cells (then.cells ++ c ∷ []) = one_more then.cells c in
@@ -121,10 +121,10 @@ module _ (files : FileMap) (number : ℕ → ℕ) (context : Context) where
   file_from inner (written.a_pattern p) items all is gathers = let never : ⊥ = cc in absurd never
 
   -- the next piece in the place of a reference
-  external_is : (reference : FileReference) (more : List Mention) (i : ℕ) (cells : List Cell) (pieces : List FilePiece) (new : Making) → Supplies files number context cells (an_external reference ∷ more) pieces → (next_piece cells pieces >>= as_pattern) ≡ made i new → Made (written.external reference) more i (record { cells = cells; pieces = pieces }) new
+  external_is : (reference : FileReference) (more : List Mention) (i : ℕ) (cells : List Cell) (pieces : List FilePiece) (new : Stock) → Supplies files number context cells (an_external reference ∷ more) pieces → (next_piece cells pieces >>= as_pattern) ≡ made i new → Made (written.external reference) more i (record { cells = cells; pieces = pieces }) new
   external_is reference more i cells pieces new (one_further {pieces = rest} (a_pattern_piece {root = root} {q = q} opens items composes denotes) left) is =
-      let old : Making = record { cells = cells; pieces = of_pattern root ∷ rest } in
-      let after : Making = record { cells = cells; pieces = rest } in
+      let old : Stock = record { cells = cells; pieces = of_pattern root ∷ rest } in
+      let after : Stock = record { cells = cells; pieces = rest } in
       subst (λ n. Made (written.external reference) more i old n) (ap (now_or after) is) (subst (λ j. Made (written.external reference) more j old after) (ap (value_or i) is) (record {
         whole = q;
         composes = by_external opens composes;
@@ -133,9 +133,9 @@ module _ (files : FileMap) (number : ℕ → ℕ) (context : Context) where
         left = left;
       }))
   external_is reference more i cells pieces new (one_further {pieces = rest} (a_grammar_piece {inner = inner} {surface = surface} {items = items} {clauses = clauses} {all = all} opens is_grammar_file gathers denotes) left) is =
-      let old : Making = record { cells = cells; pieces = of_grammar clauses ∷ rest } in
+      let old : Stock = record { cells = cells; pieces = of_grammar clauses ∷ rest } in
       let further : Grows cells (cells ++ cell.grammar clauses ∷ []) = one_more cells (cell.grammar clauses) in
-      let after : Making = record { cells = cells ++ cell.grammar clauses ∷ []; pieces = rest } in
+      let after : Stock = record { cells = cells ++ cell.grammar clauses ∷ []; pieces = rest } in
       subst (λ n. Made (written.external reference) more i old n) (ap (now_or after) is) (subst (λ j. Made (written.external reference) more j old after) (ap (value_or i) is) (record {
         whole = composed.grammar all;
         composes = by_external opens (file_from inner surface items all is_grammar_file gathers);
@@ -147,39 +147,39 @@ module _ (files : FileMap) (number : ℕ → ℕ) (context : Context) where
   -- ---- what is made of items
 
   -- these definitions stand for those clauses; what is left of the pieces is for what is mentioned behind
-  pub record Denoted (all : Clauses) (more : List Mention) (clauses : List Clause) (old new : Making) : Type 0 where
+  pub record Denoted (all : Clauses) (more : List Mention) (clauses : List Clause) (old new : Stock) : Type 0 where
     pub denotes : DenoteAll new.cells number clauses all
     pub grows : Grows old.cells new.cells
     pub left : Supplies files number context new.cells more new.pieces
 
-  pub record DefineMade (name : Defined) (combine : Combine) (p : WrittenPattern) (more : List Mention) (clauses : List Clause) (old new : Making) : Type 0 where
+  pub record DefineMade (name : Defined) (combine : Combine) (p : WrittenPattern) (more : List Mention) (clauses : List Clause) (old new : Stock) : Type 0 where
     pub whole : Composed
     pub composes : Composes files context p whole
     pub part : Denoted (clause_then name combine whole end_of_clauses) more clauses old new
 
-  pub record ItemsMade (items : WrittenItems) (more : List Mention) (clauses : List Clause) (old new : Making) : Type 0 where
+  pub record ItemsMade (items : WrittenItems) (more : List Mention) (clauses : List Clause) (old new : Stock) : Type 0 where
     pub all : Clauses
     pub gathers : Gathers files context items all
     pub part : Denoted all more clauses old new
 
-  pub record AnewMade (replacements : WrittenReplacements) (more : List Mention) (clauses : List Clause) (old new : Making) : Type 0 where
+  pub record AnewMade (replacements : WrittenReplacements) (more : List Mention) (clauses : List Clause) (old new : Stock) : Type 0 where
     pub all : Clauses
     pub gathers : GathersAnew files context replacements all
     pub part : Denoted all more clauses old new
 
-  denoted_at : (all : Clauses) (more : List Mention) (first clauses : List Clause) (old mid new : Making) → made first mid ≡ made clauses new → Denoted all more first old mid → Denoted all more clauses old new
+  denoted_at : (all : Clauses) (more : List Mention) (first clauses : List Clause) (old mid new : Stock) → made first mid ≡ made clauses new → Denoted all more first old mid → Denoted all more clauses old new
   denoted_at all more first clauses old mid new is part =
       subst (λ n. Denoted all more clauses old n) (ap (now_or mid) is) (subst (λ cs. Denoted all more cs old mid) (ap (value_or first) is) part)
 
   -- definitions and those behind them
-  then_denoted : (a b : Clauses) (more2 more : List Mention) (first second : List Clause) (old mid new : Making) → Denoted a more2 first old mid → Denoted b more second mid new → Denoted (then_clauses a b) more (first ++ second) old new
+  then_denoted : (a b : Clauses) (more2 more : List Mention) (first second : List Clause) (old mid new : Stock) → Denoted a more2 first old mid → Denoted b more second mid new → Denoted (then_clauses a b) more (first ++ second) old new
   then_denoted a b more2 more first second old mid new one two = record {
     denotes = both_denoted (denote_all_on two.grows one.denotes) two.denotes;
     grows = grows_on one.grows two.grows;
     left = two.left;
   }
 
-  define_made : (name : Defined) (combine : Combine) (p : WrittenPattern) (more : List Mention) (clauses : List Clause) (i : ℕ) (old mid new : Making) → Made p more i old mid → made (record { name = name; combine = combine; body = i } ∷ []) mid ≡ made clauses new → DefineMade name combine p more clauses old new
+  define_made : (name : Defined) (combine : Combine) (p : WrittenPattern) (more : List Mention) (clauses : List Clause) (i : ℕ) (old mid new : Stock) → Made p more i old mid → made (record { name = name; combine = combine; body = i } ∷ []) mid ≡ made clauses new → DefineMade name combine p more clauses old new
   define_made name combine p more clauses i old mid new inner is =
       let clause : Clause = record { name = name; combine = combine; body = i } in
       record {
@@ -189,7 +189,7 @@ module _ (files : FileMap) (number : ℕ → ℕ) (context : Context) where
       }
 
   -- the grammar that is mentioned next
-  pub record GrammarMade (reference : FileReference) (more : List Mention) (clauses : List Clause) (old new : Making) : Type 0 where
+  pub record GrammarMade (reference : FileReference) (more : List Mention) (clauses : List Clause) (old new : Stock) : Type 0 where
     pub inner : Context
     pub surface : WrittenSurface
     pub items : WrittenItems
@@ -199,11 +199,11 @@ module _ (files : FileMap) (number : ℕ → ℕ) (context : Context) where
     pub gathers : Gathers files inner items all
     pub part : Denoted all more clauses old new
 
-  grammar_at : (reference : FileReference) (more : List Mention) (first clauses : List Clause) (old mid new : Making) → made first mid ≡ made clauses new → GrammarMade reference more first old mid → GrammarMade reference more clauses old new
+  grammar_at : (reference : FileReference) (more : List Mention) (first clauses : List Clause) (old mid new : Stock) → made first mid ≡ made clauses new → GrammarMade reference more first old mid → GrammarMade reference more clauses old new
   grammar_at reference more first clauses old mid new is part =
       subst (λ n. GrammarMade reference more clauses old n) (ap (now_or mid) is) (subst (λ cs. GrammarMade reference more cs old mid) (ap (value_or first) is) part)
 
-  pub included_is : (reference : FileReference) (replacements : WrittenReplacements) (more : List Mention) (clauses : List Clause) (cells : List Cell) (pieces : List FilePiece) (new : Making) → Supplies files number context cells (an_include reference replacements ∷ more) pieces → (next_piece cells pieces >>= as_grammar) ≡ made clauses new → GrammarMade reference more clauses (record { cells = cells; pieces = pieces }) new
+  pub included_is : (reference : FileReference) (replacements : WrittenReplacements) (more : List Mention) (clauses : List Clause) (cells : List Cell) (pieces : List FilePiece) (new : Stock) → Supplies files number context cells (an_include reference replacements ∷ more) pieces → (next_piece cells pieces >>= as_grammar) ≡ made clauses new → GrammarMade reference more clauses (record { cells = cells; pieces = pieces }) new
   included_is reference anew more clauses cells pieces new (one_further (a_pattern_piece opens items composes denotes) left) is = absurd (subst is_made (sym is) tt)
   included_is reference anew more clauses cells pieces new (one_further {pieces = rest} (a_grammar_piece {inner = inner} {surface = surface} {items = items} {clauses = first} {all = all} opens is_grammar_file gathers denotes) left) is =
       grammar_at reference more first clauses (record { cells = cells; pieces = of_grammar first ∷ rest }) (record { cells = cells; pieces = rest }) new is (record {
@@ -217,15 +217,15 @@ module _ (files : FileMap) (number : ℕ → ℕ) (context : Context) where
         part = record { denotes = denotes; grows = grows_not cells; left = left };
       })
 
-  pub record Replaced (b : Bool) (clauses first : List Clause) (now mid : Making) : Type 0 where
+  pub record Replaced (b : Bool) (clauses first : List Clause) (now mid : Stock) : Type 0 where
     pub yes_it_is : b ≡ true
     pub same : made clauses now ≡ made first mid
 
-  replaced_made : (b : Bool) (clauses first : List Clause) (now mid : Making) → replaced_if b clauses now ≡ made first mid → Replaced b clauses first now mid
+  replaced_made : (b : Bool) (clauses first : List Clause) (now mid : Stock) → replaced_if b clauses now ≡ made first mid → Replaced b clauses first now mid
   replaced_made true clauses first now mid is = record { yes_it_is = refl; same = is }
   replaced_made false clauses first now mid is = absurd (subst is_made (sym is) tt)
 
-  grammar_made : (items : WrittenItems) (more : List Mention) (i : ℕ) (clauses : List Clause) (old mid new : Making) → ItemsMade items more clauses old mid → cell_made (cell.grammar clauses) mid ≡ made i new → Made (written.grammar items) more i old new
+  grammar_made : (items : WrittenItems) (more : List Mention) (i : ℕ) (clauses : List Clause) (old mid new : Stock) → ItemsMade items more clauses old mid → cell_made (cell.grammar clauses) mid ≡ made i new → Made (written.grammar items) more i old new
   grammar_made items more i clauses old mid new inner is =
       let further : Grows mid.cells (mid.cells ++ cell.grammar clauses ∷ []) = one_more mid.cells (cell.grammar clauses) in
       subst (λ n. Made (written.grammar items) more i old n) (ap (now_or mid) is) (subst (λ j. Made (written.grammar items) more j old (record { cells = mid.cells ++ cell.grammar clauses ∷ []; pieces = mid.pieces })) (ap (value_or i) is) (record {
@@ -237,7 +237,7 @@ module _ (files : FileMap) (number : ℕ → ℕ) (context : Context) where
       }))
 
   mutual
-    pub pattern_is : (p : WrittenPattern) (more : List Mention) (i : ℕ) (old new : Making) → Supplies files number context old.cells (mentions p ++ more) old.pieces → make context.inherited p old ≡ made i new → Made p more i old new
+    pub pattern_is : (p : WrittenPattern) (more : List Mention) (i : ℕ) (old new : Stock) → Supplies files number context old.cells (mentions p ++ more) old.pieces → make context.inherited p old ≡ made i new → Made p more i old new
     pattern_is (written.element class p) more i old new supplied is =
         let b = both (make context.inherited p old) (λ j. cell_made (cell.element (class_in context.inherited class) j)) i new is in
         around p (written.element class p) (λ j q. composed.element (number j) (class_in context.inherited class) q) more (λ j. cell.element (class_in context.inherited class) j) b.value i old b.mid new (λ j q composes. by_element (number j) composes) (λ cells part j q at denotes. is_element at denotes) (pattern_is p more b.value old b.mid supplied b.first) b.second
@@ -301,7 +301,7 @@ module _ (files : FileMap) (number : ℕ → ℕ) (context : Context) where
         let one = pattern_is p (mentions q ++ more) b.value old b.mid (subst (λ ms. Supplies files number context old.cells ms old.pieces) (append_assoc (mentions p) (mentions q) more) supplied) b.first in
         between p q (written.interleave p q) more (mentions q ++ more) sign.Interleave b.value c.value i old b.mid c.mid new (λ q1 q2 first second. by_interleave first second) one (pattern_is q more c.value b.mid c.mid one.left c.first) c.second
 
-    pub items_is : (items : WrittenItems) (more : List Mention) (clauses : List Clause) (old new : Making) → Supplies files number context old.cells (mentions_of_items items ++ more) old.pieces → make_items context.inherited items old ≡ made clauses new → ItemsMade items more clauses old new
+    pub items_is : (items : WrittenItems) (more : List Mention) (clauses : List Clause) (old new : Stock) → Supplies files number context old.cells (mentions_of_items items ++ more) old.pieces → make_items context.inherited items old ≡ made clauses new → ItemsMade items more clauses old new
     items_is written.no_items more clauses old new supplied is = record { all = end_of_clauses; gathers = no_item; part = denoted_at end_of_clauses more [] clauses old old new is (record { denotes = none_denoted; grows = grows_not old.cells; left = supplied }) }
     items_is (written.item_then (written.define name combine p) items) more clauses old new supplied is =
         let b = both (make_item context.inherited (written.define name combine p) old) (λ first then. make_items context.inherited items then >>= λ second. made (first ++ second)) clauses new is in
@@ -341,7 +341,7 @@ module _ (files : FileMap) (number : ℕ → ℕ) (context : Context) where
           part = denoted_at (then_clauses (but_for anew.all file.all) (then_clauses anew.all two.all)) more (b.value ++ c.value) clauses old c.mid new c.second (subst (λ all. Denoted all more (b.value ++ c.value) old c.mid) (then_again_clauses (but_for anew.all file.all) anew.all two.all) (then_denoted (then_clauses (but_for anew.all file.all) anew.all) two.all (mentions_of_items items ++ more) more b.value c.value old b.mid c.mid one two.part));
         }
 
-    pub anew_is : (replacements : WrittenReplacements) (more : List Mention) (clauses : List Clause) (old new : Making) → Supplies files number context old.cells (mentions_anew replacements ++ more) old.pieces → make_anew context.inherited replacements old ≡ made clauses new → AnewMade replacements more clauses old new
+    pub anew_is : (replacements : WrittenReplacements) (more : List Mention) (clauses : List Clause) (old new : Stock) → Supplies files number context old.cells (mentions_anew replacements ++ more) old.pieces → make_anew context.inherited replacements old ≡ made clauses new → AnewMade replacements more clauses old new
     anew_is written.no_replacements more clauses old new supplied is = record { all = end_of_clauses; gathers = none_anew; part = denoted_at end_of_clauses more [] clauses old old new is (record { denotes = none_denoted; grows = grows_not old.cells; left = supplied }) }
     anew_is (written.replacement_then (written.define_anew name combine p) replacements) more clauses old new supplied is =
         let b = both (make_replacement context.inherited (written.define_anew name combine p) old) (λ first then. make_anew context.inherited replacements then >>= λ second. made (first ++ second)) clauses new is in

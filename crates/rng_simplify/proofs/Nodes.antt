@@ -10,9 +10,9 @@ use Rattle.rng_simplify.specs.Cells.{Cell, cell_of}
 use Rattle.rng_simplify.specs.Cells as cell
 use Rattle.rng_simplify.specs.Composed.{Composed, Clauses, end_of_clauses, clause_then, bodies}
 use Rattle.rng_simplify.specs.Composed as composed
-use Rattle.rng_simplify.specs.Denoting.{IsCell, Denotes, DenoteAll, composed_by, is_element, is_attribute, is_list, is_ref, is_parent_ref, is_empty, is_text, is_not_allowed, is_value, is_type, is_grammar, is_one_or_more, is_joined, none_denoted, next_denoted}
+use Rattle.rng_simplify.specs.CellMeanings.{IsCell, Denotes, DenoteAll, composed_by, is_element, is_attribute, is_list, is_ref, is_parent_ref, is_empty, is_text, is_not_allowed, is_value, is_type, is_grammar, is_one_or_more, is_joined, none_denoted, next_denoted}
 use Rattle.rng_simplify.specs.Places.{Place, place, parts, IsIn, a_part as part_in, a_content as content_in, a_definition as definition_in, Occurs, the_whole, further_in}
-use Rattle.rng_simplify.specs.Standing.{cell_parts, bodies_of, Stands, the_root, a_part, a_content, a_definition, AreScopes, no_scopes, further_scope}
+use Rattle.rng_simplify.specs.NodePlaces.{cell_parts, bodies_of, Stands, the_root, a_part, a_content, a_definition, AreScopes, no_scopes, further_scope}
 
 -- ---- what a list contains
 

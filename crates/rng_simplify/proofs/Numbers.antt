@@ -8,11 +8,11 @@ use Rattle.rng_simplify.specs.declared.resolve.Scope.{Scope}
 use Rattle.rng_simplify.specs.declared.resolve.Scope.TheVariants.{Nowhere, Outside, In}
 use Rattle.rng_simplify.specs.declared.resolve.Target.{Target}
 use Rattle.rng_simplify.specs.declared.resolve.Target.TheVariants.{Nothing, Element}
-use Rattle.rng_simplify.specs.Resolving.{element_number}
+use Rattle.rng_simplify.specs.ResolvedNodes.{element_number}
 use Rattle.rng_simplify.specs.Cells.{Cell}
 use Rattle.rng_simplify.specs.Cells as cell
-use Rattle.rng_simplify.specs.Denoting.{IsCell}
-use Rattle.rng_simplify.specs.Scoping.{Numbering, with_number, with_numbered, is_element, AreNumbered}
+use Rattle.rng_simplify.specs.CellMeanings.{IsCell}
+use Rattle.rng_simplify.specs.Findings.{Numbering, with_number, with_numbered, is_element, AreNumbered}
 use Rattle.rng_simplify.proofs.Nodes.{one_cell}
 use Rattle.rng_simplify.proofs.Scopes.{stays_behind, last_there}
 

@@ -14,7 +14,7 @@ use Rattle.rnc_parse.proofs.WholeTexts.{read_as_one}
 use Rattle.rng_simplify.specs.Classes.{class_in}
 use Rattle.rng_simplify.specs.Composed.{Composed, Clauses, end_of_clauses, clause_then, then_clauses, same_defined, defines, but_for, names_of}
 use Rattle.rng_simplify.specs.Composed as composed
-use Rattle.rng_simplify.specs.Composing.{Context, top, referred, Says, Opens, grammar_items, DefinesEach, Composes, by_element, by_attribute, by_list, by_ref, by_parent_ref, by_empty, by_text, by_not_allowed, by_value, by_type, by_type_but, by_external, by_grammar, by_optional, by_zero_or_more, by_one_or_more, by_mixed, by_choice, by_group, by_interleave, ComposesFile, of_pattern, of_grammar, Gathers, no_item, definition, division, inclusion, GathersAnew, none_anew, definition_anew, division_anew, ComposesSchema}
+use Rattle.rng_simplify.specs.ComposedFiles.{Context, top, referred, Says, Opens, grammar_items, DefinesEach, Composes, by_element, by_attribute, by_list, by_ref, by_parent_ref, by_empty, by_text, by_not_allowed, by_value, by_type, by_type_but, by_external, by_grammar, by_optional, by_zero_or_more, by_one_or_more, by_mixed, by_choice, by_group, by_interleave, ComposesFile, of_pattern, of_grammar, Gathers, no_item, definition, division, inclusion, GathersAnew, none_anew, definition_anew, division_anew, ComposesSchema}
 use Rattle.rng_simplify.specs.Unnumbered.{unnumbered, unnumbered_in}
 
 -- ---- one file
@@ -34,7 +34,7 @@ pub opens_one : JoinsIsDecided →
     (files : FileMap) (context : Context) (reference : FileReference) (inner other : Context) (surface others : WrittenSurface) →
     Opens files context reference inner surface → Opens files context reference other others → OpensOne inner other surface others
 opens_one decided files context reference inner other surface others is also =
-    let uris : is.uri ≡ also.uri = decided.1 context.uri reference.uri is.uri also.uri is.joined also.joined in
+    let uris : is.uri ≡ also.uri = decided.1 context.uri reference.uri is.uri also.uri is.refers also.refers in
     let P : List ℕ → Type 0 = λ uri. Says files uri surface in
     record {
       context = is.inner_is ∙ ap (referred context reference) uris ∙ sym also.inner_is;

@@ -11,9 +11,9 @@ use Rattle.rng_simplify.specs.Composed.{Composed, Clauses, end_of_clauses, claus
 use Rattle.rng_simplify.specs.Composed as composed
 use Rattle.rng_simplify.specs.Forms.{Form, FormDefinition, Value, list_of, attribute_of, one_or_more_of, choice_of, group_of, interleave_of, combine_of, values_of}
 use Rattle.rng_simplify.specs.Forms as form
-use Rattle.rng_simplify.specs.Forming.{bodies_form}
+use Rattle.rng_simplify.specs.NodeForms.{bodies_form}
 use Rattle.rng_simplify.specs.Places.{place, Occurs, the_whole, further_in, a_part, a_content, a_definition}
-use Rattle.rng_simplify.specs.Simple.{Simple, Defines, AreSimple, simple_element, simple_attribute, simple_list, simple_empty, simple_text, simple_not_allowed, simple_value, simple_type, simple_one_or_more, simple_choice, simple_group, simple_interleave, simple_grammar, simple_ref, simple_parent_ref, joined_in_order, none_simple, next_simple}
+use Rattle.rng_simplify.specs.Simple.{Simple, Defines, AreSimple, simple_element, simple_attribute, simple_list, simple_empty, simple_text, simple_not_allowed, simple_value, simple_type, simple_one_or_more, simple_choice, simple_group, simple_interleave, simple_grammar, simple_ref, simple_parent_ref, combined_in_order, none_simple, next_simple}
 use Rattle.rng_simplify.specs.Whole.{IsForm}
 use Rattle.rng_simplify.proofs.Nodes.{in_none, in_cases, in_first, in_more}
 
@@ -73,7 +73,7 @@ DefinesBy scope outer name q =
 
 defines_by : {scope : Clauses} {outer : List Clauses} {name : Defined} {q : Form} → Defines scope outer name q →
     DefinesBy scope outer name q
-defines_by (joined_in_order are is) = (_, _, are, is)
+defines_by (combined_in_order are is) = (_, _, are, is)
 
 abbrev AreSimpleBy : List Composed → List Clauses → List Form → Type 0
 AreSimpleBy [] scopes qs = qs ≡ []
@@ -116,7 +116,7 @@ mutual
 
   defines_one : {scope : Clauses} {outer : List Clauses} {name : Defined} {q r : Form} → Defines scope outer name q →
       Defines scope outer name r → q ≡ r
-  defines_one (joined_in_order {scope = scope} {name = name} are is) again =
+  defines_one (combined_in_order {scope = scope} {name = name} are is) again =
       let h = defines_by again in
       is ∙ ap (bodies_form (combine_of (combines (defining name scope)))) (are_simple_one are h.2) ∙ sym h.3
 

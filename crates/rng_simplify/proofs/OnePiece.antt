@@ -12,13 +12,13 @@ use Rattle.rng_simplify.specs.Cells.{Cell}
 use Rattle.rng_simplify.specs.Cells as cell
 use Rattle.rng_simplify.specs.Composed.{Composed, Clauses}
 use Rattle.rng_simplify.specs.Composed as composed
-use Rattle.rng_simplify.specs.Composing.{Context, top, Opens, grammar_items, ComposesFile, Gathers, of_pattern as file_of_pattern}
+use Rattle.rng_simplify.specs.ComposedFiles.{Context, top, Opens, grammar_items, ComposesFile, Gathers, of_pattern as file_of_pattern}
 use Rattle.rng_simplify.specs.Composition.{IsOnePiece, MadeIsComposed}
-use Rattle.rng_simplify.specs.Denoting.{Denotes, DenoteAll, is_grammar}
-use Rattle.rng_simplify.specs.Loading.{Waiting, waiting_in, AreRead, all_read, one_read, AreLoaded, AllLoaded}
-use Rattle.rng_simplify.specs.Making.{Making, Outcome, made, ◌>>=◌, FilePiece, of_pattern, of_grammar, next_piece, as_pattern, next_pattern, make, make_items, make_file, lone_made, file_made, files_made, nothing_made, whole_made}
+use Rattle.rng_simplify.specs.CellMeanings.{Denotes, DenoteAll, is_grammar}
+use Rattle.rng_simplify.specs.LoadedFiles.{Waiting, waiting_in, AreRead, all_read, one_read, AreLoaded, AllLoaded}
+use Rattle.rng_simplify.specs.MadeCells.{Stock, Outcome, made, ◌>>=◌, FilePiece, of_pattern, of_grammar, next_piece, as_pattern, next_pattern, make, make_items, make_file, lone_made, file_made, files_made, nothing_made, whole_made}
 use Rattle.rng_simplify.specs.References.{Mention, reference_of, mentions, mentions_of, mentions_of_items}
-use Rattle.rng_simplify.specs.Supplying.{Grows, Supply, a_pattern_piece, a_grammar_piece, Supplies, nothing_more, one_further, IsMadeOf}
+use Rattle.rng_simplify.specs.SuppliedPieces.{Grows, Supply, a_pattern_piece, a_grammar_piece, Supplies, nothing_more, one_further, IsMadeOf}
 use Rattle.rng_simplify.proofs.Growing.{denote_all_on, last_cell, one_more}
 use Rattle.rng_simplify.proofs.Made.{both, value_or, now_or, supply_on, file_from, pattern_is, items_is, ItemsMade}
 use Rattle.rng_simplify.proofs.Pieces.{Keeps, file_runs}
@@ -43,17 +43,17 @@ module _ (files : FileMap) (number : ℕ → ℕ) where
 
   -- ---- a file
 
-  pub record FileStands (context : Context) (surface : WrittenSurface) (piece : FilePiece) (old new : Making) : Type 0 where
+  pub record FileStands (context : Context) (surface : WrittenSurface) (piece : FilePiece) (old new : Stock) : Type 0 where
     pub stands : PieceStands context surface new.cells piece
     pub grows : Grows old.cells new.cells
 
-  stands_at : (context : Context) (surface : WrittenSurface) (first piece : FilePiece) (old mid new : Making) →
+  stands_at : (context : Context) (surface : WrittenSurface) (first piece : FilePiece) (old mid new : Stock) →
       made first mid ≡ made piece new → FileStands context surface first old mid → FileStands context surface piece old new
   stands_at context surface first piece old mid new is stands =
       subst (λ n. FileStands context surface piece old n) (ap (now_or mid) is) (subst (λ p. FileStands context surface p old mid)
       (ap (value_or first) is) stands)
 
-  lone_stands : (context : Context) (p : WrittenPattern) (piece : FilePiece) (old new : Making) →
+  lone_stands : (context : Context) (p : WrittenPattern) (piece : FilePiece) (old new : Stock) →
       grammar_items (written.a_pattern p) ≡ None → Supplies files number context old.cells (mentions p) old.pieces →
       lone_made context.inherited p old ≡ made piece new → FileStands context (written.a_pattern p) piece old new
   lone_stands context p piece old new none supplied is =
@@ -64,7 +64,7 @@ module _ (files : FileMap) (number : ℕ → ℕ) where
       stands_at context (written.a_pattern p) (of_pattern b.value) piece old b.mid new b.second
       (record { stands = stands_as_pattern none (file_of_pattern inner.composes) inner.denotes; grows = inner.grows })
 
-  grammar_stands : (context : Context) (surface : WrittenSurface) (items : WrittenItems) (piece : FilePiece) (old new : Making) →
+  grammar_stands : (context : Context) (surface : WrittenSurface) (items : WrittenItems) (piece : FilePiece) (old new : Stock) →
       grammar_items surface ≡ Some items → Supplies files number context old.cells (mentions_of_items items) old.pieces →
       (make_items context.inherited items old >>= λ clauses. made (of_grammar clauses)) ≡ made piece new →
       FileStands context surface piece old new
@@ -76,7 +76,7 @@ module _ (files : FileMap) (number : ℕ → ℕ) where
       stands_at context surface (of_grammar b.value) piece old b.mid new b.second
       (record { stands = stands_as_grammar some inner.gathers inner.part.denotes; grows = inner.part.grows })
 
-  file_stands : (context : Context) (surface : WrittenSurface) (piece : FilePiece) (old new : Making) →
+  file_stands : (context : Context) (surface : WrittenSurface) (piece : FilePiece) (old new : Stock) →
       Supplies files number context old.cells (mentions_of surface) old.pieces → make_file context.inherited surface old ≡ made piece new →
       FileStands context surface piece old new
   file_stands context (written.a_grammar items) piece old new supplied is =
@@ -119,7 +119,7 @@ module _ (files : FileMap) (number : ℕ → ℕ) where
   enough cells context (m ∷ all) pieces (one_further {pieces = rest} first supplied) =
       let more : length all ≤ length rest = enough cells context all rest supplied in omega arith
 
-  pieces_are : (need : ℕ) (old new : Making) (piece : FilePiece) (outcome : Outcome FilePiece) → Keeps [] piece_nodes need old outcome →
+  pieces_are : (need : ℕ) (old new : Stock) (piece : FilePiece) (outcome : Outcome FilePiece) → Keeps [] piece_nodes need old outcome →
       outcome ≡ made piece new → new.pieces ≡ drop need old.pieces
   pieces_are need old new piece outcome keeps is =
       let k : Keeps [] piece_nodes need old (made piece new) = subst (Keeps [] piece_nodes need old) is keeps in k.0
@@ -127,14 +127,14 @@ module _ (files : FileMap) (number : ℕ → ℕ) where
   -- ---- files in order
 
   -- a file takes the place of what it mentions
-  pub record FileMade (context : Context) (surface : WrittenSurface) (more : List Waiting) (new : Making) : Type 0 where
+  pub record FileMade (context : Context) (surface : WrittenSurface) (more : List Waiting) (new : Stock) : Type 0 where
     pub piece : FilePiece
     pub pieces : List FilePiece
     pub pieces_are : new.pieces ≡ piece ∷ pieces
     pub stands : PieceStands context surface new.cells piece
     pub left : SuppliesAll new.cells more pieces
 
-  one_made : (context : Context) (file : Loaded) (more : List Waiting) (old new : Making) (done : Unit {0}) →
+  one_made : (context : Context) (file : Loaded) (more : List Waiting) (old new : Stock) (done : Unit {0}) →
       file.inherited ≡ context.inherited → SuppliesAll old.cells (waiting_in context (mentions_of (surface_of file.surface)) ++ more)
       old.pieces → file_made file old ≡ made done new → FileMade context (surface_of file.surface) more new
   one_made context file more old new done inherits supplied is =
@@ -160,18 +160,18 @@ module _ (files : FileMap) (number : ℕ → ℕ) where
             stands.grows (supplied_behind old.cells context all more old.pieces supplied));
       })
 
-  waits_for : (waiting : Waiting) (more : List Waiting) (inner : Context) (surface : WrittenSurface) (new : Making) →
+  waits_for : (waiting : Waiting) (more : List Waiting) (inner : Context) (surface : WrittenSurface) (new : Stock) →
       Opens files waiting.context (reference_of waiting.mention) inner surface → FileMade inner surface more new →
       SuppliesAll new.cells (waiting ∷ more) new.pieces
   waits_for waiting more inner surface new opens file =
       subst (SuppliesAll new.cells (waiting ∷ more)) (sym file.pieces_are)
       (next_waits (supply_of waiting.context inner surface new.cells waiting.mention file.piece opens file.stands) file.left)
 
-  nothing_supplied : (now : Making) (done : Unit {0}) → made (tt {0}) nothing_made ≡ made done now → SuppliesAll now.cells [] now.pieces
-  nothing_supplied now done is = subst (λ (n : Making). SuppliesAll n.cells [] n.pieces) (ap (now_or nothing_made) is) none_waits
+  nothing_supplied : (now : Stock) (done : Unit {0}) → made (tt {0}) nothing_made ≡ made done now → SuppliesAll now.cells [] now.pieces
+  nothing_supplied now done is = subst (λ (n : Stock). SuppliesAll n.cells [] n.pieces) (ap (now_or nothing_made) is) none_waits
 
   -- what was made of the files behind is what waits
-  pub walk_made : (waiting : List Waiting) (read : List Loaded) (now : Making) (done : Unit {0}) → AreRead (Some files) waiting read →
+  pub walk_made : (waiting : List Waiting) (read : List Loaded) (now : Stock) (done : Unit {0}) → AreRead (Some files) waiting read →
       files_made (reverse read) nothing_made ≡ made done now → SuppliesAll now.cells waiting now.pieces
   walk_made waiting read now done all_read is = nothing_supplied now done is
   walk_made waiting read now done (one_read {waiting = first} {more = more} {file = file} {files = rest} inner is_read reads) is =
@@ -181,19 +181,19 @@ module _ (files : FileMap) (number : ℕ → ℕ) where
 
   -- ---- the whole
 
-  pub record Stands (context : Context) (surface : WrittenSurface) (root : ℕ) (left : Making) : Type 0 where
+  pub record Stands (context : Context) (surface : WrittenSurface) (root : ℕ) (left : Stock) : Type 0 where
     pub whole : Composed
     pub composed : ComposesFile files context surface whole
     pub denotes : Denotes left.cells number root whole
 
-  whole_at : (context : Context) (surface : WrittenSurface) (first root : ℕ) (mid left : Making) → made first mid ≡ made root left →
+  whole_at : (context : Context) (surface : WrittenSurface) (first root : ℕ) (mid left : Stock) → made first mid ≡ made root left →
       Stands context surface first mid → Stands context surface root left
   whole_at context surface first root mid left is stands =
       subst (λ n. Stands context surface root n) (ap (now_or mid) is) (subst (λ i. Stands context surface i mid) (ap (value_or first) is)
       stands)
 
   whole_stands : (context : Context) (surface : WrittenSurface) (cells : List Cell) (piece : FilePiece) (pieces : List FilePiece) (root : ℕ)
-      (left : Making) → PieceStands context surface cells piece → (next_piece cells (piece ∷ pieces) >>= as_pattern) ≡ made root left →
+      (left : Stock) → PieceStands context surface cells piece → (next_piece cells (piece ∷ pieces) >>= as_pattern) ≡ made root left →
       Stands context surface root left
   whole_stands context surface cells piece pieces root left (stands_as_pattern {root = first} {q = q} none composes denotes) is =
       whole_at context surface first root (record { cells = cells; pieces = pieces }) left is
@@ -207,7 +207,7 @@ module _ (files : FileMap) (number : ℕ → ℕ) where
         denotes = is_grammar (last_cell cells (cell.grammar clauses)) (denote_all_on (one_more cells (cell.grammar clauses)) denotes);
       })
 
-  files_stand : (uri : List ℕ) (first : Loaded) (others : List Loaded) (root : ℕ) (left : Making) →
+  files_stand : (uri : List ℕ) (first : Loaded) (others : List Loaded) (root : ℕ) (left : Stock) →
       AreLoaded (Some files) uri first others → whole_made (reverse (first ∷ others)) ≡ made root left →
       IsOnePiece files uri number left.cells root
   files_stand uri first others root left loaded is =
@@ -230,7 +230,7 @@ module _ (files : FileMap) (number : ℕ → ℕ) where
         denotes = stands.denotes;
       }
 
-all_stand : (files : FileMap) (number : ℕ → ℕ) (uri : List ℕ) (loaded : List Loaded) (root : ℕ) (left : Making) →
+all_stand : (files : FileMap) (number : ℕ → ℕ) (uri : List ℕ) (loaded : List Loaded) (root : ℕ) (left : Stock) →
     AllLoaded (Some files) uri loaded → whole_made (reverse loaded) ≡ made root left → IsOnePiece files uri number left.cells root
 all_stand files number uri [] root left loaded is = absurd loaded
 all_stand files number uri (first ∷ others) root left loaded is = files_stand files number uri first others root left loaded is

@@ -4,9 +4,9 @@ use Rattle.std.specs.Prelude.{Contains, flat_map}
 use Rattle.std.proofs.lemmas.Grind.{flat_map-append}
 use Rattle.std.proofs.lemmas.Bool.{eqb-true}
 use Rattle.rng_simplify.specs.Cells.{Cell}
-use Rattle.rng_simplify.specs.Denoting.{IsCell}
-use Rattle.rng_simplify.specs.Making.{Making, FilePiece, of_pattern, of_grammar}
-use Rattle.rng_simplify.specs.Standing.{inner_nodes, bodies_of}
+use Rattle.rng_simplify.specs.CellMeanings.{IsCell}
+use Rattle.rng_simplify.specs.MadeCells.{Stock, FilePiece, of_pattern, of_grammar}
+use Rattle.rng_simplify.specs.NodePlaces.{inner_nodes, bodies_of}
 
 -- ---- counting
 
@@ -55,16 +55,16 @@ piece_nodes (of_pattern root) = root ∷ []
 piece_nodes (of_grammar clauses) = bodies_of clauses
 
 -- how often the node stands in nodes, in pieces, and in what is held besides
-abbrev pub uses : ℕ → Making → List ℕ → ℕ
+abbrev pub uses : ℕ → Stock → List ℕ → ℕ
 uses i now extra = count i (flat_map inner_nodes now.cells) + count i (flat_map piece_nodes now.pieces) + count i extra
 
-pub record Owns (now : Making) (extra : List ℕ) : Type 0 where
+pub record Owns (now : Stock) (extra : List ℕ) : Type 0 where
   pub parts : (k j : ℕ) (c : Cell) → IsCell now.cells k c → Contains (inner_nodes c) j → j < k
   pub once : (i : ℕ) → uses i now extra ≤ 1
   pub below : (i : ℕ) → length now.cells ≤ i → uses i now extra ≡ 0
 
 -- what is held is less, or has come from pieces
-pub held_else : (old new : Making) (xs ys : List ℕ) → new.cells ≡ old.cells →
+pub held_else : (old new : Stock) (xs ys : List ℕ) → new.cells ≡ old.cells →
     ((i : ℕ) → count i (flat_map piece_nodes new.pieces) + count i ys ≤ count i (flat_map piece_nodes old.pieces) + count i xs) →
     Owns old xs → Owns new ys
 held_else old new xs ys same less owns = record {
@@ -98,7 +98,7 @@ pub le_or_gt : (a b : ℕ) → (a ≤ b) ⊎ (b < a)
 le_or_gt a b = grind arith
 
 -- a further cell takes what is held for its nodes
-pub cell_owns : (c : Cell) (now : Making) (extra : List ℕ) → Owns now (inner_nodes c ++ extra) →
+pub cell_owns : (c : Cell) (now : Stock) (extra : List ℕ) → Owns now (inner_nodes c ++ extra) →
     Owns (record { cells = now.cells ++ c ∷ []; pieces = now.pieces }) (length now.cells ∷ extra)
 cell_owns c now extra owns = record {
   parts = λ k j d at among. part k j d among (old_or_last now.cells c k d at);

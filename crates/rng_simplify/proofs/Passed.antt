@@ -11,10 +11,10 @@ use Rattle.rnc_parse.specs.Reads.{Refuses}
 use Rattle.rnc_parse.specs.Written.{WrittenPattern, WrittenItem, WrittenItems, WrittenReplacement, WrittenReplacements, WrittenSurface, a_pattern, a_grammar}
 use Rattle.rnc_parse.specs.Written as written
 use Rattle.rnc_parse.proofs.WholeTexts.{read_not_refused}
-use Rattle.rng_simplify.specs.Agreeing.{ArePassed}
+use Rattle.rng_simplify.specs.Unambiguous.{ArePassed}
 use Rattle.rng_simplify.specs.Broken.{IsAbsent, IsNoText, HasBadUri, IsRefused, HasIncludeLoop, IncludesOther, ReplacesNothing}
 use Rattle.rng_simplify.specs.Composed.{Composed, Clauses, end_of_clauses, clause_then, then_clauses, defines, names_of}
-use Rattle.rng_simplify.specs.Composing.{Context, referred, Says, Opens, grammar_items, DefinesEach, Composes, by_element, by_attribute, by_list, by_ref, by_parent_ref, by_empty, by_text, by_not_allowed, by_value, by_type, by_type_but, by_external, by_grammar, by_optional, by_zero_or_more, by_one_or_more, by_mixed, by_choice, by_group, by_interleave, ComposesFile, of_pattern, of_grammar, Gathers, no_item, definition, division, inclusion, GathersAnew, none_anew, definition_anew, division_anew, ComposesSchema}
+use Rattle.rng_simplify.specs.ComposedFiles.{Context, referred, Says, Opens, grammar_items, DefinesEach, Composes, by_element, by_attribute, by_list, by_ref, by_parent_ref, by_empty, by_text, by_not_allowed, by_value, by_type, by_type_but, by_external, by_grammar, by_optional, by_zero_or_more, by_one_or_more, by_mixed, by_choice, by_group, by_interleave, ComposesFile, of_pattern, of_grammar, Gathers, no_item, definition, division, inclusion, GathersAnew, none_anew, definition_anew, division_anew, ComposesSchema}
 use Rattle.rng_simplify.specs.References.{Mention, an_external, an_include, reference_of, mentions, mentions_of_items, mentions_anew, mentions_of, names_anew, Reached, the_first, a_further, Mentions}
 use Rattle.rng_simplify.specs.Unnumbered.{unnumbered_in}
 use Rattle.rng_simplify.proofs.Nodes.{in_none, in_cases, in_one}
@@ -182,7 +182,7 @@ module _ (files : FileMap) where
     good_file (a_further {context = context} {surface = surface} {mention = mention} {other = other} reached says mentioned joins apart) =
         let leads = leads_from (good_file reached) says mentioned in
         let uris : leads.opens.uri ≡ other =
-        decided.1 context.uri (reference_of mention).uri leads.opens.uri other leads.opens.joined joins in
+        decided.1 context.uri (reference_of mention).uri leads.opens.uri other leads.opens.refers joins in
         let inner : leads.inner ≡ referred context (reference_of mention) other =
         leads.opens.inner_is ∙ ap (referred context (reference_of mention)) uris in
         let P : List ℕ → Type 0 = λ u. Says files u leads.surface in
@@ -211,7 +211,7 @@ module _ (files : FileMap) where
     bad_uri_never text h =
         let leads = mention_leads h.mentioned in
         let P : List ℕ → Type 0 = λ t. IsBadUri h.context.uri t in
-        decided.0 h.context.uri (reference_of h.mention).uri leads.opens.uri leads.opens.joined (subst P h.text_is h.bad)
+        decided.0 h.context.uri (reference_of h.mention).uri leads.opens.uri leads.opens.refers (subst P h.text_is h.bad)
 
     refused_never : (why : Cause) → IsRefused files uri why → ⊥
     refused_never why h =
@@ -224,7 +224,7 @@ module _ (files : FileMap) where
     loop_never h =
         let leads = mention_leads h.mentioned in
         let P : List ℕ → Type 0 = λ u. Contains h.context.chain u in
-        leads.opens.no_loop (subst P (decided.1 h.context.uri (reference_of h.mention).uri h.other leads.opens.uri h.joined leads.opens.joined) h.leads_here)
+        leads.opens.no_loop (subst P (decided.1 h.context.uri (reference_of h.mention).uri h.other leads.opens.uri h.refers leads.opens.refers) h.leads_here)
 
     other_never : IncludesOther files uri → ⊥
     other_never h =

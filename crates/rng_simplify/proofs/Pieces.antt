@@ -12,15 +12,15 @@ use Rattle.rnc_parse.specs.declared.surface.Combine.{Combine}
 use Rattle.rng_simplify.specs.Classes.{class_in}
 use Rattle.rng_simplify.specs.Cells.{Cell}
 use Rattle.rng_simplify.specs.Cells as cell
-use Rattle.rng_simplify.specs.Making.{Making, Outcome, made, refused, no_piece, ◌>>=◌, FilePiece, of_pattern, of_grammar, cell_made, or_empty_made, next_piece, as_pattern, as_grammar, next_pattern, next_grammar, make, make_item, make_items, make_replacement, make_anew, replaced_if, defines_all, with_new, is_defined, make_file, lone_made}
+use Rattle.rng_simplify.specs.MadeCells.{Stock, Outcome, made, refused, no_piece, ◌>>=◌, FilePiece, of_pattern, of_grammar, cell_made, or_empty_made, next_piece, as_pattern, as_grammar, next_pattern, next_grammar, make, make_item, make_items, make_replacement, make_anew, replaced_if, defines_all, with_new, is_defined, make_file, lone_made}
 use Rattle.rng_simplify.specs.References.{mentions, mentions_of, mentions_of_item, mentions_of_items, mentions_of_replacement, mentions_anew}
-use Rattle.rng_simplify.specs.Standing.{inner_nodes, bodies_of}
-use Rattle.rng_simplify.specs.Supplying.{Grows}
+use Rattle.rng_simplify.specs.NodePlaces.{inner_nodes, bodies_of}
+use Rattle.rng_simplify.specs.SuppliedPieces.{Grows}
 use Rattle.rng_simplify.proofs.Growing.{grows_not, grows_on, one_more}
 use Rattle.rng_simplify.proofs.Owning.{count, count-append, piece_nodes, Owns, held_else, cell_owns}
 
 -- what is given for it is held by what is made, and so many pieces are taken
-abbrev pub Keeps : {A : Type 0} → List ℕ → (A → List ℕ) → ℕ → Making → Outcome A → Type 0
+abbrev pub Keeps : {A : Type 0} → List ℕ → (A → List ℕ) → ℕ → Stock → Outcome A → Type 0
 Keeps given held need old (made v new) =
     (new.pieces ≡ drop need old.pieces) × Grows old.cells new.cells ×
     ((extra : List ℕ) → Owns old (given ++ extra) → Owns new (held v ++ extra))
@@ -28,12 +28,12 @@ Keeps given held need old (refused why) = Unit {0}
 Keeps given held need old no_piece = ⊥
 
 -- that is so where there are as many pieces
-pub record Runs {A : Type 0} (given : List ℕ) (held : A → List ℕ) (need : ℕ) (old : Making) (outcome : Outcome A) : Type 0 where
+pub record Runs {A : Type 0} (given : List ℕ) (held : A → List ℕ) (need : ℕ) (old : Stock) (outcome : Outcome A) : Type 0 where
   pub keeps : need ≤ length old.pieces → Keeps given held need old outcome
 
 -- ---- steps
 
-then_keeps : {A B : Type 0} (given : List ℕ) (held : A → List ℕ) (held2 : B → List ℕ) (n m : ℕ) (old mid : Making) (v : A)
+then_keeps : {A B : Type 0} (given : List ℕ) (held : A → List ℕ) (held2 : B → List ℕ) (n m : ℕ) (old mid : Stock) (v : A)
     (outcome : Outcome B) → Keeps given held n old (made v mid) → Keeps (held v) held2 m mid outcome → Keeps given held2 (n + m) old outcome
 then_keeps given held held2 n m old mid v (made w new) first second = (
   second.0 ∙ ap (drop m) first.0 ∙ drop-drop m n old.pieces,
@@ -43,8 +43,8 @@ then_keeps given held held2 n m old mid v (made w new) first second = (
 then_keeps given held held2 n m old mid v (refused why) first second = tt
 then_keeps given held held2 n m old mid v no_piece first second = absurd second
 
-pub then_runs : {A B : Type 0} (given : List ℕ) (held : A → List ℕ) (held2 : B → List ℕ) (n m : ℕ) (old : Making) (outcome : Outcome A)
-    (more : A → Making → Outcome B) → Runs given held n old outcome → ((v : A) (mid : Making) → Runs (held v) held2 m mid (more v mid)) →
+pub then_runs : {A B : Type 0} (given : List ℕ) (held : A → List ℕ) (held2 : B → List ℕ) (n m : ℕ) (old : Stock) (outcome : Outcome A)
+    (more : A → Stock → Outcome B) → Runs given held n old outcome → ((v : A) (mid : Stock) → Runs (held v) held2 m mid (more v mid)) →
     Runs given held2 (n + m) old (outcome >>= more)
 then_runs given held held2 n m old (made v mid) more first second = record {
   keeps = λ enough.
@@ -57,38 +57,38 @@ then_runs given held held2 n m old (made v mid) more first second = record {
 then_runs given held held2 n m old (refused why) more first second = record { keeps = λ enough. tt }
 then_runs given held held2 n m old no_piece more first second = record { keeps = λ enough. first.keeps (omega arith) }
 
-pub need_is : {A : Type 0} (given : List ℕ) (held : A → List ℕ) (n m : ℕ) (old : Making) (outcome : Outcome A) → n ≡ m →
+pub need_is : {A : Type 0} (given : List ℕ) (held : A → List ℕ) (n m : ℕ) (old : Stock) (outcome : Outcome A) → n ≡ m →
     Runs given held n old outcome → Runs given held m old outcome
 need_is given held n m old outcome same runs = subst (λ k. Runs given held k old outcome) same runs
 
 -- the last step takes no piece
-last_runs : {A B : Type 0} (given : List ℕ) (held : A → List ℕ) (held2 : B → List ℕ) (n : ℕ) (old : Making) (outcome : Outcome A)
-    (more : A → Making → Outcome B) → Runs given held n old outcome → ((v : A) (mid : Making) → Runs (held v) held2 0 mid (more v mid)) →
+last_runs : {A B : Type 0} (given : List ℕ) (held : A → List ℕ) (held2 : B → List ℕ) (n : ℕ) (old : Stock) (outcome : Outcome A)
+    (more : A → Stock → Outcome B) → Runs given held n old outcome → ((v : A) (mid : Stock) → Runs (held v) held2 0 mid (more v mid)) →
     Runs given held2 n old (outcome >>= more)
 last_runs given held held2 n old outcome more first second =
     need_is given held2 (n + 0) n old (outcome >>= more) (omega arith) (then_runs given held held2 n 0 old outcome more first second)
 
 -- the first step takes no piece
-first_runs : {A B : Type 0} (given : List ℕ) (held : A → List ℕ) (held2 : B → List ℕ) (n : ℕ) (old : Making) (outcome : Outcome A)
-    (more : A → Making → Outcome B) → Runs given held 0 old outcome → ((v : A) (mid : Making) → Runs (held v) held2 n mid (more v mid)) →
+first_runs : {A B : Type 0} (given : List ℕ) (held : A → List ℕ) (held2 : B → List ℕ) (n : ℕ) (old : Stock) (outcome : Outcome A)
+    (more : A → Stock → Outcome B) → Runs given held 0 old outcome → ((v : A) (mid : Stock) → Runs (held v) held2 n mid (more v mid)) →
     Runs given held2 n old (outcome >>= more)
 first_runs given held held2 n old outcome more first second =
     need_is given held2 (0 + n) n old (outcome >>= more) (omega arith) (then_runs given held held2 0 n old outcome more first second)
 
 -- what is given besides is held besides
-framed_keeps : {A : Type 0} (besides : List ℕ) (held : A → List ℕ) (need : ℕ) (old : Making) (outcome : Outcome A) →
+framed_keeps : {A : Type 0} (besides : List ℕ) (held : A → List ℕ) (need : ℕ) (old : Stock) (outcome : Outcome A) →
     Keeps [] held need old outcome → Keeps besides (λ v. held v ++ besides) need old outcome
 framed_keeps besides held need old (made v new) keeps =
     (keeps.0, keeps.1, λ extra owns. subst (Owns new) (sym (append_assoc (held v) besides extra)) (keeps.2 (besides ++ extra) owns))
 framed_keeps besides held need old (refused why) keeps = tt
 framed_keeps besides held need old no_piece keeps = keeps
 
-pub framed : {A : Type 0} (besides : List ℕ) (held : A → List ℕ) (need : ℕ) (old : Making) (outcome : Outcome A) →
+pub framed : {A : Type 0} (besides : List ℕ) (held : A → List ℕ) (need : ℕ) (old : Stock) (outcome : Outcome A) →
     Runs [] held need old outcome → Runs besides (λ v. held v ++ besides) need old outcome
 framed besides held need old outcome runs = record { keeps = λ enough. framed_keeps besides held need old outcome (runs.keeps enough) }
 
 -- more may be given
-given_keeps : {A : Type 0} (less more : List ℕ) (held : A → List ℕ) (need : ℕ) (old : Making) (outcome : Outcome A) →
+given_keeps : {A : Type 0} (less more : List ℕ) (held : A → List ℕ) (need : ℕ) (old : Stock) (outcome : Outcome A) →
     ((i : ℕ) → count i less ≤ count i more) → Keeps less held need old outcome → Keeps more held need old outcome
 given_keeps less more held need old (made v new) fewer keeps = (
   keeps.0,
@@ -99,20 +99,20 @@ given_keeps less more held need old (made v new) fewer keeps = (
 given_keeps less more held need old (refused why) fewer keeps = tt
 given_keeps less more held need old no_piece fewer keeps = keeps
 
-pub given_more : {A : Type 0} (less more : List ℕ) (held : A → List ℕ) (need : ℕ) (old : Making) (outcome : Outcome A) →
+pub given_more : {A : Type 0} (less more : List ℕ) (held : A → List ℕ) (need : ℕ) (old : Stock) (outcome : Outcome A) →
     ((i : ℕ) → count i less ≤ count i more) → Runs less held need old outcome → Runs more held need old outcome
 given_more less more held need old outcome fewer runs =
     record { keeps = λ enough. given_keeps less more held need old outcome fewer (runs.keeps enough) }
 
 -- ---- the least steps
 
-pub made_runs : {A : Type 0} (held : A → List ℕ) (v : A) (now : Making) → Runs (held v) held 0 now (made v now)
+pub made_runs : {A : Type 0} (held : A → List ℕ) (v : A) (now : Stock) → Runs (held v) held 0 now (made v now)
 made_runs held v now = record { keeps = λ enough. (refl, grows_not now.cells, λ extra owns. owns) }
 
 abbrev pub one : ℕ → List ℕ
 one i = i ∷ []
 
-pub cell_runs : (c : Cell) (now : Making) → Runs (inner_nodes c) one 0 now (cell_made c now)
+pub cell_runs : (c : Cell) (now : Stock) → Runs (inner_nodes c) one 0 now (cell_made c now)
 cell_runs c now = record { keeps = λ enough. (refl, one_more now.cells c, λ extra owns. cell_owns c now extra owns) }
 
 next_keeps : (cells : List Cell) (pieces : List FilePiece) → 1 ≤ length pieces →
@@ -133,7 +133,7 @@ next_keeps cells (of_grammar clauses ∷ more) enough = (
       (λ i. omega (arith, count-append i (bodies_of clauses) extra, count-append i (bodies_of clauses) (flat_map piece_nodes more))) owns),
 )
 
-pub next_pattern_runs : (now : Making) → Runs [] one 1 now (next_pattern now)
+pub next_pattern_runs : (now : Stock) → Runs [] one 1 now (next_pattern now)
 next_pattern_runs now = record { keeps = next_keeps now.cells now.pieces }
 
 grammar_keeps : (cells : List Cell) (pieces : List FilePiece) → 1 ≤ length pieces →
@@ -148,7 +148,7 @@ grammar_keeps cells (of_grammar clauses ∷ more) enough = (
       (λ i. omega (arith, count-append i (bodies_of clauses) extra, count-append i (bodies_of clauses) (flat_map piece_nodes more))) owns,
 )
 
-next_grammar_runs : (now : Making) → Runs [] bodies_of 1 now (next_grammar now)
+next_grammar_runs : (now : Stock) → Runs [] bodies_of 1 now (next_grammar now)
 next_grammar_runs now = record { keeps = grammar_keeps now.cells now.pieces }
 
 -- ---- definitions
@@ -168,14 +168,14 @@ fewer_kept i p [] = omega arith
 fewer_kept i p (x ∷ xs) = fewer_if i (p x) x xs (filter p xs) (fewer_kept i p xs)
 
 -- definitions behind others
-behind_runs : (first more : List Clause) (now : Making) →
+behind_runs : (first more : List Clause) (now : Stock) →
     Runs (bodies_of more ++ bodies_of first) bodies_of 0 now (made (first ++ more) now)
 behind_runs first more now =
     given_more (bodies_of (first ++ more)) (bodies_of more ++ bodies_of first) bodies_of 0 now (made (first ++ more) now)
     (λ i. omega (arith, bodies_apart i first more, count-append i (bodies_of more) (bodies_of first)))
     (made_runs bodies_of (first ++ more) now)
 
-replaced_runs : (b : Bool) (old new : List Clause) (now : Making) →
+replaced_runs : (b : Bool) (old new : List Clause) (now : Stock) →
     Runs (bodies_of new ++ bodies_of old) bodies_of 0 now (replaced_if b (with_new old new) now)
 replaced_runs true old new now =
     given_more (bodies_of (with_new old new)) (bodies_of new ++ bodies_of old) bodies_of 0 now (made (with_new old new) now)
@@ -192,26 +192,26 @@ replaced_runs false old new now = record { keeps = λ enough. tt }
 
 module _ (ns : List ℕ) where
   -- one more cell around a part
-  around : (p : WrittenPattern) (c : ℕ → Cell) (now : Making) → ((i : ℕ) → inner_nodes (c i) ≡ one i) →
+  around : (p : WrittenPattern) (c : ℕ → Cell) (now : Stock) → ((i : ℕ) → inner_nodes (c i) ≡ one i) →
       Runs [] one (length (mentions p)) now (make ns p now) → Runs [] one (length (mentions p)) now (make ns p now >>= λ i. cell_made (c i))
   around p c now inner runs =
       last_runs [] one one (length (mentions p)) now (make ns p now) (λ i. cell_made (c i)) runs
       (λ i mid. subst (λ given. Runs given one 0 mid (cell_made (c i) mid)) (inner i) (cell_runs (c i) mid))
 
   -- one more around two
-  joined_runs : (by : Sign) (i j : ℕ) (now : Making) → Runs (j ∷ i ∷ []) one 0 now (cell_made (cell.joined by i j) now)
+  joined_runs : (by : Sign) (i j : ℕ) (now : Stock) → Runs (j ∷ i ∷ []) one 0 now (cell_made (cell.joined by i j) now)
   joined_runs by i j now =
       given_more (i ∷ j ∷ []) (j ∷ i ∷ []) one 0 now (cell_made (cell.joined by i j) now) (λ x. omega arith)
       (cell_runs (cell.joined by i j) now)
 
-  or_empty_runs : (i : ℕ) (now : Making) → Runs (one i) one 0 now (or_empty_made i now)
+  or_empty_runs : (i : ℕ) (now : Stock) → Runs (one i) one 0 now (or_empty_made i now)
   or_empty_runs i now =
       first_runs (one i) (λ e. one e ++ one i) one 0 now (cell_made cell.empty now) (λ e. cell_made (cell.joined sign.Choice i e))
       (framed (one i) one 0 now (cell_made cell.empty now) (cell_runs cell.empty now)) (λ e mid. joined_runs sign.Choice i e mid)
 
   -- a pattern and another, joined
-  between : (by : Sign) (p q : WrittenPattern) (now : Making) → Runs [] one (length (mentions p)) now (make ns p now) →
-      ((mid : Making) → Runs [] one (length (mentions q)) mid (make ns q mid)) →
+  between : (by : Sign) (p q : WrittenPattern) (now : Stock) → Runs [] one (length (mentions p)) now (make ns p now) →
+      ((mid : Stock) → Runs [] one (length (mentions q)) mid (make ns q mid)) →
       Runs [] one (length (mentions p ++ mentions q)) now (make ns p now >>= λ i then. make ns q then >>= λ j. cell_made
       (cell.joined by i j))
   between by p q now first second =
@@ -224,8 +224,8 @@ module _ (ns : List ℕ) where
       (framed (one i) one (length (mentions q)) mid (make ns q mid) (second mid)) (λ j then. joined_runs by i j then)))
 
   -- one item and those behind it
-  row_runs : (n m : ℕ) (now : Making) (first : Outcome (List Clause)) (more : Making → Outcome (List Clause)) →
-      Runs [] bodies_of n now first → ((mid : Making) → Runs [] bodies_of m mid (more mid)) →
+  row_runs : (n m : ℕ) (now : Stock) (first : Outcome (List Clause)) (more : Stock → Outcome (List Clause)) →
+      Runs [] bodies_of n now first → ((mid : Stock) → Runs [] bodies_of m mid (more mid)) →
       Runs [] bodies_of (n + m) now (first >>= λ cs then. more then >>= λ ds. made (cs ++ ds))
   row_runs n m now first more one_runs more_run =
       then_runs [] bodies_of bodies_of n m now first (λ cs then. more then >>= λ ds. made (cs ++ ds)) one_runs
@@ -233,7 +233,7 @@ module _ (ns : List ℕ) where
       (framed (bodies_of cs) bodies_of m mid (more mid) (more_run mid)) (λ ds then. behind_runs cs ds then))
 
   -- a definition
-  define_runs : (name : Defined) (combine : Combine) (p : WrittenPattern) (now : Making) →
+  define_runs : (name : Defined) (combine : Combine) (p : WrittenPattern) (now : Stock) →
       Runs [] one (length (mentions p)) now (make ns p now) →
       Runs [] bodies_of (length (mentions p)) now (make ns p now >>= λ i. made (record { name = name; combine = combine; body = i } ∷ []))
   define_runs name combine p now runs =
@@ -242,7 +242,7 @@ module _ (ns : List ℕ) where
       (λ i mid. made_runs bodies_of (record { name = name; combine = combine; body = i } ∷ []) mid)
 
   mutual
-    pub pattern_runs : (p : WrittenPattern) (now : Making) → Runs [] one (length (mentions p)) now (make ns p now)
+    pub pattern_runs : (p : WrittenPattern) (now : Stock) → Runs [] one (length (mentions p)) now (make ns p now)
     pattern_runs (written.element class p) now = around p (λ i. cell.element (class_in ns class) i) now (λ i. refl) (pattern_runs p now)
     pattern_runs (written.attribute class p) now = around p (λ i. cell.attribute (class_in ns class) i) now (λ i. refl) (pattern_runs p now)
     pattern_runs (written.list p) now = around p (λ i. cell.listed i) now (λ i. refl) (pattern_runs p now)
@@ -278,7 +278,7 @@ module _ (ns : List ℕ) where
     pattern_runs (written.group p q) now = between sign.Group p q now (pattern_runs p now) (λ mid. pattern_runs q mid)
     pattern_runs (written.interleave p q) now = between sign.Interleave p q now (pattern_runs p now) (λ mid. pattern_runs q mid)
 
-    pub item_runs : (item : WrittenItem) (now : Making) → Runs [] bodies_of (length (mentions_of_item item)) now (make_item ns item now)
+    pub item_runs : (item : WrittenItem) (now : Stock) → Runs [] bodies_of (length (mentions_of_item item)) now (make_item ns item now)
     item_runs (written.define name combine p) now = define_runs name combine p now (pattern_runs p now)
     item_runs (written.div items) now = items_run items now
     item_runs (written.include reference replacements) now =
@@ -292,7 +292,7 @@ module _ (ns : List ℕ) where
         (framed (bodies_of old) bodies_of (length (mentions_anew replacements)) mid (make_anew ns replacements mid)
         (anew_run replacements mid)) (λ new then. replaced_runs (defines_all old new) old new then)))
 
-    pub items_run : (items : WrittenItems) (now : Making) →
+    pub items_run : (items : WrittenItems) (now : Stock) →
         Runs [] bodies_of (length (mentions_of_items items)) now (make_items ns items now)
     items_run written.no_items now = made_runs bodies_of [] now
     items_run (written.item_then item items) now =
@@ -302,12 +302,12 @@ module _ (ns : List ℕ) where
         (row_runs (length (mentions_of_item item)) (length (mentions_of_items items)) now (make_item ns item now)
         (λ then. make_items ns items then) (item_runs item now) (λ mid. items_run items mid))
 
-    pub replacement_runs : (replacement : WrittenReplacement) (now : Making) →
+    pub replacement_runs : (replacement : WrittenReplacement) (now : Stock) →
         Runs [] bodies_of (length (mentions_of_replacement replacement)) now (make_replacement ns replacement now)
     replacement_runs (written.define_anew name combine p) now = define_runs name combine p now (pattern_runs p now)
     replacement_runs (written.div_anew replacements) now = anew_run replacements now
 
-    pub anew_run : (replacements : WrittenReplacements) (now : Making) →
+    pub anew_run : (replacements : WrittenReplacements) (now : Stock) →
         Runs [] bodies_of (length (mentions_anew replacements)) now (make_anew ns replacements now)
     anew_run written.no_replacements now = made_runs bodies_of [] now
     anew_run (written.replacement_then replacement replacements) now =
@@ -320,18 +320,18 @@ module _ (ns : List ℕ) where
         (λ mid. anew_run replacements mid))
 
   -- a whole file
-  lone_runs : (p : WrittenPattern) (now : Making) → Runs [] piece_nodes (length (mentions p)) now (lone_made ns p now)
+  lone_runs : (p : WrittenPattern) (now : Stock) → Runs [] piece_nodes (length (mentions p)) now (lone_made ns p now)
   lone_runs p now =
       last_runs [] one piece_nodes (length (mentions p)) now (make ns p now) (λ root. made (of_pattern root)) (pattern_runs p now)
       (λ root mid. made_runs piece_nodes (of_pattern root) mid)
 
-  grammar_file_runs : (items : WrittenItems) (now : Making) →
+  grammar_file_runs : (items : WrittenItems) (now : Stock) →
       Runs [] piece_nodes (length (mentions_of_items items)) now (make_file ns (written.a_grammar items) now)
   grammar_file_runs items now =
       last_runs [] bodies_of piece_nodes (length (mentions_of_items items)) now (make_items ns items now)
       (λ clauses. made (of_grammar clauses)) (items_run items now) (λ clauses mid. made_runs piece_nodes (of_grammar clauses) mid)
 
-  pub file_runs : (surface : WrittenSurface) (now : Making) →
+  pub file_runs : (surface : WrittenSurface) (now : Stock) →
       Runs [] piece_nodes (length (mentions_of surface)) now (make_file ns surface now)
   file_runs (written.a_grammar items) now = grammar_file_runs items now
   file_runs (written.a_pattern (written.grammar items)) now = grammar_file_runs items now

@@ -4,9 +4,9 @@ use Rattle.rng_simplify.specs.declared.node.Clause.{Clause}
 use Rattle.rng_simplify.specs.Cells.{Cell}
 use Rattle.rng_simplify.specs.Cells as cell
 use Rattle.rng_simplify.specs.Composed.{Clauses}
-use Rattle.rng_simplify.specs.Denoting.{IsCell, Denotes, DenoteAll}
+use Rattle.rng_simplify.specs.CellMeanings.{IsCell, Denotes, DenoteAll}
 use Rattle.rng_simplify.specs.Places.{Place, place}
-use Rattle.rng_simplify.specs.Standing.{cell_parts, inner_nodes, AreWellFormed, Stands, the_root, a_part, a_content, a_definition, AreScopes, no_scopes, further_scope}
+use Rattle.rng_simplify.specs.NodePlaces.{cell_parts, inner_nodes, AreWellFormed, Stands, the_root, a_part, a_content, a_definition, AreScopes, no_scopes, further_scope}
 use Rattle.rng_simplify.proofs.Nodes.{in_none, in_first, in_one, one_cell, denotes_one, denote_all_one}
 
 -- the grammars around what stands directly in a node

@@ -13,13 +13,13 @@ use Rattle.rng_simplify.specs.Cells.{Cell}
 use Rattle.rng_simplify.specs.Cells as cell
 use Rattle.rng_simplify.specs.Composed.{Composed, Clauses}
 use Rattle.rng_simplify.specs.Composed as composed
-use Rattle.rng_simplify.specs.Denoting.{IsCell, Denotes}
-use Rattle.rng_simplify.specs.Forming.{form_of, IsBefore, IsInOrder, AreForms}
+use Rattle.rng_simplify.specs.CellMeanings.{IsCell, Denotes}
+use Rattle.rng_simplify.specs.NodeForms.{form_of, IsBefore, IsInOrder, AreForms}
 use Rattle.rng_simplify.specs.Places.{place, Occurs}
-use Rattle.rng_simplify.specs.Resolving.{number_at, IsResolved, IsOrdered}
+use Rattle.rng_simplify.specs.ResolvedNodes.{number_at, IsResolved, IsOrdered}
 use Rattle.rng_simplify.specs.Simple.{Simple}
-use Rattle.rng_simplify.specs.Standing.{Stands, a_part, IsStanding}
-use Rattle.rng_simplify.specs.Typing.{HasNoValueType, HasNoTypeTaken, HasNoType, IsFirstRefused}
+use Rattle.rng_simplify.specs.NodePlaces.{Stands, a_part, IsStanding}
+use Rattle.rng_simplify.specs.NodeTypes.{HasNoValueType, HasNoTypeTaken, HasNoType, IsFirstRefused}
 use Rattle.rng_simplify.proofs.Forming.{cell_leads_are}
 use Rattle.rng_simplify.proofs.Nodes.{in_first, denoted_by, HasPlace, place_of}
 use Rattle.rng_simplify.proofs.Simplifying.{in_order, in_place, node_is_simple, taken_of}

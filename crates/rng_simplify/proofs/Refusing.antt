@@ -20,13 +20,13 @@ use Rattle.rng_simplify.specs.Classes.{class_in}
 use Rattle.rng_simplify.specs.Cells.{Cell}
 use Rattle.rng_simplify.specs.Cells as cell
 use Rattle.rng_simplify.specs.Composed.{Clauses, end_of_clauses, clause_then, then_clauses, names_of, defines}
-use Rattle.rng_simplify.specs.Composing.{Context, top, Says, Opens, grammar_items, Gathers, GathersAnew, none_anew, definition_anew, division_anew}
+use Rattle.rng_simplify.specs.ComposedFiles.{Context, top, Says, Opens, grammar_items, Gathers, GathersAnew, none_anew, definition_anew, division_anew}
 use Rattle.rng_simplify.specs.Composition.{RefusedIsBroken}
-use Rattle.rng_simplify.specs.Denoting.{DenoteAll, none_denoted, next_denoted}
-use Rattle.rng_simplify.specs.Loading.{Waiting, waiting_in, AreRead, all_read, one_read, AreLoaded, AllLoaded}
-use Rattle.rng_simplify.specs.Making.{Making, Outcome, made, refused, no_piece, ◌>>=◌, FilePiece, of_pattern, of_grammar, cell_made, or_empty_made, next_piece, as_pattern, as_grammar, next_pattern, next_grammar, make, make_item, make_items, make_replacement, make_anew, replaced_if, defines_all, with_new, is_defined, make_file, lone_made, file_made, files_made, nothing_made, whole_made}
+use Rattle.rng_simplify.specs.CellMeanings.{DenoteAll, none_denoted, next_denoted}
+use Rattle.rng_simplify.specs.LoadedFiles.{Waiting, waiting_in, AreRead, all_read, one_read, AreLoaded, AllLoaded}
+use Rattle.rng_simplify.specs.MadeCells.{Stock, Outcome, made, refused, no_piece, ◌>>=◌, FilePiece, of_pattern, of_grammar, cell_made, or_empty_made, next_piece, as_pattern, as_grammar, next_pattern, next_grammar, make, make_item, make_items, make_replacement, make_anew, replaced_if, defines_all, with_new, is_defined, make_file, lone_made, file_made, files_made, nothing_made, whole_made}
 use Rattle.rng_simplify.specs.References.{Mention, an_include, reference_of, mentions, mentions_of, mentions_of_item, mentions_of_items, mentions_of_replacement, mentions_anew, names_anew, Reached, the_first, a_further, Mentions}
-use Rattle.rng_simplify.specs.Supplying.{a_pattern_piece, a_grammar_piece, Supplies, one_further, IsMadeOf}
+use Rattle.rng_simplify.specs.SuppliedPieces.{a_pattern_piece, a_grammar_piece, Supplies, one_further, IsMadeOf}
 use Rattle.rng_simplify.proofs.Growing.{one_more, denote_all_on}
 use Rattle.rng_simplify.proofs.Made.{supplies_on, pattern_is, items_is, anew_is, ItemsMade, AnewMade, GrammarMade, included_is}
 use Rattle.rng_simplify.proofs.OnePiece.{SuppliesAll, supplied_first, walk_made}
@@ -36,24 +36,24 @@ use Rattle.rng_simplify.proofs.Walking.{file_last}
 -- ---- steps
 
 -- the first step refuses, or the one behind what it made
-pub record RefusedBehind {A B : Type 0} (outcome : Outcome A) (more : A → Making → Outcome B) (why : Cause) : Type 0 where
+pub record RefusedBehind {A B : Type 0} (outcome : Outcome A) (more : A → Stock → Outcome B) (why : Cause) : Type 0 where
   pub value : A
-  pub mid : Making
+  pub mid : Stock
   pub first : outcome ≡ made value mid
   pub second : more value mid ≡ refused why
 
-either_refused : {A B : Type 0} → (outcome : Outcome A) (more : A → Making → Outcome B) (why : Cause) → (outcome >>= more) ≡ refused why →
+either_refused : {A B : Type 0} → (outcome : Outcome A) (more : A → Stock → Outcome B) (why : Cause) → (outcome >>= more) ≡ refused why →
     (outcome ≡ refused why) ⊎ RefusedBehind outcome more why
 either_refused (made value mid) more why h = inr (record { value = value; mid = mid; first = refl; second = h })
 either_refused (refused cause) more why h = inl (let e : cause ≡ why = cc in ap refused e)
 either_refused no_piece more why h = let never : ⊥ = cc in absurd never
 
-never_refused : {A : Type 0} → (value : A) (now : Making) (why : Cause) → made value now ≡ refused why → ⊥
+never_refused : {A : Type 0} → (value : A) (now : Stock) (why : Cause) → made value now ≡ refused why → ⊥
 never_refused value now why h = let never : ⊥ = cc in never
 
 -- the first step refuses, where none behind it does
-only_first : {A B : Type 0} → (outcome : Outcome A) (more : A → Making → Outcome B) (why : Cause) →
-    ((value : A) (mid : Making) → more value mid ≡ refused why → ⊥) → (outcome >>= more) ≡ refused why → outcome ≡ refused why
+only_first : {A B : Type 0} → (outcome : Outcome A) (more : A → Stock → Outcome B) (why : Cause) →
+    ((value : A) (mid : Stock) → more value mid ≡ refused why → ⊥) → (outcome >>= more) ≡ refused why → outcome ≡ refused why
 only_first outcome more why never h = at (either_refused outcome more why h)
   where
     at : (outcome ≡ refused why) ⊎ RefusedBehind outcome more why → outcome ≡ refused why
@@ -122,10 +122,10 @@ module _ (files : FileMap) (context : Context) where
   on_right xs ys why (nothing_replaced among opens some gathers anew undefined) =
       nothing_replaced (Contains-append_right xs ys _ among) opens some gathers anew undefined
 
-cell_never : (c : Cell) (now : Making) (why : Cause) → cell_made c now ≡ refused why → ⊥
+cell_never : (c : Cell) (now : Stock) (why : Cause) → cell_made c now ≡ refused why → ⊥
 cell_never c now why h = let never : ⊥ = cc in never
 
-or_empty_never : (i : ℕ) (now : Making) (why : Cause) → or_empty_made i now ≡ refused why → ⊥
+or_empty_never : (i : ℕ) (now : Stock) (why : Cause) → or_empty_made i now ≡ refused why → ⊥
 or_empty_never i now why h = let never : ⊥ = cc in never
 
 pub next_pattern_never : (cells : List Cell) (pieces : List FilePiece) (why : Cause) →
@@ -138,19 +138,19 @@ pub record NotReplaced (b : Bool) (why : Cause) : Type 0 where
   pub not_all : b ≡ false
   pub why_is : cause.NoDefinition ≡ why
 
-not_replaced : (b : Bool) (clauses : List Clause) (now : Making) (why : Cause) → replaced_if b clauses now ≡ refused why → NotReplaced b why
+not_replaced : (b : Bool) (clauses : List Clause) (now : Stock) (why : Cause) → replaced_if b clauses now ≡ refused why → NotReplaced b why
 not_replaced true clauses now why h = let never : ⊥ = cc in absurd never
 not_replaced false clauses now why h = record { not_all = refl; why_is = let e : cause.NoDefinition ≡ why = cc in e }
 
 module _ (files : FileMap) (number : ℕ → ℕ) (context : Context) where
-  abbrev Supplied : List Mention → Making → Type 0
+  abbrev Supplied : List Mention → Stock → Type 0
   Supplied all now = Supplies files number context now.cells all now.pieces
 
-  supplied_as : (xs ys : List Mention) (now : Making) → xs ≡ ys → Supplied xs now → Supplied ys now
+  supplied_as : (xs ys : List Mention) (now : Stock) → xs ≡ ys → Supplied xs now → Supplied ys now
   supplied_as xs ys now same supplied = subst (λ ms. Supplied ms now) same supplied
 
   -- what is left behind an item
-  after_item : (item : WrittenItem) (more : List Mention) (clauses : List Clause) (old mid : Making) →
+  after_item : (item : WrittenItem) (more : List Mention) (clauses : List Clause) (old mid : Stock) →
       Supplied (mentions_of_item item ++ more) old → make_item context.inherited item old ≡ made clauses mid → Supplied more mid
   after_item item more clauses old mid supplied is =
       let alone : ItemsMade files number context (written.item_then item written.no_items) more (clauses ++ []) old mid =
@@ -161,7 +161,7 @@ module _ (files : FileMap) (number : ℕ → ℕ) (context : Context) where
       is) in
       alone.part.left
 
-  after_replacement : (replacement : WrittenReplacement) (more : List Mention) (clauses : List Clause) (old mid : Making) →
+  after_replacement : (replacement : WrittenReplacement) (more : List Mention) (clauses : List Clause) (old mid : Stock) →
       Supplied (mentions_of_replacement replacement ++ more) old → make_replacement context.inherited replacement old ≡ made clauses mid →
       Supplied more mid
   after_replacement replacement more clauses old mid supplied is =
@@ -180,9 +180,9 @@ module _ (files : FileMap) (number : ℕ → ℕ) (context : Context) where
   Refused = RefusedIn files context
 
   -- one of two things is refused
-  one_of_two : {A B : Type 0} → (xs ys : List Mention) (why : Cause) (outcome : Outcome A) (more : A → Making → Outcome B) →
+  one_of_two : {A B : Type 0} → (xs ys : List Mention) (why : Cause) (outcome : Outcome A) (more : A → Stock → Outcome B) →
       (outcome ≡ refused why → Refused xs why) →
-      ((value : A) (mid : Making) → outcome ≡ made value mid → more value mid ≡ refused why → Refused ys why) →
+      ((value : A) (mid : Stock) → outcome ≡ made value mid → more value mid ≡ refused why → Refused ys why) →
       (outcome >>= more) ≡ refused why → Refused (xs ++ ys) why
   one_of_two xs ys why outcome more first second h = at (either_refused outcome more why h)
     where
@@ -200,7 +200,7 @@ module _ (files : FileMap) (number : ℕ → ℕ) (context : Context) where
       let never : ⊥ = cc in absurd never
 
   replaced_refused : (reference : FileReference) (replacements : WrittenReplacements) (more : List Mention) (why : Cause)
-      (old mid new : Making) (before anew : List Clause) → GrammarMade files number context reference (mentions_anew replacements ++ more)
+      (old mid new : Stock) (before anew : List Clause) → GrammarMade files number context reference (mentions_anew replacements ++ more)
       before old mid → make_anew context.inherited replacements mid ≡ made anew new →
       replaced_if (defines_all before anew) (with_new before anew) new ≡ refused why → Refused (an_include reference replacements ∷ []) why
   replaced_refused reference replacements more why old mid new before anew file made_anew is =
@@ -215,9 +215,9 @@ module _ (files : FileMap) (number : ℕ → ℕ) (context : Context) where
       undefined.undefined)
 
   -- an include is refused: for its file, for a name that the file doesn't define, or for what is in its braces
-  include_refused : (reference : FileReference) (replacements : WrittenReplacements) (more : List Mention) (why : Cause) (old : Making) →
+  include_refused : (reference : FileReference) (replacements : WrittenReplacements) (more : List Mention) (why : Cause) (old : Stock) →
       Supplied (an_include reference replacements ∷ (mentions_anew replacements ++ more)) old →
-      ((mid : Making) → Supplied (mentions_anew replacements ++ more) mid → make_anew context.inherited replacements mid ≡ refused why →
+      ((mid : Stock) → Supplied (mentions_anew replacements ++ more) mid → make_anew context.inherited replacements mid ≡ refused why →
       Refused (mentions_anew replacements) why) → make_item context.inherited (written.include reference replacements) old ≡ refused why →
       Refused (an_include reference replacements ∷ mentions_anew replacements) why
   include_refused reference replacements more why old supplied inside is =
@@ -228,7 +228,7 @@ module _ (files : FileMap) (number : ℕ → ℕ) (context : Context) where
           Refused (an_include reference replacements ∷ mentions_anew replacements) why
       here_or r = on_left files context (an_include reference replacements ∷ []) (mentions_anew replacements) why r
 
-      at_braces : (before : List Clause) (mid : Making) → GrammarMade files number context reference (mentions_anew replacements ++ more)
+      at_braces : (before : List Clause) (mid : Stock) → GrammarMade files number context reference (mentions_anew replacements ++ more)
           before old mid → (make_anew context.inherited replacements mid ≡ refused why) ⊎ RefusedBehind
           (make_anew context.inherited replacements mid) (λ anew. replaced_if (defines_all before anew) (with_new before anew)) why →
           Refused (an_include reference replacements ∷ mentions_anew replacements) why
@@ -248,7 +248,7 @@ module _ (files : FileMap) (number : ℕ → ℕ) (context : Context) where
           (λ anew. replaced_if (defines_all b.value anew) (with_new b.value anew)) why b.second)
 
   mutual
-    pattern_refused : (p : WrittenPattern) (more : List Mention) (why : Cause) (old : Making) → Supplied (mentions p ++ more) old →
+    pattern_refused : (p : WrittenPattern) (more : List Mention) (why : Cause) (old : Stock) → Supplied (mentions p ++ more) old →
         make context.inherited p old ≡ refused why → Refused (mentions p) why
     pattern_refused (written.element class p) more why old supplied is =
         pattern_refused p more why old supplied
@@ -276,7 +276,7 @@ module _ (files : FileMap) (number : ℕ → ℕ) (context : Context) where
         (λ i mid h. or_empty_never (length mid.cells) (record { cells = mid.cells ++ cell.one_or_more i ∷ []; pieces = mid.pieces }) why
         h) is)
     pattern_refused (written.mixed p) more why old supplied is =
-        let mid : Making = record { cells = old.cells ++ cell.any_text ∷ []; pieces = old.pieces } in
+        let mid : Stock = record { cells = old.cells ++ cell.any_text ∷ []; pieces = old.pieces } in
         pattern_refused p more why mid (supplies_on (one_more old.cells cell.any_text) supplied)
         (only_first (make context.inherited p mid) (λ i. cell_made (cell.joined sign.Interleave (length old.cells) i)) why
         (λ i then h. cell_never (cell.joined sign.Interleave (length old.cells) i) then why h) is)
@@ -328,7 +328,7 @@ module _ (files : FileMap) (number : ℕ → ℕ) (context : Context) where
         (only_first (make context.inherited q mid) (λ j. cell_made (cell.joined sign.Interleave i j)) why
         (λ j then n. cell_never (cell.joined sign.Interleave i j) then why n) k)) is
 
-    item_refused : (item : WrittenItem) (more : List Mention) (why : Cause) (old : Making) → Supplied (mentions_of_item item ++ more) old →
+    item_refused : (item : WrittenItem) (more : List Mention) (why : Cause) (old : Stock) → Supplied (mentions_of_item item ++ more) old →
         make_item context.inherited item old ≡ refused why → Refused (mentions_of_item item) why
     item_refused (written.define name combine p) more why old supplied is =
         pattern_refused p more why old supplied
@@ -338,7 +338,7 @@ module _ (files : FileMap) (number : ℕ → ℕ) (context : Context) where
     item_refused (written.include reference replacements) more why old supplied is =
         include_refused reference replacements more why old supplied (λ mid left h. anew_refused replacements more why mid left h) is
 
-    items_refused : (items : WrittenItems) (more : List Mention) (why : Cause) (old : Making) →
+    items_refused : (items : WrittenItems) (more : List Mention) (why : Cause) (old : Stock) →
         Supplied (mentions_of_items items ++ more) old → make_items context.inherited items old ≡ refused why →
         Refused (mentions_of_items items) why
     items_refused written.no_items more why old supplied is = absurd (never_refused [] old why is)
@@ -354,7 +354,7 @@ module _ (files : FileMap) (number : ℕ → ℕ) (context : Context) where
         (only_first (make_items context.inherited items mid) (λ second. made (first ++ second)) why
         (λ second then n. never_refused (first ++ second) then why n) k)) is
 
-    replacement_refused : (replacement : WrittenReplacement) (more : List Mention) (why : Cause) (old : Making) →
+    replacement_refused : (replacement : WrittenReplacement) (more : List Mention) (why : Cause) (old : Stock) →
         Supplied (mentions_of_replacement replacement ++ more) old → make_replacement context.inherited replacement old ≡ refused why →
         Refused (mentions_of_replacement replacement) why
     replacement_refused (written.define_anew name combine p) more why old supplied is =
@@ -363,7 +363,7 @@ module _ (files : FileMap) (number : ℕ → ℕ) (context : Context) where
         (λ i mid h. never_refused (record { name = name; combine = combine; body = i } ∷ []) mid why h) is)
     replacement_refused (written.div_anew replacements) more why old supplied is = anew_refused replacements more why old supplied is
 
-    anew_refused : (replacements : WrittenReplacements) (more : List Mention) (why : Cause) (old : Making) →
+    anew_refused : (replacements : WrittenReplacements) (more : List Mention) (why : Cause) (old : Stock) →
         Supplied (mentions_anew replacements ++ more) old → make_anew context.inherited replacements old ≡ refused why →
         Refused (mentions_anew replacements) why
     anew_refused written.no_replacements more why old supplied is = absurd (never_refused [] old why is)
@@ -382,14 +382,14 @@ module _ (files : FileMap) (number : ℕ → ℕ) (context : Context) where
 
   -- ---- files
 
-  lone_refused : (p : WrittenPattern) (why : Cause) (old : Making) → Supplied (mentions p) old →
+  lone_refused : (p : WrittenPattern) (why : Cause) (old : Stock) → Supplied (mentions p) old →
       lone_made context.inherited p old ≡ refused why → Refused (mentions p) why
   lone_refused p why old supplied is =
       pattern_refused p [] why old (supplied_as (mentions p) (mentions p ++ []) old (sym (append-nil (mentions p))) supplied)
       (only_first (make context.inherited p old) (λ root. made (of_pattern root)) why (λ root mid h. never_refused (of_pattern root) mid
       why h) is)
 
-  grammar_file_refused : (items : WrittenItems) (why : Cause) (old : Making) → Supplied (mentions_of_items items) old →
+  grammar_file_refused : (items : WrittenItems) (why : Cause) (old : Stock) → Supplied (mentions_of_items items) old →
       (make_items context.inherited items old >>= λ clauses. made (of_grammar clauses)) ≡ refused why →
       Refused (mentions_of_items items) why
   grammar_file_refused items why old supplied is =
@@ -397,7 +397,7 @@ module _ (files : FileMap) (number : ℕ → ℕ) (context : Context) where
       (sym (append-nil (mentions_of_items items))) supplied) (only_first (make_items context.inherited items old)
       (λ clauses. made (of_grammar clauses)) why (λ clauses mid h. never_refused (of_grammar clauses) mid why h) is)
 
-  file_refused : (surface : WrittenSurface) (why : Cause) (old : Making) → Supplied (mentions_of surface) old →
+  file_refused : (surface : WrittenSurface) (why : Cause) (old : Stock) → Supplied (mentions_of surface) old →
       make_file context.inherited surface old ≡ refused why → Refused (mentions_of surface) why
   file_refused (written.a_grammar items) why old supplied is = grammar_file_refused items why old supplied is
   file_refused (written.a_pattern (written.grammar items)) why old supplied is = grammar_file_refused items why old supplied is
@@ -467,11 +467,11 @@ module _ (files : FileMap) (uri : List ℕ) where
   inner_of waiting inner surface mentioned opens =
       subst (λ c. Inner c surface) (sym opens.inner_is)
       (record {
-        reached = a_further mentioned.reached mentioned.says mentioned.mentioned opens.joined opens.no_loop;
+        reached = a_further mentioned.reached mentioned.says mentioned.mentioned opens.refers opens.no_loop;
         says = opens.says;
       })
 
-  one_refused : (context : Context) (file : Loaded) (more : List Waiting) (why : Cause) (now : Making) →
+  one_refused : (context : Context) (file : Loaded) (more : List Waiting) (why : Cause) (now : Stock) →
       file.inherited ≡ context.inherited → Inner context (surface_of file.surface) →
       SuppliesAll files (λ i. i) now.cells (waiting_in context (mentions_of (surface_of file.surface)) ++ more) now.pieces →
       file_made file now ≡ refused why → IsBroken files uri why

@@ -17,7 +17,7 @@ use Rattle.rng_core.specs.Meaning.{pattern_of, definitions_of}
 use Rattle.rng_core.specs.Patterns.{Pattern, Definition}
 use Rattle.rng_simplify.specs.declared.fault.SchemaFault.{SchemaFault}
 use Rattle.rng_simplify.specs.declared.fault.SchemaFault.TheVariants as fault
-use Rattle.rng_simplify.specs.Agreeing.{ArePassed}
+use Rattle.rng_simplify.specs.Unambiguous.{ArePassed}
 use Rattle.rng_simplify.specs.Broken.{Has, IsUndefined, HasNoStart, clash, HasClash, LeadsBack, HasBadExcept, HasXmlnsName, HasRefusedType, IsBadValue, IsUnsupported, HasTooManyExcepts, node_limit, nodes_of_all, IsTooDeep, IsTooLarge, WholeIsBroken, PieceIsBroken, IsBroken}
 use Rattle.rng_simplify.specs.Composed.{Composed, Clauses, end_of_clauses, clause_then, same_defined, defines, defining, combines, bodies}
 use Rattle.rng_simplify.specs.Composed as composed

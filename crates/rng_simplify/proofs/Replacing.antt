@@ -6,9 +6,9 @@ use Rattle.rnc_parse.specs.declared.surface.Defined.{Defined}
 use Rattle.rng_simplify.specs.declared.node.Clause.{Clause}
 use Rattle.rng_simplify.specs.Cells.{Cell}
 use Rattle.rng_simplify.specs.Composed.{Composed, Clauses, end_of_clauses, clause_then, then_clauses, same_defined, defines, but_for, names_of}
-use Rattle.rng_simplify.specs.Composing.{DefinesEach}
-use Rattle.rng_simplify.specs.Denoting.{Denotes, DenoteAll, none_denoted, next_denoted}
-use Rattle.rng_simplify.specs.Making.{is_defined, defines_all, with_new}
+use Rattle.rng_simplify.specs.ComposedFiles.{DefinesEach}
+use Rattle.rng_simplify.specs.CellMeanings.{Denotes, DenoteAll, none_denoted, next_denoted}
+use Rattle.rng_simplify.specs.MadeCells.{is_defined, defines_all, with_new}
 
 or_if : (b r s : Bool) → r ≡ s → (b || r) ≡ (if b then true else s)
 or_if true r s same = refl

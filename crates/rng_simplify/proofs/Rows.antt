@@ -16,10 +16,10 @@ use Rattle.rng_simplify.specs.declared.node.Sign.TheVariants as sign
 use Rattle.rng_simplify.specs.Cells as cell
 use Rattle.rng_simplify.specs.Rows.{join_by, none_by}
 use Rattle.rng_simplify.specs.declared.node.Clause.{Clause}
-use Rattle.rng_simplify.specs.Making.{Making, Outcome, made, refused, no_piece, ◌>>=◌, cell_made, make, make_next, make_behind, make_row, none_made, behind}
+use Rattle.rng_simplify.specs.MadeCells.{Stock, Outcome, made, refused, no_piece, ◌>>=◌, cell_made, make, make_next, make_behind, make_row, none_made, behind}
 
 -- steps one after another
-pub then_again : {A B C : Type 0} → (outcome : Outcome A) (f : A → Making → Outcome B) (g : B → Making → Outcome C) → ((outcome >>= f) >>= g) ≡ (outcome >>= λ a now. f a now >>= g)
+pub then_again : {A B C : Type 0} → (outcome : Outcome A) (f : A → Stock → Outcome B) (g : B → Stock → Outcome C) → ((outcome >>= f) >>= g) ≡ (outcome >>= λ a now. f a now >>= g)
 then_again (made value now) f g = refl
 then_again (refused why) f g = refl
 then_again no_piece f g = refl
@@ -29,25 +29,25 @@ then_nothing (made value now) = refl
 then_nothing (refused why) = refl
 then_nothing no_piece = refl
 
-pub joined_made : (ns : List ℕ) (by : Sign) (p q : WrittenPattern) (now : Making) → make ns (join_by by p q) now ≡ (make ns p now >>= λ i then. make ns q then >>= λ j. cell_made (cell.joined by i j))
+pub joined_made : (ns : List ℕ) (by : Sign) (p q : WrittenPattern) (now : Stock) → make ns (join_by by p q) now ≡ (make ns p now >>= λ i then. make ns q then >>= λ j. cell_made (cell.joined by i j))
 joined_made ns sign.Choice p q now = refl
 joined_made ns sign.Group p q now = refl
 joined_made ns sign.Interleave p q now = refl
 
-pub none_joined_made : (ns : List ℕ) (by : Sign) (now : Making) → make ns (none_by by) now ≡ none_made by now
+pub none_joined_made : (ns : List ℕ) (by : Sign) (now : Stock) → make ns (none_by by) now ≡ none_made by now
 none_joined_made ns sign.Choice now = refl
 none_joined_made ns sign.Group now = refl
 none_joined_made ns sign.Interleave now = refl
 
 -- patterns behind one are made behind it
-row_behind : (ns : List ℕ) (by : Sign) (n : _) (before : WrittenPattern) (row : pattern.Row_of-Pattern n) (now : Making) → make ns (patterns_behind (join_by by) before row) now ≡ (make ns before now >>= λ i. make_behind ns by i (pattern.items-the_row-Pattern n row))
+row_behind : (ns : List ℕ) (by : Sign) (n : _) (before : WrittenPattern) (row : pattern.Row_of-Pattern n) (now : Stock) → make ns (patterns_behind (join_by by) before row) now ≡ (make ns before now >>= λ i. make_behind ns by i (pattern.items-the_row-Pattern n row))
 row_behind ns by n before pattern.end_of-Pattern now = sym (then_nothing (make ns before now))
 row_behind ns by n before (pattern.more_of-Pattern next row) now =
     row_behind ns by _ (join_by by before (pattern_of next)) row now
     ∙ ap (λ outcome. outcome >>= λ i. make_behind ns by i (pattern.items-the_row-Pattern _ row)) (joined_made ns by before (pattern_of next) now)
     ∙ then_again (make ns before now) (λ i. make_next ns by (Some i) next) (λ i. make_behind ns by i (pattern.items-the_row-Pattern _ row))
 
-row_made : (ns : List ℕ) (by : Sign) (n : _) (row : pattern.Row_of-Pattern n) (now : Making) → make ns (patterns_of (join_by by) (none_by by) row) now ≡ make_row ns by (pattern.items-the_row-Pattern n row) now
+row_made : (ns : List ℕ) (by : Sign) (n : _) (row : pattern.Row_of-Pattern n) (now : Stock) → make ns (patterns_of (join_by by) (none_by by) row) now ≡ make_row ns by (pattern.items-the_row-Pattern n row) now
 row_made ns by n pattern.end_of-Pattern now = none_joined_made ns by now
 row_made ns by n (pattern.more_of-Pattern first row) now = row_behind ns by _ (pattern_of first) row now
 
@@ -58,28 +58,28 @@ row_in (pattern.Interleave' shape row) = (_, row)
 row_in _ = (_, pattern.end_of-Pattern)
 
 -- what is made of patterns joined by a sign, by the list of them
-pub choice_seen : (ns : List ℕ) (patterns : Vec Pattern Global) (now : Making) → make_row ns sign.Choice patterns.items now ≡ make ns (pattern_of (pattern.Choice patterns)) now
+pub choice_seen : (ns : List ℕ) (patterns : Vec Pattern Global) (now : Stock) → make_row ns sign.Choice patterns.items now ≡ make ns (pattern_of (pattern.Choice patterns)) now
 choice_seen ns patterns now =
     let row = row_in (pattern.Choice patterns) in
     sym (row_made ns sign.Choice row.0 row.1 now ∙ ap (λ ps. make_row ns sign.Choice ps now) (pattern.items_hidden-the_row-Pattern-2 patterns))
 
-pub group_seen : (ns : List ℕ) (patterns : Vec Pattern Global) (now : Making) → make_row ns sign.Group patterns.items now ≡ make ns (pattern_of (pattern.Group patterns)) now
+pub group_seen : (ns : List ℕ) (patterns : Vec Pattern Global) (now : Stock) → make_row ns sign.Group patterns.items now ≡ make ns (pattern_of (pattern.Group patterns)) now
 group_seen ns patterns now =
     let row = row_in (pattern.Group patterns) in
     sym (row_made ns sign.Group row.0 row.1 now ∙ ap (λ ps. make_row ns sign.Group ps now) (pattern.items_hidden-the_row-Pattern-2 patterns))
 
-pub interleave_seen : (ns : List ℕ) (patterns : Vec Pattern Global) (now : Making) → make_row ns sign.Interleave patterns.items now ≡ make ns (pattern_of (pattern.Interleave patterns)) now
+pub interleave_seen : (ns : List ℕ) (patterns : Vec Pattern Global) (now : Stock) → make_row ns sign.Interleave patterns.items now ≡ make ns (pattern_of (pattern.Interleave patterns)) now
 interleave_seen ns patterns now =
     let row = row_in (pattern.Interleave patterns) in
     sym (row_made ns sign.Interleave row.0 row.1 now ∙ ap (λ ps. make_row ns sign.Interleave ps now) (pattern.items_hidden-the_row-Pattern-2 patterns))
 
 -- what is made of the patterns that are left, behind those that are joined so far, if there are some
-abbrev pub make_rest : List ℕ → Sign → Option ℕ → List Pattern → Making → Outcome ℕ
+abbrev pub make_rest : List ℕ → Sign → Option ℕ → List Pattern → Stock → Outcome ℕ
 make_rest ns by None rest now = make_row ns by rest now
 make_rest ns by (Some first) rest now = make_behind ns by first rest now
 
 -- the next one of these, and then the others
-pub rest_next : (ns : List ℕ) (by : Sign) (joined : Option ℕ) (next : Pattern) (more : List Pattern) (now : Making) → make_rest ns by joined (next ∷ more) now ≡ (make_next ns by joined next now >>= λ i. make_rest ns by (Some i) more)
+pub rest_next : (ns : List ℕ) (by : Sign) (joined : Option ℕ) (next : Pattern) (more : List Pattern) (now : Stock) → make_rest ns by joined (next ∷ more) now ≡ (make_next ns by joined next now >>= λ i. make_rest ns by (Some i) more)
 rest_next ns by None next more now = refl
 rest_next ns by (Some first) next more now = refl
 
@@ -137,7 +137,7 @@ behind_again before first (refused why) = refl
 behind_again before first no_piece = refl
 
 -- one item and those behind it, behind others
-pub behind_item : (before : List Clause) (first : Outcome (List Clause)) (more : Making → Outcome (List Clause)) → behind before (first >>= λ cs now. more now >>= λ ds. made (cs ++ ds)) ≡ (behind before first >>= λ cs now. behind cs (more now))
+pub behind_item : (before : List Clause) (first : Outcome (List Clause)) (more : Stock → Outcome (List Clause)) → behind before (first >>= λ cs now. more now >>= λ ds. made (cs ++ ds)) ≡ (behind before first >>= λ cs now. behind cs (more now))
 behind_item before (made cs now) more = sym (behind_again before cs (more now))
 behind_item before (refused why) more = refl
 behind_item before no_piece more = refl

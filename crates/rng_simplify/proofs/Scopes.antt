@@ -14,20 +14,20 @@ use Rattle.rng_simplify.specs.declared.resolve.Combined.{Combined}
 use Rattle.rng_simplify.specs.declared.resolve.Table.{Table}
 use Rattle.rng_simplify.specs.declared.resolve.Scope.{Scope}
 use Rattle.rng_simplify.specs.declared.resolve.Scope.TheVariants.{Nowhere, In}
-use Rattle.rng_simplify.specs.Breaking.{IsRefusal, OkOrRefused}
+use Rattle.rng_simplify.specs.Refusals.{IsRefusal, OkOrRefused}
 use Rattle.rng_simplify.specs.Broken.{Has, IsUndefined, HasNoStart, HasClash, clash}
 use Rattle.rng_simplify.specs.Cells.{Cell}
 use Rattle.rng_simplify.specs.Cells as cell
 use Rattle.rng_simplify.specs.Composed.{Composed, Clauses, same_defined, defines, defining, combines, bodies}
 use Rattle.rng_simplify.specs.Composed as composed
-use Rattle.rng_simplify.specs.Denoting.{IsCell, Denotes, DenoteAll, none_denoted, next_denoted}
-use Rattle.rng_simplify.specs.Keeping.{kept_named, kept_for}
-use Rattle.rng_simplify.specs.Standing.{cell_parts, bodies_of, inner_nodes, AreWellFormed, Stands, IsStanding, AreScopes}
-use Rattle.rng_simplify.specs.Standing as standing
-use Rattle.rng_simplify.specs.Resolving.{combined_number, clauses_of, combines_of, IsCombined, IsCombinedIn, IsCombinedOutside, IsOfGrammar}
+use Rattle.rng_simplify.specs.CellMeanings.{IsCell, Denotes, DenoteAll, none_denoted, next_denoted}
+use Rattle.rng_simplify.specs.NameTables.{kept_named, kept_for}
+use Rattle.rng_simplify.specs.NodePlaces.{cell_parts, bodies_of, inner_nodes, AreWellFormed, Stands, IsStanding, AreScopes}
+use Rattle.rng_simplify.specs.NodePlaces as standing
+use Rattle.rng_simplify.specs.ResolvedNodes.{combined_number, clauses_of, combines_of, IsCombined, IsCombinedIn, IsCombinedOutside, IsOfGrammar}
 use Rattle.rng_simplify.specs.declared.resolve.Target.{Target}
 use Rattle.rng_simplify.specs.declared.resolve.Target.TheVariants.{Nothing, Definitions}
-use Rattle.rng_simplify.specs.Scoping.{IsGatheredAs, KeepsFirst, Findings, given, with_given, with_link, outer_of, outer_in, combined_of_table, combined_in, Links, HasTable, TakesGrammar, TakesCell, IsKept, IsTable, IsScope, outside, inside, IsPosted, IsTaken, IsMidway}
+use Rattle.rng_simplify.specs.Findings.{IsGatheredAs, KeepsFirst, Findings, given, with_given, with_link, outer_of, outer_in, combined_of_table, combined_in, Links, HasTable, TakesGrammar, TakesCell, IsKept, IsTable, IsScope, outside, inside, IsPosted, IsTaken, IsMidway}
 use Rattle.rng_simplify.proofs.Nodes.{in_none, in_first, in_more, in_cases, one_cell, place_of, denoted_by}
 use Rattle.rng_simplify.proofs.Posts.{within, stands_in, stands_by, stands_once, one_grammar}
 

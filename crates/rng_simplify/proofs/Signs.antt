@@ -1,4 +1,4 @@
--- How definitions of one name are joined, with one more of them.
+-- How definitions of one name are combined, with one more of them.
 use Rattle.std.proofs.Common.{◌≡◌, refl, sym, ap, ◌∙◌, ℕ, ◌+◌, Bool, true, false, cond, List, [], ◌∷◌, ◌++◌, length, Some, None, arith, length-append}
 use Rattle.std.specs.Prelude.{◌&&◌, ◌||◌, nat_lt, filter}
 use Rattle.std.specs.List.{list_any}
@@ -12,7 +12,7 @@ use Rattle.std.proofs.lemmas.Option.{same_Some}
 use Rattle.rng_simplify.specs.declared.resolve.Combined.{Combined}
 use Rattle.rng_simplify.specs.Broken.{clash, is_alone, is_choice, is_interleave}
 use Rattle.rng_simplify.specs.Forms.{combine_of}
-use Rattle.rng_simplify.specs.Scoping.{HasSigns, both_say}
+use Rattle.rng_simplify.specs.Findings.{HasSigns, both_say}
 
 -- what the first that says something says of all
 abbrev TellsOf : Bool → Bool → Combine → Type 0

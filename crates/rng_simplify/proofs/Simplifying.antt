@@ -22,14 +22,14 @@ use Rattle.rng_simplify.specs.Cells.{Cell}
 use Rattle.rng_simplify.specs.Cells as cell
 use Rattle.rng_simplify.specs.Composed.{Composed, Clauses, end_of_clauses, clause_then, same_defined, defining, combines, bodies}
 use Rattle.rng_simplify.specs.Composed as composed
-use Rattle.rng_simplify.specs.Denoting.{IsCell, Denotes, DenoteAll, composed_by, none_denoted, next_denoted}
-use Rattle.rng_simplify.specs.Forms.{Form, Value, values_of, combine_of, join_of, choice_of, group_of, interleave_of}
+use Rattle.rng_simplify.specs.CellMeanings.{IsCell, Denotes, DenoteAll, composed_by, none_denoted, next_denoted}
+use Rattle.rng_simplify.specs.Forms.{Form, Value, values_of, combine_of, combined_by, choice_of, group_of, interleave_of}
 use Rattle.rng_simplify.specs.Forms as form
-use Rattle.rng_simplify.specs.Forming.{cell_form, bodies_form, form_of, IsBefore, IsInOrder, AreForms, AreTaken}
-use Rattle.rng_simplify.specs.Resolving.{link_at, number_at, target_at, cell_leads, clauses_of, combines_of, IsCombined, IsCombinedIn, IsCombinedOutside, IsResolved, leads, IsOrdered}
+use Rattle.rng_simplify.specs.NodeForms.{cell_form, bodies_form, form_of, IsBefore, IsInOrder, AreForms, AreTaken}
+use Rattle.rng_simplify.specs.ResolvedNodes.{link_at, number_at, target_at, cell_leads, clauses_of, combines_of, IsCombined, IsCombinedIn, IsCombinedOutside, IsResolved, leads, IsOrdered}
 use Rattle.rng_simplify.specs.Shown.{joined_form, joined_of, form_by, among, shown, form_at}
-use Rattle.rng_simplify.specs.Simple.{Simple, Defines, AreSimple, simple_element, simple_attribute, simple_list, simple_empty, simple_text, simple_not_allowed, simple_value, simple_type, simple_one_or_more, simple_choice, simple_group, simple_interleave, simple_grammar, simple_ref, simple_parent_ref, joined_in_order, none_simple, next_simple}
-use Rattle.rng_simplify.specs.Standing.{cell_parts, bodies_of, Stands, the_root, a_part, a_content, a_definition, IsStanding, AreScopes, further_scope}
+use Rattle.rng_simplify.specs.Simple.{Simple, Defines, AreSimple, simple_element, simple_attribute, simple_list, simple_empty, simple_text, simple_not_allowed, simple_value, simple_type, simple_one_or_more, simple_choice, simple_group, simple_interleave, simple_grammar, simple_ref, simple_parent_ref, combined_in_order, none_simple, next_simple}
+use Rattle.rng_simplify.specs.NodePlaces.{cell_parts, bodies_of, Stands, the_root, a_part, a_content, a_definition, IsStanding, AreScopes, further_scope}
 use Rattle.rng_simplify.proofs.Forming.{none_before, before_next, before_later, cell_leads_are, combination_leads_are}
 use Rattle.rng_simplify.proofs.Showing.{at_seam}
 use Rattle.rng_simplify.proofs.Nodes.{in_cases, in_first, in_more, one_cell, DenotesBy, cell_denoted}
@@ -180,7 +180,7 @@ parent_ref_simple (inner ∷ scope ∷ outer) name q h = simple_parent_ref h
 -- what a name stands for, by the forms of its definitions
 defines_by : (scope : Clauses) (outer : List Clauses) (name : Defined) (qs : List Form) (q : Form) → AreSimple (scope ∷ outer) (bodies (defining name scope)) qs → (qs ≡ [] → ⊥) → q ≡ bodies_form (combine_of (combines (defining name scope))) qs → Defines scope outer name q
 defines_by scope outer name [] q are some is = absurd (some refl)
-defines_by scope outer name (first ∷ more) q are some is = joined_in_order are is
+defines_by scope outer name (first ∷ more) q are some is = combined_in_order are is
 
 some_forms : (at : ℕ → Form) (clauses : List Clause) → (clauses ≡ [] → ⊥) → map at (bodies_of clauses) ≡ [] → ⊥
 some_forms at [] some none = some refl

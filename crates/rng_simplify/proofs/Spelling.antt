@@ -23,8 +23,8 @@ use Rattle.rng_simplify.specs.Cells.{Cell}
 use Rattle.rng_simplify.specs.Forms.{Form, Value, nodes}
 use Rattle.rng_simplify.specs.Forms as form
 use Rattle.rng_simplify.specs.Shown.{joined_form, form_by, form_at, shape_parts, IsBehindParts}
-use Rattle.rng_simplify.specs.Spelling.{joined_pattern, IsShape, IsAttribute, Spells, spells_list, spells_attribute, spells_one_or_more, spells_joined, Runs, all_done, spell_then, wrap_one, wrap_two, AreSpelled, none_spelled, next_spelled, IsUnderWay, work_of, work, DoesTask, HasType, HasAttribute, IsReady, Leaves, Does, IsDefinition, AreDefinitions, no_definitions, next_definition, IsBuilt}
-use Rattle.rng_simplify.specs.Typing.{IsValue}
+use Rattle.rng_simplify.specs.SpelledShapes.{joined_pattern, IsShape, IsAttribute, Spells, spells_list, spells_attribute, spells_one_or_more, spells_joined, Runs, all_done, spell_then, wrap_one, wrap_two, AreSpelled, none_spelled, next_spelled, IsUnderWay, work_of, work, DoesTask, HasType, HasAttribute, IsReady, Leaves, Does, IsDefinition, AreDefinitions, no_definitions, next_definition, IsBuilt}
+use Rattle.rng_simplify.specs.NodeTypes.{IsValue}
 use Rattle.rng_simplify.proofs.Nodes.{in_first, in_more}
 use Rattle.rng_simplify.proofs.Showing.{shows_by_parts}
 

@@ -7,18 +7,18 @@ use Rattle.rng_simplify.specs.declared.form.Forms.{Forms}
 use Rattle.rng_simplify.specs.declared.node.Node.{Node}
 use Rattle.rng_simplify.specs.declared.resolve.Resolved.{Resolved}
 use Rattle.rng_simplify.specs.declared.types.NodeType.{NodeType}
-use Rattle.rng_simplify.specs.Breaking.{cells_of}
+use Rattle.rng_simplify.specs.Refusals.{cells_of}
 use Rattle.rng_simplify.specs.Cells.{cell_of}
 use Rattle.rng_simplify.specs.CellTexts.{AreTexts}
-use Rattle.rng_simplify.specs.Forming.{IsInOrder, IsKnown, AreForms, MakesForms}
+use Rattle.rng_simplify.specs.NodeForms.{IsInOrder, IsKnown, AreForms, MakesForms}
 use Rattle.rng_simplify.specs.Grammars.{IsSorted, HasForms, HasTypes, IsMeasured, GivesGrammar}
-use Rattle.rng_simplify.specs.Judging.{AreGood}
-use Rattle.rng_simplify.specs.Limiting.{AreElements, IsWithinLimits}
-use Rattle.rng_simplify.specs.Resolving.{IsResolved, IsOrdered}
+use Rattle.rng_simplify.specs.GoodClasses.{AreGood}
+use Rattle.rng_simplify.specs.Limits.{AreElements, IsWithinLimits}
+use Rattle.rng_simplify.specs.ResolvedNodes.{IsResolved, IsOrdered}
 use Rattle.rng_simplify.specs.Shown.{AreOfSchema}
-use Rattle.rng_simplify.specs.Spelling.{IsReady, Builds}
-use Rattle.rng_simplify.specs.Standing.{AreWellFormed}
-use Rattle.rng_simplify.specs.Typing.{AreKnown, AreTypesBefore, MakesTypes}
+use Rattle.rng_simplify.specs.SpelledShapes.{IsReady, Builds}
+use Rattle.rng_simplify.specs.NodePlaces.{AreWellFormed}
+use Rattle.rng_simplify.specs.NodeTypes.{AreKnown, AreTypesBefore, MakesTypes}
 use Rattle.rng_simplify.proofs.Grammars.{sorted_in_order, parts_known, no_forms, no_types, root_known, elements_known, not_limited, built_of, gives_built}
 use Rattle.rng_simplify.proofs.Typed.{shapes_of_schema}
 

@@ -8,15 +8,15 @@ use Rattle.rng_simplify.specs.declared.resolve.Combined.{Combined}
 use Rattle.rng_simplify.specs.declared.resolve.Table.{Table}
 use Rattle.rng_simplify.specs.declared.resolve.Scope.{Scope}
 use Rattle.rng_simplify.specs.declared.resolve.Scope.TheVariants.{Nowhere, Outside}
-use Rattle.rng_simplify.specs.Breaking.{OkOrRefused}
+use Rattle.rng_simplify.specs.Refusals.{OkOrRefused}
 use Rattle.rng_simplify.specs.Cells.{Cell, cell_of}
 use Rattle.rng_simplify.specs.Cells as cell
-use Rattle.rng_simplify.specs.Standing.{inner_nodes, AreWellFormed, Stands, the_root}
-use Rattle.rng_simplify.specs.Resolving.{combined_number, IsResolved, IsCombinedIn, IsCombinedOutside, IsCombined}
+use Rattle.rng_simplify.specs.NodePlaces.{inner_nodes, AreWellFormed, Stands, the_root}
+use Rattle.rng_simplify.specs.ResolvedNodes.{combined_number, IsResolved, IsCombinedIn, IsCombinedOutside, IsCombined}
 use Rattle.rnc_parse.specs.declared.surface.Defined.TheVariants as defined
 use Rattle.rng_simplify.specs.declared.resolve.Target.{Target}
 use Rattle.rng_simplify.specs.declared.resolve.Target.TheVariants.{Nothing}
-use Rattle.rng_simplify.specs.Scoping.{Findings, findings_at_first, IsPosted, outside, IsMidway, TakesCell, AreNumbered}
+use Rattle.rng_simplify.specs.Findings.{Findings, findings_at_first, IsPosted, outside, IsMidway, TakesCell, AreNumbered}
 use Rattle.rng_simplify.proofs.Nodes.{cell_there}
 use Rattle.rng_simplify.proofs.Posts.{stands_by}
 use Rattle.rng_simplify.proofs.Scopes.{set_cases, cell_taken, nowhere_taken}

@@ -7,7 +7,7 @@ use Rattle.rng_simplify.specs.Classes.{namespace_in}
 use Rattle.rnc_parse.specs.Texts.{NamespaceIsText, PatternIsText, ItemIsText, ItemsAreText, ReplacementIsText, ReplacementsAreText, HasUtf8Texts}
 use Rattle.rnc_parse.specs.Written.{WrittenPattern, WrittenItem, WrittenItems, WrittenReplacement, WrittenReplacements, WrittenSurface, a_pattern, a_grammar}
 use Rattle.rnc_parse.specs.Written as written
-use Rattle.rng_simplify.specs.Mentioning.{kept_of_all, AreTextMentions}
+use Rattle.rng_simplify.specs.KeptMentions.{kept_of_all, AreTextMentions}
 use Rattle.rng_simplify.specs.References.{Mention, mentions, mentions_of, mentions_of_item, mentions_of_items, mentions_of_replacement, mentions_anew}
 
 both_texts : (ns : List ℕ) (xs ys : List Mention) → AreTextMentions (kept_of_all ns xs) → AreTextMentions (kept_of_all ns ys) →

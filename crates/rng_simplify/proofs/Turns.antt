@@ -8,8 +8,8 @@ use Rattle.rng_simplify.specs.declared.fault.SchemaFault.{SchemaFault}
 use Rattle.rng_simplify.specs.declared.load.Link.{Link}
 use Rattle.rng_simplify.specs.declared.load.Loaded.{Loaded}
 use Rattle.rng_simplify.specs.declared.mention.Mention.{Mention as Kept}
-use Rattle.rng_simplify.specs.Following.{uris_of, IsUnderWay, AreTextLinks, IsAdded, OpensFile, NextUri, GoesOn}
-use Rattle.rng_simplify.specs.Mentioning.{AreTextMentions}
+use Rattle.rng_simplify.specs.FileChains.{uris_of, IsUnderWay, AreTextLinks, IsAdded, OpensFile, NextUri, GoesOn}
+use Rattle.rng_simplify.specs.KeptMentions.{AreTextMentions}
 use Rattle.rng_simplify.specs.Simplified.{Answers}
 use Rattle.rng_simplify.proofs.Loading.{next_mention, not_next, not_opened, opened, begun, first_refused}
 use Rattle.rng_simplify.proofs.Texts.{surface_texts}

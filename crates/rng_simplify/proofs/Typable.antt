@@ -22,10 +22,10 @@ use Rattle.rng_simplify.specs.Broken.{Has, HasRefusedType, IsForeign, IsUnsuppor
 use Rattle.rng_simplify.specs.Composed.{Composed, Clauses, defining, combines}
 use Rattle.rng_simplify.specs.Composed as composed
 use Rattle.rng_simplify.specs.Datatypes.{datatype_of, params_of, builtin_string, builtin_token, AreExcepts, no_except, own_value, own_value_beside, string_value, token_value, Typed, typed_not_allowed, typed_empty, typed_text, typed_value, typed_type, typed_list, typed_attribute, typed_ref, typed_one_or_more, typed_choice, typed_group, typed_interleave}
-use Rattle.rng_simplify.specs.Forms.{Form, Value, list_of, attribute_of, one_or_more_of, choice_of, group_of, interleave_of, combine_of, join_of, values_of}
+use Rattle.rng_simplify.specs.Forms.{Form, Value, list_of, attribute_of, one_or_more_of, choice_of, group_of, interleave_of, combine_of, combined_by, values_of}
 use Rattle.rng_simplify.specs.Forms as form
 use Rattle.rng_simplify.specs.Places.{place, Occurs, further_in, a_part, a_definition}
-use Rattle.rng_simplify.specs.Simple.{Simple, Defines, AreSimple, simple_element, simple_attribute, simple_list, simple_empty, simple_text, simple_not_allowed, simple_value, simple_type, simple_one_or_more, simple_choice, simple_group, simple_interleave, simple_grammar, simple_ref, simple_parent_ref, joined_in_order, none_simple, next_simple}
+use Rattle.rng_simplify.specs.Simple.{Simple, Defines, AreSimple, simple_element, simple_attribute, simple_list, simple_empty, simple_text, simple_not_allowed, simple_value, simple_type, simple_one_or_more, simple_choice, simple_group, simple_interleave, simple_grammar, simple_ref, simple_parent_ref, combined_in_order, none_simple, next_simple}
 use Rattle.rng_simplify.proofs.Decisions.{accepts_decided, type_decided}
 use Rattle.rng_simplify.proofs.Nodes.{in_first, in_more}
 use Rattle.rng_simplify.proofs.Returning.{defining_among, outer_occurs}
@@ -70,15 +70,15 @@ interleave_typed form.empty r h k = k
 interleave_typed q form.empty h k = h
 interleave_typed q r h k = (pattern.interleave h.0 k.0, typed_interleave h.1 k.1)
 
-join_typed : (by : Combine) (q r : Form) → HasTypes q → HasTypes r → HasTypes (join_of by q r)
-join_typed combine.Alone q r h k = choice_typed q r h k
-join_typed combine.Choice q r h k = choice_typed q r h k
-join_typed combine.Interleave q r h k = interleave_typed q r h k
+combined_typed : (by : Combine) (q r : Form) → HasTypes q → HasTypes r → HasTypes (combined_by by q r)
+combined_typed combine.Alone q r h k = choice_typed q r h k
+combined_typed combine.Choice q r h k = choice_typed q r h k
+combined_typed combine.Interleave q r h k = interleave_typed q r h k
 
 joined_typed : (by : Combine) (first : Form) (more : List Form) → HasTypes first → AllByRecursion HasTypes more →
-    HasTypes (joined (join_of by) first more)
+    HasTypes (joined (combined_by by) first more)
 joined_typed by first [] h all = h
-joined_typed by first (next ∷ more) h all = joined_typed by (join_of by first next) more (join_typed by first next h all.0) all.1
+joined_typed by first (next ∷ more) h all = joined_typed by (combined_by by first next) more (combined_typed by first next h all.0) all.1
 
 -- ---- types by their names
 
@@ -233,7 +233,7 @@ module _ (whole : Composed) (typable : AreTypable whole) where
 
     defines_typed : {scope : Clauses} {outer : List Clauses} {name : Defined} {q : Form} → Defines scope outer name q →
         Occurs whole (place outer (composed.grammar scope)) → HasTypes q
-    defines_typed (joined_in_order {scope = scope} {outer = outer} {name = name} {first = first} {more = more} are is) occurs =
+    defines_typed (combined_in_order {scope = scope} {outer = outer} {name = name} {first = first} {more = more} are is) occurs =
         let all : HasTypes first × AllByRecursion HasTypes more =
         all_typed are (λ p among. further_in occurs (a_definition (defining_among name scope p among))) in
         subst HasTypes (sym is) (joined_typed (combine_of (combines (defining name scope))) first more all.0 all.1)

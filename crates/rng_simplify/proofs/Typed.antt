@@ -24,15 +24,15 @@ use Rattle.rng_simplify.specs.declared.types.NodeType.{NodeType}
 use Rattle.rng_simplify.specs.Cells.{Cell}
 use Rattle.rng_simplify.specs.Cells as cell
 use Rattle.rng_simplify.specs.Datatypes.{datatype_of, params_of, AreExcepts, Typed, typed_not_allowed, typed_empty, typed_text, typed_value, typed_type, typed_list, typed_attribute, typed_ref, typed_one_or_more, typed_choice, typed_group, typed_interleave, AreTyped, none_typed, next_typed}
-use Rattle.rng_simplify.specs.Denoting.{IsCell}
+use Rattle.rng_simplify.specs.CellMeanings.{IsCell}
 use Rattle.rng_simplify.specs.Forms.{Form, FormDefinition, Value, values_of, nodes}
 use Rattle.rng_simplify.specs.Forms as form
-use Rattle.rng_simplify.specs.Forming.{form_of, IsBefore, AreAlike, AreFormed, AreForms, AreTaken}
-use Rattle.rng_simplify.specs.Limiting.{content_in, content_of, class_of_element, AreWithinLimits}
+use Rattle.rng_simplify.specs.NodeForms.{form_of, IsBefore, AreAlike, AreFormed, AreForms, AreTaken}
+use Rattle.rng_simplify.specs.Limits.{content_in, content_of, class_of_element, AreWithinLimits}
 use Rattle.rng_simplify.specs.Shown.{joined_form, value_in, type_in, params_in, class_in, form_by, form_at, AreOfSchema}
-use Rattle.rng_simplify.specs.Spelling.{joined_pattern, IsShape, IsLiteral, IsTyped, IsAttribute, Spells, spells_not_allowed, spells_empty, spells_text, spells_value, spells_type, spells_ref, spells_list, spells_attribute, spells_one_or_more, spells_joined, IsDefinition, AreDefinitions, no_definitions, next_definition, HasKnownType, IsReady}
+use Rattle.rng_simplify.specs.SpelledShapes.{joined_pattern, IsShape, IsLiteral, IsTyped, IsAttribute, Spells, spells_not_allowed, spells_empty, spells_text, spells_value, spells_type, spells_ref, spells_list, spells_attribute, spells_one_or_more, spells_joined, IsDefinition, AreDefinitions, no_definitions, next_definition, HasKnownType, IsReady}
 use Rattle.rng_simplify.specs.CellTexts.{AreTexts}
-use Rattle.rng_simplify.specs.Typing.{IsTypeOfValue, HasValues, known_at, AreTypesBefore}
+use Rattle.rng_simplify.specs.NodeTypes.{IsTypeOfValue, HasValues, known_at, AreTypesBefore}
 use Rattle.rng_simplify.proofs.Forming.{none_before, before_later}
 use Rattle.rng_simplify.proofs.Showing.{shows_by_parts}
 use Rattle.rng_simplify.proofs.Spelling.{some_nodes}

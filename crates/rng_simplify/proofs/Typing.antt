@@ -37,14 +37,14 @@ use Rattle.rng_simplify.specs.Broken.{IsForeign}
 use Rattle.rng_simplify.specs.Cells.{Cell, cell_of}
 use Rattle.rng_simplify.specs.Cells as cell
 use Rattle.rng_simplify.specs.Datatypes.{params_of, datatype_of, AreExcepts, no_except, own_value, own_value_beside, string_value, token_value, builtin_string, builtin_token}
-use Rattle.rng_simplify.specs.Denoting.{IsCell}
+use Rattle.rng_simplify.specs.CellMeanings.{IsCell}
 use Rattle.rng_simplify.specs.Forms.{Form, Value, values_of}
 use Rattle.rng_simplify.specs.Forms as form
-use Rattle.rng_simplify.specs.Forming.{IsKnown}
+use Rattle.rng_simplify.specs.NodeForms.{IsKnown}
 use Rattle.rng_simplify.specs.Shown.{joined_form, value_in, form_by, form_at, IsBehindParts, IsOfSchema, stopped, IsSizeAt}
 use Rattle.rng_simplify.specs.CellTexts.{IsText, AreTexts}
-use Rattle.rng_simplify.specs.Typing.{IsRefusalOf, Names, value_of, IsValue, AreValues, IsListed, HasValues, IsTakenBehind, TakesBehind, AreTakenFrom, TakesFrom, HasManyValues, Takes, IsTypeOf, HasNoType, MakesType, known_at, AreTypesBefore, IsTypeSet, SetsType, MakesTypes}
-use Rattle.rng_simplify.specs.Standing.{cell_parts}
+use Rattle.rng_simplify.specs.NodeTypes.{IsRefusalOf, Names, value_of, IsValue, AreValues, IsListed, HasValues, IsTakenBehind, TakesBehind, AreTakenFrom, TakesFrom, HasManyValues, Takes, IsTypeOf, HasNoType, MakesType, known_at, AreTypesBefore, IsTypeSet, SetsType, MakesTypes}
+use Rattle.rng_simplify.specs.NodePlaces.{cell_parts}
 use Rattle.rng_simplify.proofs.Forming.{before_next, none_before, cell_there}
 use Rattle.rng_simplify.proofs.Nodes.{in_first}
 use Rattle.rng_simplify.proofs.Showing.{shows_by_parts, before_or_last}

@@ -14,13 +14,13 @@ use Rattle.rng_simplify.specs.Composed.{Composed, Clauses, same_defined, defines
 use Rattle.rng_simplify.specs.Composed as composed
 use Rattle.rng_simplify.specs.declared.node.Sign.{Sign}
 use Rattle.rng_simplify.specs.declared.node.Sign.TheVariants as sign
-use Rattle.rng_simplify.specs.Denoting.{IsCell, Denotes, DenoteAll, composed_by, is_element, is_attribute, is_list, is_ref, is_parent_ref, is_empty, is_text, is_not_allowed, is_value, is_type, is_grammar, is_one_or_more, is_joined, none_denoted, next_denoted}
-use Rattle.rng_simplify.specs.Judging.{AreGood}
+use Rattle.rng_simplify.specs.CellMeanings.{IsCell, Denotes, DenoteAll, composed_by, is_element, is_attribute, is_list, is_ref, is_parent_ref, is_empty, is_text, is_not_allowed, is_value, is_type, is_grammar, is_one_or_more, is_joined, none_denoted, next_denoted}
+use Rattle.rng_simplify.specs.GoodClasses.{AreGood}
 use Rattle.rng_simplify.specs.Places.{Place, place, LeadsTo, to_part, to_definition, to_outer_definition, to_start, LeadsOn, in_one_step, in_more_steps}
-use Rattle.rng_simplify.specs.Standing.{cell_parts, bodies_of, AreWellFormed, Stands, a_part, a_definition, IsStanding, AreScopes}
-use Rattle.rng_simplify.specs.Standing as standing
-use Rattle.rng_simplify.specs.Resolving.{clauses_of, IsCombined, IsCombinedIn, IsCombinedOutside, IsResolved, link_at, cell_leads, combined_leads, leads_if, leads, IsOrdered}
-use Rattle.rng_simplify.specs.Walking.{is_linked}
+use Rattle.rng_simplify.specs.NodePlaces.{cell_parts, bodies_of, AreWellFormed, Stands, a_part, a_definition, IsStanding, AreScopes}
+use Rattle.rng_simplify.specs.NodePlaces as standing
+use Rattle.rng_simplify.specs.ResolvedNodes.{clauses_of, IsCombined, IsCombinedIn, IsCombinedOutside, IsResolved, link_at, cell_leads, combined_leads, leads_if, leads, IsOrdered}
+use Rattle.rng_simplify.specs.NodeWalks.{is_linked}
 use Rattle.rng_simplify.proofs.Nodes.{in_none, in_first, in_more, in_cases, PartHasNode, part_has_node, node_of, HasNode}
 use Rattle.rng_simplify.proofs.Posts.{innermost_stands, one_grammar}
 use Rattle.rng_simplify.proofs.Scopes.{combines_denoted}

@@ -4,7 +4,7 @@ use Rattle.rnc_lex.specs.declared.fault.LexFault.TheVariants as lex
 use Rattle.rnc_parse.specs.declared.read.ReadFault.{ReadFault}
 use Rattle.rnc_parse.specs.declared.read.ReadFault.TheVariants as read
 use Rattle.rnc_parse.specs.Answering.{AnswersText}
-use Rattle.rng_simplify.specs.Loading.{unread_as, Unreads}
+use Rattle.rng_simplify.specs.LoadedFiles.{unread_as, Unreads}
 
 -- each answer has its cause
 pub unread_refuses : (text : List ℕ) (fault : ReadFault) → AnswersText text (Err fault) → Unreads text (unread_as fault)

@@ -9,7 +9,7 @@ use Rattle.rng_core.specs.declared.name_class.NameClass.{NameClass as BuiltClass
 use Rattle.rng_core.specs.Meaning.{class_of as built_class}
 use Rattle.rng_core.specs.Names.{Class, either}
 use Rattle.rng_simplify.specs.Classes.{class_in}
-use Rattle.rng_simplify.specs.Seeing.{classes_behind, written_classes, choice_and}
+use Rattle.rng_simplify.specs.JudgedClasses.{classes_behind, written_classes, choice_and}
 
 pub row_behind_is : (n : _) (before : WrittenClass) (row : class.Row_of-NameClass n) → row_behind before row ≡ classes_behind before (class.items-the_row-NameClass n row)
 row_behind_is n before class.end_of-NameClass = refl

@@ -16,14 +16,14 @@ use Rattle.rng_simplify.specs.declared.resolve.Combined.{Combined}
 use Rattle.rng_simplify.specs.declared.resolve.Resolved.{Resolved}
 use Rattle.rng_simplify.specs.declared.resolve.Scope.{Scope}
 use Rattle.rng_simplify.specs.declared.resolve.Scope.TheVariants.{Nowhere}
-use Rattle.rng_simplify.specs.Breaking.{IsRefusal, OkOrRefused}
+use Rattle.rng_simplify.specs.Refusals.{IsRefusal, OkOrRefused}
 use Rattle.rng_simplify.specs.declared.node.Node.{Node}
 use Rattle.rng_simplify.specs.Cells.{Cell, cell_of}
 use Rattle.rng_simplify.specs.Cells as cell
-use Rattle.rng_simplify.specs.Standing.{cell_parts, AreWellFormed, IsStanding}
+use Rattle.rng_simplify.specs.NodePlaces.{cell_parts, AreWellFormed, IsStanding}
 use Rattle.rng_simplify.specs.declared.resolve.Target.TheVariants.{Nothing}
-use Rattle.rng_simplify.specs.Resolving.{IsResolved, combined_number, link_at, cell_leads, combined_leads, leads_if, leads, IsOrdered, scope_at}
-use Rattle.rng_simplify.specs.Walking.{IsMet, is_linked, Walking, mark_at, step_of, with_step, left, Meets, AreSteps, path_of, IsWalk, KeepsMarks, most, IsTurned, IsGone, IsPassed}
+use Rattle.rng_simplify.specs.ResolvedNodes.{IsResolved, combined_number, link_at, cell_leads, combined_leads, leads_if, leads, IsOrdered, scope_at}
+use Rattle.rng_simplify.specs.NodeWalks.{IsMet, is_linked, WalkState, mark_at, step_of, with_step, left, Meets, AreSteps, path_of, IsWalk, KeepsMarks, most, IsTurned, IsGone, IsPassed}
 use Rattle.rng_simplify.proofs.Nodes.{in_none, in_cases, cell_there}
 use Rattle.rng_simplify.proofs.Posts.{stands_within}
 use Rattle.rng_simplify.proofs.Taking.{scope_read}
@@ -104,12 +104,12 @@ module _ (cells : List Cell) (root : ℕ) (found : Resolved) where
       omega (arith, lt)
   met_within x formed (inr (number, lt, is)) = omega (arith, lt, is)
 
-  pub met_marked : (next : Option ℕ) (now : Walking) (x : ℕ) → AreWellFormed cells root → IsWalk cells root found next now → IsMet cells root found x → x < length now.marks
+  pub met_marked : (next : Option ℕ) (now : WalkState) (x : ℕ) → AreWellFormed cells root → IsWalk cells root found next now → IsMet cells root found x → x < length now.marks
   met_marked next now x formed h met = omega (arith, met_within x formed met, h.all_marks)
 
   -- ---- a node of the path
 
-  up_to : (now : Walking) (j : ℕ) (steps : List Step) → AreWellFormed cells root → AreSteps cells root found now (Some j) steps → (step : Step) → Contains steps step → Chain cells root found step.node j
+  up_to : (now : WalkState) (j : ℕ) (steps : List Step) → AreWellFormed cells root → AreSteps cells root found now (Some j) steps → (step : Step) → Contains steps step → Chain cells root found step.node j
   up_to now j [] formed h step among = absurd (in_none among)
   up_to now j (top ∷ before) formed h step among =
       let lead = lead_of cells root found formed h.0.is_met (h.0.leads_on j refl) in
@@ -119,23 +119,23 @@ module _ (cells : List Cell) (root : ℕ) (found : Resolved) where
       ]
 
   -- it leads back to itself, where it comes next
-  open_refused : (now : Walking) (i : ℕ) → AreWellFormed cells root → IsResolved cells root found → IsWalk cells root found (Some i) now → mark_at now i ≡ Open → IsRefusal cells root (Unreadable cause.RefLoop)
+  open_refused : (now : WalkState) (i : ℕ) → AreWellFormed cells root → IsResolved cells root found → IsWalk cells root found (Some i) now → mark_at now i ≡ Open → IsRefusal cells root (Unreadable cause.RefLoop)
   open_refused now i formed resolved h is_open =
       let it = h.on_path i is_open in
       loop_refused formed resolved (h.next_met i refl) (subst (λ k. Chain cells root found k i) it.2 (up_to now i h.steps formed h.are_steps it.0 it.1))
 
   -- ---- one turn, to what comes next
 
-  turned_at : {A : Type 0} (now new : Walking) (step : Step) (i : ℕ) → AreWellFormed cells root → IsResolved cells root found → IsWalk cells root found None (with_step step now) → slice_get (leads cells found step.node) step.met ≡ Some i → IsMet cells root found i → (mark : Mark) → mark_at now i ≡ mark → (result : Result A SchemaFault) → Meets i mark (with_step (step_of step.node (step.met + 1)) now) new result → OkOrRefused cells root (λ done. IsTurned cells root found (with_step step now) new) result
+  turned_at : {A : Type 0} (now new : WalkState) (step : Step) (i : ℕ) → AreWellFormed cells root → IsResolved cells root found → IsWalk cells root found None (with_step step now) → slice_get (leads cells found step.node) step.met ≡ Some i → IsMet cells root found i → (mark : Mark) → mark_at now i ≡ mark → (result : Result A SchemaFault) → Meets i mark (with_step (step_of step.node (step.met + 1)) now) new result → OkOrRefused cells root (λ done. IsTurned cells root found (with_step step now) new) result
   turned_at now new step i formed resolved h at met New is (Ok done) new_is =
       let lt = met_marked None (with_step step now) i formed h met in
-      subst (λ (w : Walking). IsTurned cells root found (with_step step now) w) (sym new_is) (record {
+      subst (λ (w : WalkState). IsTurned cells root found (with_step step now) w) (sym new_is) (record {
         is_walk = newly_met cells root found (with_step (step_of step.node (step.met + 1)) now) i (next_step cells root found now step i h at met) lt is;
         keeps = opened_keeps (with_step (step_of step.node (step.met + 1)) now) i lt;
         falls = work_newly cells found now step i (few i) at lt is;
       })
   turned_at now new step i formed resolved h at met Done is (Ok done) new_is =
-      subst (λ (w : Walking). IsTurned cells root found (with_step step now) w) (sym new_is) (record {
+      subst (λ (w : WalkState). IsTurned cells root found (with_step step now) w) (sym new_is) (record {
         is_walk = met_again cells root found (with_step (step_of step.node (step.met + 1)) now) i (next_step cells root found now step i h at met) is;
         keeps = λ j some. some;
         falls = work_again cells found now step i at;
@@ -149,22 +149,22 @@ module _ (cells : List Cell) (root : ℕ) (found : Resolved) where
   turned_at now new step i formed resolved h at met Open is (Err other) new_is = absurd new_is
   turned_at now new step i formed resolved h at met Done is (Err other) new_is = absurd new_is
 
-  pub last_met : (now : Walking) (step : Step) → IsWalk cells root found None (with_step step now) → IsMet cells root found step.node
+  pub last_met : (now : WalkState) (step : Step) → IsWalk cells root found None (with_step step now) → IsMet cells root found step.node
   last_met now step h = (has_last cells root found now step h).are_steps.0.is_met
 
-  pub next_met : (now : Walking) (step : Step) (i : ℕ) → AreWellFormed cells root → IsResolved cells root found → IsWalk cells root found None (with_step step now) → slice_get (leads cells found step.node) step.met ≡ Some i → IsMet cells root found i
+  pub next_met : (now : WalkState) (step : Step) (i : ℕ) → AreWellFormed cells root → IsResolved cells root found → IsWalk cells root found None (with_step step now) → slice_get (leads cells found step.node) step.met ≡ Some i → IsMet cells root found i
   next_met now step i formed resolved h at = lead_met cells root found resolved (lead_of cells root found formed (last_met now step h) (in_by_place (leads cells found step.node) step.met i at))
 
-  pub turned_on : {A : Type 0} (now mid new : Walking) (step : Step) (i : ℕ) → AreWellFormed cells root → IsResolved cells root found → IsWalk cells root found None (with_step step now) → slice_get (leads cells found step.node) step.met ≡ Some i → mid ≡ with_step (step_of step.node (step.met + 1)) now → (result : Result A SchemaFault) → Meets i (mark_at mid i) mid new result → OkOrRefused cells root (λ done. IsTurned cells root found (with_step step now) new) result
+  pub turned_on : {A : Type 0} (now mid new : WalkState) (step : Step) (i : ℕ) → AreWellFormed cells root → IsResolved cells root found → IsWalk cells root found None (with_step step now) → slice_get (leads cells found step.node) step.met ≡ Some i → mid ≡ with_step (step_of step.node (step.met + 1)) now → (result : Result A SchemaFault) → Meets i (mark_at mid i) mid new result → OkOrRefused cells root (λ done. IsTurned cells root found (with_step step now) new) result
   turned_on now mid new step i formed resolved h at mid_is result meets =
-      turned_at now new step i formed resolved h at (next_met now step i formed resolved h at) (mark_at now i) refl result (subst (λ (w : Walking). Meets i (mark_at w i) w new result) mid_is meets)
+      turned_at now new step i formed resolved h at (next_met now step i formed resolved h at) (mark_at now i) refl result (subst (λ (w : WalkState). Meets i (mark_at w i) w new result) mid_is meets)
 
   -- back from a node
-  pub turned_back : (now new : Walking) (step : Step) → AreWellFormed cells root → IsWalk cells root found None (with_step step now) → slice_get (leads cells found step.node) step.met ≡ None → new ≡ left step.node now → IsTurned cells root found (with_step step now) new
+  pub turned_back : (now new : WalkState) (step : Step) → AreWellFormed cells root → IsWalk cells root found None (with_step step now) → slice_get (leads cells found step.node) step.met ≡ None → new ≡ left step.node now → IsTurned cells root found (with_step step now) new
   turned_back now new step formed h none new_is =
       let top = (has_last cells root found now step h).are_steps.0 in
       let lt = met_marked None (with_step step now) step.node formed h top.is_met in
-      subst (λ (w : Walking). IsTurned cells root found (with_step step now) w) (sym new_is) (record {
+      subst (λ (w : WalkState). IsTurned cells root found (with_step step now) w) (sym new_is) (record {
         is_walk = node_left cells root found now step h lt none;
         keeps = left_keeps now step.node lt;
         falls = work_left cells found now step top.within top.is_open;
@@ -176,15 +176,15 @@ module _ (cells : List Cell) (root : ℕ) (found : Resolved) where
   no_steps [] h = refl
   no_steps (step ∷ before) h = absurd (some_end (path_of before) step h)
 
-  at_rest_steps : (now : Walking) → (h : IsWalk cells root found None now) → now.path ≡ [] → h.steps ≡ []
+  at_rest_steps : (now : WalkState) → (h : IsWalk cells root found None now) → now.path ≡ [] → h.steps ≡ []
   at_rest_steps now h rest = no_steps h.steps (sym h.path_is ∙ rest)
 
-  none_open : (now : Walking) (i : ℕ) → IsWalk cells root found None now → now.path ≡ [] → mark_at now i ≡ Open → ⊥
+  none_open : (now : WalkState) (i : ℕ) → IsWalk cells root found None now → now.path ≡ [] → mark_at now i ≡ Open → ⊥
   none_open now i h rest is_open =
       let it = h.on_path i is_open in
       in_none (subst (λ (steps : List Step). Contains steps it.0) (at_rest_steps now h rest) it.1)
 
-  comes_next : (now : Walking) (i : ℕ) → IsWalk cells root found None now → now.path ≡ [] → IsMet cells root found i → IsWalk cells root found (Some i) now
+  comes_next : (now : WalkState) (i : ℕ) → IsWalk cells root found None now → now.path ≡ [] → IsMet cells root found i → IsWalk cells root found (Some i) now
   comes_next now i h rest met = record {
     steps = h.steps;
     path_is = h.path_is;
@@ -199,21 +199,21 @@ module _ (cells : List Cell) (root : ℕ) (found : Resolved) where
   }
 
   -- the walk is at a node
-  pub record IsBegun (from : ℕ) (old new : Walking) : Type 0 where
+  pub record IsBegun (from : ℕ) (old new : WalkState) : Type 0 where
     pub is_walk : IsWalk cells root found None new
     pub keeps : KeepsMarks old new
     pub met : mark_at new from ≢ New
 
-  begun_at : {A : Type 0} (now new : Walking) (from : ℕ) → AreWellFormed cells root → IsWalk cells root found None now → now.path ≡ [] → IsMet cells root found from → (mark : Mark) → mark_at now from ≡ mark → (result : Result A SchemaFault) → Meets from mark now new result → OkOrRefused cells root (λ done. IsBegun from now new) result
+  begun_at : {A : Type 0} (now new : WalkState) (from : ℕ) → AreWellFormed cells root → IsWalk cells root found None now → now.path ≡ [] → IsMet cells root found from → (mark : Mark) → mark_at now from ≡ mark → (result : Result A SchemaFault) → Meets from mark now new result → OkOrRefused cells root (λ done. IsBegun from now new) result
   begun_at now new from formed h rest met New is (Ok done) new_is =
       let lt = met_marked None now from formed h met in
-      subst (λ (w : Walking). IsBegun from now w) (sym new_is) (record {
+      subst (λ (w : WalkState). IsBegun from now w) (sym new_is) (record {
         is_walk = newly_met cells root found now from (comes_next now from h rest met) lt is;
         keeps = opened_keeps now from lt;
         met = λ new_again. new_open (sym (sym (set_mark now.marks from Open lt) ∙ new_again));
       })
   begun_at now new from formed h rest met Done is (Ok done) new_is =
-      subst (λ (w : Walking). IsBegun from now w) (sym new_is) (record {
+      subst (λ (w : WalkState). IsBegun from now w) (sym new_is) (record {
         is_walk = h;
         keeps = λ j some. some;
         met = λ new_again. new_done (sym new_again ∙ is);
@@ -227,20 +227,20 @@ module _ (cells : List Cell) (root : ℕ) (found : Resolved) where
   begun_at now new from formed h rest met Open is (Err other) new_is = absurd new_is
   begun_at now new from formed h rest met Done is (Err other) new_is = absurd new_is
 
-  pub begun : {A : Type 0} (now new : Walking) (from : ℕ) → AreWellFormed cells root → IsWalk cells root found None now → now.path ≡ [] → IsMet cells root found from → (result : Result A SchemaFault) → Meets from (mark_at now from) now new result → OkOrRefused cells root (λ done. IsBegun from now new) result
+  pub begun : {A : Type 0} (now new : WalkState) (from : ℕ) → AreWellFormed cells root → IsWalk cells root found None now → now.path ≡ [] → IsMet cells root found from → (result : Result A SchemaFault) → Meets from (mark_at now from) now new result → OkOrRefused cells root (λ done. IsBegun from now new) result
   begun now new from formed h rest met result meets = begun_at now new from formed h rest met (mark_at now from) refl result meets
 
-  pub begun_ok : {A : Type 0} (now new : Walking) (from : ℕ) → AreWellFormed cells root → IsWalk cells root found None now → now.path ≡ [] → IsMet cells root found from → (done : A) → Meets {A = A} from (mark_at now from) now new (Ok done) → IsBegun from now new
+  pub begun_ok : {A : Type 0} (now new : WalkState) (from : ℕ) → AreWellFormed cells root → IsWalk cells root found None now → now.path ≡ [] → IsMet cells root found from → (done : A) → Meets {A = A} from (mark_at now from) now new (Ok done) → IsBegun from now new
   begun_ok now new from formed h rest met done meets = begun now new from formed h rest met (Ok done) meets
 
   -- ---- at rest, what was met is done
 
-  by_mark_done : (now : Walking) (i : ℕ) → IsWalk cells root found None now → now.path ≡ [] → mark_at now i ≢ New → (mark : Mark) → mark_at now i ≡ mark → Contains now.order i
+  by_mark_done : (now : WalkState) (i : ℕ) → IsWalk cells root found None now → now.path ≡ [] → mark_at now i ≢ New → (mark : Mark) → mark_at now i ≡ mark → Contains now.order i
   by_mark_done now i h rest met New is = absurd (met is)
   by_mark_done now i h rest met Open is = absurd (none_open now i h rest is)
   by_mark_done now i h rest met Done is = h.done i is
 
-  pub all_ordered : (now : Walking) → IsWalk cells root found None now → now.path ≡ [] → ((i : ℕ) → IsStanding cells root i → mark_at now i ≢ New) → ((number : ℕ) → number < length found.combined.items → mark_at now (length cells + number) ≢ New) → IsOrdered cells root found now.order
+  pub all_ordered : (now : WalkState) → IsWalk cells root found None now → now.path ≡ [] → ((i : ℕ) → IsStanding cells root i → mark_at now i ≢ New) → ((number : ℕ) → number < length found.combined.items → mark_at now (length cells + number) ≢ New) → IsOrdered cells root found now.order
   all_ordered now h rest nodes combined = record {
     each_node = λ i standing. by_mark_done now i h rest (nodes i standing) (mark_at now i) refl;
     each_combined = λ number lt. by_mark_done now (length cells + number) h rest (combined number lt) (mark_at now (length cells + number)) refl;
@@ -251,7 +251,7 @@ module _ (cells : List Cell) (root : ℕ) (found : Resolved) where
 
   -- ---- before the first node
 
-  pub new_at_first : (now : Walking) → length now.marks ≡ length cells + length found.combined.items → ((i : ℕ) → mark_at now i ≡ New) → now.path ≡ [] → now.order ≡ [] → IsWalk cells root found None now
+  pub new_at_first : (now : WalkState) → length now.marks ≡ length cells + length found.combined.items → ((i : ℕ) → mark_at now i ≡ New) → now.path ≡ [] → now.order ≡ [] → IsWalk cells root found None now
   new_at_first now long new path order =
       let empty : (i : ℕ) → Contains now.order i → ⊥ = λ i among. in_none (subst (λ (xs : List ℕ). Contains xs i) order among) in
       let nothing : (k i : ℕ) → slice_get now.order k ≡ Some i → ⊥ = λ k i at. empty i (in_by_place now.order k i at) in
@@ -311,7 +311,7 @@ scope_there nodes root found i scope resolved lt is = scope_read found.scopes.it
 pub standing_met : (nodes : List Node) (root : ℕ) (found : Resolved) (i : ℕ) (scope : Scope) → IsResolved (map cell_of nodes) root found → i < length nodes → scope ≡ get_or found.scopes.items i scope → scope ≢ Nowhere → IsMet (map cell_of nodes) root found i
 standing_met nodes root found i scope resolved lt is some = inl ((resolved.standing i).0 (λ none. some (sym (scope_there nodes root found i scope resolved lt is) ∙ none)))
 
-pub nowhere_passed : (nodes : List Node) (root : ℕ) (found : Resolved) (i : ℕ) (scope : Scope) (now : Walking) → IsResolved (map cell_of nodes) root found → i < length nodes → scope ≡ get_or found.scopes.items i scope → scope ≡ Nowhere → IsWalk (map cell_of nodes) root found None now → now.path ≡ [] → IsPassed (map cell_of nodes) root found i now now
+pub nowhere_passed : (nodes : List Node) (root : ℕ) (found : Resolved) (i : ℕ) (scope : Scope) (now : WalkState) → IsResolved (map cell_of nodes) root found → i < length nodes → scope ≡ get_or found.scopes.items i scope → scope ≡ Nowhere → IsWalk (map cell_of nodes) root found None now → now.path ≡ [] → IsPassed (map cell_of nodes) root found i now now
 nowhere_passed nodes root found i scope now resolved lt is none h rest = record {
   is_walk = h;
   at_rest = rest;
@@ -319,13 +319,13 @@ nowhere_passed nodes root found i scope now resolved lt is none h rest = record 
   met = λ standing. absurd ((resolved.standing i).1 standing (scope_there nodes root found i scope resolved lt is ∙ none));
 }
 
-pub gone_passed : {A : Type 0} (cells : List Cell) (root : ℕ) (found : Resolved) (i : ℕ) (old new : Walking) (result : Result A SchemaFault) → OkOrRefused cells root (λ done. IsGone cells root found i old new) result → OkOrRefused cells root (λ done. IsPassed cells root found i old new) result
+pub gone_passed : {A : Type 0} (cells : List Cell) (root : ℕ) (found : Resolved) (i : ℕ) (old new : WalkState) (result : Result A SchemaFault) → OkOrRefused cells root (λ done. IsGone cells root found i old new) result → OkOrRefused cells root (λ done. IsPassed cells root found i old new) result
 gone_passed cells root found i old new (Ok done) h = record { is_walk = h.is_walk; at_rest = h.at_rest; keeps = h.keeps; met = λ standing. h.met }
 gone_passed cells root found i old new (Err fault) h = h
 
 -- ---- all nodes and combined definitions
 
-pub nodes_ordered : (nodes : List Node) (root : ℕ) (found : Resolved) (mid now : Walking) → ((i : ℕ) → IsStanding (map cell_of nodes) root i → mark_at mid i ≢ New) → IsWalk (map cell_of nodes) root found None now → now.path ≡ [] → KeepsMarks mid now → ((number : ℕ) → number < length found.combined.items → mark_at now (length nodes + number) ≢ New) → IsOrdered (map cell_of nodes) root found now.order
+pub nodes_ordered : (nodes : List Node) (root : ℕ) (found : Resolved) (mid now : WalkState) → ((i : ℕ) → IsStanding (map cell_of nodes) root i → mark_at mid i ≢ New) → IsWalk (map cell_of nodes) root found None now → now.path ≡ [] → KeepsMarks mid now → ((number : ℕ) → number < length found.combined.items → mark_at now (length nodes + number) ≢ New) → IsOrdered (map cell_of nodes) root found now.order
 nodes_ordered nodes root found mid now nodes_met h rest keeps combinations_met =
     all_ordered (map cell_of nodes) root found now h rest (λ i standing. keeps i (nodes_met i standing))
     (λ number lt. subst (λ n. mark_at now (n + number) ≢ New) (sym (length-map nodes cell_of)) (combinations_met number lt))

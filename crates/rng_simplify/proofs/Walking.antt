@@ -8,19 +8,19 @@ use Rattle.nx_host.specs.Files.{FileMap}
 use Rattle.rnc_parse.specs.Views.{surface_of}
 use Rattle.rng_simplify.specs.declared.load.Loaded.{Loaded}
 use Rattle.rng_simplify.specs.Cells.{Cell}
-use Rattle.rng_simplify.specs.Composing.{Context, top}
+use Rattle.rng_simplify.specs.ComposedFiles.{Context, top}
 use Rattle.rng_simplify.specs.Composition.{NoPieceIsMissing, MadeIsWellFormed}
-use Rattle.rng_simplify.specs.Denoting.{IsCell}
-use Rattle.rng_simplify.specs.Standing.{inner_nodes, AreWellFormed}
-use Rattle.rng_simplify.specs.Loading.{Waiting, waiting_in, AreRead, all_read, one_read, AllLoaded}
-use Rattle.rng_simplify.specs.Making.{Making, Outcome, made, refused, no_piece, ◌>>=◌, FilePiece, make_file, file_made, files_made, next_pattern, nothing_made, whole_made}
+use Rattle.rng_simplify.specs.CellMeanings.{IsCell}
+use Rattle.rng_simplify.specs.NodePlaces.{inner_nodes, AreWellFormed}
+use Rattle.rng_simplify.specs.LoadedFiles.{Waiting, waiting_in, AreRead, all_read, one_read, AllLoaded}
+use Rattle.rng_simplify.specs.MadeCells.{Stock, Outcome, made, refused, no_piece, ◌>>=◌, FilePiece, make_file, file_made, files_made, next_pattern, nothing_made, whole_made}
 use Rattle.rng_simplify.specs.References.{Mention, mentions_of}
 use Rattle.rng_simplify.proofs.Owning.{one_if, count, count-append, counted, self_counted, le_or_gt, piece_nodes, Owns, held_else}
 use Rattle.rng_simplify.proofs.Pieces.{Keeps, file_runs, next_pattern_runs, one}
 
 -- ---- files in order
 
-apart_behind : (xs ys : List Loaded) → ((now : Making) → files_made (xs ++ ys) now ≡ (files_made xs now >>= λ done. files_made ys)) →
+apart_behind : (xs ys : List Loaded) → ((now : Stock) → files_made (xs ++ ys) now ≡ (files_made xs now >>= λ done. files_made ys)) →
     (outcome : Outcome (Unit {0})) →
     (outcome >>= λ done. files_made (xs ++ ys)) ≡ ((outcome >>= λ done. files_made xs) >>= λ done. files_made ys)
 apart_behind xs ys more (made done then) = more then
@@ -28,11 +28,11 @@ apart_behind xs ys more (refused why) = refl
 apart_behind xs ys more no_piece = refl
 
 -- files and those behind them
-files_apart : (xs ys : List Loaded) (now : Making) → files_made (xs ++ ys) now ≡ (files_made xs now >>= λ done. files_made ys)
+files_apart : (xs ys : List Loaded) (now : Stock) → files_made (xs ++ ys) now ≡ (files_made xs now >>= λ done. files_made ys)
 files_apart [] ys now = refl
 files_apart (x ∷ xs) ys now = apart_behind xs ys (λ then. files_apart xs ys then) (file_made x now)
 
-one_file : (file : Loaded) (now : Making) → files_made (file ∷ []) now ≡ file_made file now
+one_file : (file : Loaded) (now : Stock) → files_made (file ∷ []) now ≡ file_made file now
 one_file file now = go (file_made file now)
   where
     go : (outcome : Outcome (Unit {0})) → (outcome >>= λ done. made (tt {0})) ≡ outcome
@@ -68,7 +68,7 @@ nothing_owns = record {
   below = λ i h. omega arith;
 }
 
-file_leaves : (n : ℕ) (file : Loaded) (outcome : Outcome FilePiece) (now : Making) → Keeps [] piece_nodes n now outcome → (more : ℕ) →
+file_leaves : (n : ℕ) (file : Loaded) (outcome : Outcome FilePiece) (now : Stock) → Keeps [] piece_nodes n now outcome → (more : ℕ) →
     length now.pieces ≡ n + more → Owns now [] →
     Leaves (suc more) (outcome >>= λ piece then. made (tt {0}) (record { cells = then.cells; pieces = piece ∷ then.pieces }))
 file_leaves n file (made piece then) now keeps more enough owns = (
@@ -77,7 +77,7 @@ file_leaves n file (made piece then) now keeps more enough owns = (
   held_piece piece then (keeps.2 [] owns),
 )
   where
-    held_piece : (piece : FilePiece) (then : Making) → Owns then (piece_nodes piece ++ []) →
+    held_piece : (piece : FilePiece) (then : Stock) → Owns then (piece_nodes piece ++ []) →
         Owns (record { cells = then.cells; pieces = piece ∷ then.pieces }) []
     held_piece piece then owns =
         held_else then (record { cells = then.cells; pieces = piece ∷ then.pieces }) (piece_nodes piece ++ []) [] refl
@@ -90,8 +90,8 @@ file_leaves n file (made piece then) now keeps more enough owns = (
 file_leaves n file (refused why) now keeps more enough owns = tt
 file_leaves n file no_piece now keeps more enough owns = keeps
 
-then_leaves : {A B : Type 0} (n m : ℕ) (outcome : Outcome A) (more : A → Making → Outcome B) → Leaves n outcome →
-    ((v : A) (now : Making) → length now.pieces ≡ n → Owns now [] → Leaves m (more v now)) → Leaves m (outcome >>= more)
+then_leaves : {A B : Type 0} (n m : ℕ) (outcome : Outcome A) (more : A → Stock → Outcome B) → Leaves n outcome →
+    ((v : A) (now : Stock) → length now.pieces ≡ n → Owns now [] → Leaves m (more v now)) → Leaves m (outcome >>= more)
 then_leaves n m (made v now) more first second = second v now first.0 first.1
 then_leaves n m (refused why) more first second = tt
 then_leaves n m no_piece more first second = absurd first
@@ -204,7 +204,7 @@ unfolding IsDistinct
 distinct_from [] once = tt
 distinct_from (x ∷ xs) once = (none_counted x xs (omega (arith, once x, self_counted x)), distinct_from xs (λ j. omega (arith, once j)))
 
-well_formed : (left : Making) (root : ℕ) → Owns left (root ∷ []) → AreWellFormed left.cells root
+well_formed : (left : Stock) (root : ℕ) → Owns left (root ∷ []) → AreWellFormed left.cells root
 well_formed left root owns = record {
   root_within = within (le_or_gt (length left.cells) root);
   inner_below = λ i j c at among. owns.parts i j c at among;

@@ -10,8 +10,8 @@ use Rattle.rng_simplify.specs.declared.order.Mark.TheVariants.{New, Open, Done}
 use Rattle.rng_simplify.specs.declared.order.Step.{Step}
 use Rattle.rng_simplify.specs.declared.resolve.Resolved.{Resolved}
 use Rattle.rng_simplify.specs.Cells.{Cell}
-use Rattle.rng_simplify.specs.Resolving.{leads}
-use Rattle.rng_simplify.specs.Walking.{IsMet, Walking, mark_at, step_of, with_step, opened, left, IsStep, AreSteps, path_of, IsWalk, KeepsMarks, is_new, most, left_at, work}
+use Rattle.rng_simplify.specs.ResolvedNodes.{leads}
+use Rattle.rng_simplify.specs.NodeWalks.{IsMet, WalkState, mark_at, step_of, with_step, opened, left, IsStep, AreSteps, path_of, IsWalk, KeepsMarks, is_new, most, left_at, work}
 use Rattle.rng_simplify.proofs.Nodes.{in_none, in_first, in_more, in_cases}
 use Rattle.rng_simplify.proofs.Numbers.{behind_cases}
 
@@ -69,20 +69,20 @@ other_mark : (marks : List Mark) (i : ℕ) (mark : Mark) (j : ℕ) → j ≢ i �
 other_mark marks i mark j other = get_or-set_other marks i j mark New other
 
 -- a node that has another mark is another
-by_mark : (now : Walking) (i j : ℕ) (mark other : Mark) → mark_at now i ≡ mark → mark_at now j ≡ other → (mark ≡ other → ⊥) → j ≡ i → ⊥
+by_mark : (now : WalkState) (i j : ℕ) (mark other : Mark) → mark_at now i ≡ mark → mark_at now j ≡ other → (mark ≡ other → ⊥) → j ≡ i → ⊥
 by_mark now i j mark other is_i is_j differ same = differ (sym is_i ∙ ap (mark_at now) (sym same) ∙ is_j)
 
 -- ---- steps
 
 module _ (cells : List Cell) (root : ℕ) (found : Resolved) where
   -- the last step of a path
-  pub record HasLast (now : Walking) (step : Step) : Type 0 where
+  pub record HasLast (now : WalkState) (step : Step) : Type 0 where
     pub before : List Step
     pub path_is : now.path ≡ path_of before
     pub are_steps : AreSteps cells root found (with_step step now) None (step ∷ before)
     pub steps_are : (i : ℕ) → mark_at now i ≡ Open → (other : Step) × Contains (step ∷ before) other × (other.node ≡ i)
 
-  last_by : (now : Walking) (step : Step) (steps : List Step) → now.path ++ step ∷ [] ≡ path_of steps → AreSteps cells root found (with_step step now) None steps → ((i : ℕ) → mark_at now i ≡ Open → (other : Step) × Contains steps other × (other.node ≡ i)) → HasLast now step
+  last_by : (now : WalkState) (step : Step) (steps : List Step) → now.path ++ step ∷ [] ≡ path_of steps → AreSteps cells root found (with_step step now) None steps → ((i : ℕ) → mark_at now i ≡ Open → (other : Step) × Contains steps other × (other.node ≡ i)) → HasLast now step
   last_by now step [] path_is are_steps on_path = absurd (some_end now.path step path_is)
   last_by now step (top ∷ before) path_is are_steps on_path =
       let ends = same_ends now.path (path_of before) step top path_is in
@@ -93,11 +93,11 @@ module _ (cells : List Cell) (root : ℕ) (found : Resolved) where
         steps_are = subst (λ (s : Step). (i : ℕ) → mark_at now i ≡ Open → (other : Step) × Contains (s ∷ before) other × (other.node ≡ i)) (sym ends.1) on_path;
       }
 
-  pub has_last : (now : Walking) (step : Step) → IsWalk cells root found None (with_step step now) → HasLast now step
+  pub has_last : (now : WalkState) (step : Step) → IsWalk cells root found None (with_step step now) → HasLast now step
   has_last now step h = last_by now step h.steps h.path_is h.are_steps h.on_path
 
   -- the steps of a path are open
-  steps_open : (now : Walking) (next : Option ℕ) (steps : List Step) → AreSteps cells root found now next steps → (step : Step) → Contains steps step → mark_at now step.node ≡ Open
+  steps_open : (now : WalkState) (next : Option ℕ) (steps : List Step) → AreSteps cells root found now next steps → (step : Step) → Contains steps step → mark_at now step.node ≡ Open
   steps_open now next [] h step among = absurd (in_none among)
   steps_open now next (top ∷ before) h step among =
       elim (in_cases top before step among) [
@@ -106,7 +106,7 @@ module _ (cells : List Cell) (root : ℕ) (found : Resolved) where
       ]
 
   -- they stay what they are where the marks of the path stay, and what is done stays done
-  step_on : (now new : Walking) (next : Option ℕ) (step : Step) (before : List Step) → (mark_at now step.node ≡ Open → mark_at new step.node ≡ Open) → ((i : ℕ) → mark_at now i ≡ Done → mark_at new i ≡ Done) → IsStep cells root found now next step before → IsStep cells root found new next step before
+  step_on : (now new : WalkState) (next : Option ℕ) (step : Step) (before : List Step) → (mark_at now step.node ≡ Open → mark_at new step.node ≡ Open) → ((i : ℕ) → mark_at now i ≡ Done → mark_at new i ≡ Done) → IsStep cells root found now next step before → IsStep cells root found new next step before
   step_on now new next step before open_on done_on h = record {
     is_met = h.is_met;
     is_open = open_on h.is_open;
@@ -116,7 +116,7 @@ module _ (cells : List Cell) (root : ℕ) (found : Resolved) where
     apart = h.apart;
   }
 
-  steps_on : (now new : Walking) (next : Option ℕ) (steps : List Step) → ((step : Step) → Contains steps step → mark_at now step.node ≡ Open → mark_at new step.node ≡ Open) → ((i : ℕ) → mark_at now i ≡ Done → mark_at new i ≡ Done) → AreSteps cells root found now next steps → AreSteps cells root found new next steps
+  steps_on : (now new : WalkState) (next : Option ℕ) (steps : List Step) → ((step : Step) → Contains steps step → mark_at now step.node ≡ Open → mark_at new step.node ≡ Open) → ((i : ℕ) → mark_at now i ≡ Done → mark_at new i ≡ Done) → AreSteps cells root found now next steps → AreSteps cells root found new next steps
   steps_on now new next [] open_on done_on h = tt
   steps_on now new next (step ∷ before) open_on done_on h = (
     step_on now new next step before (open_on step (in_first step before)) done_on h.0,
@@ -124,7 +124,7 @@ module _ (cells : List Cell) (root : ℕ) (found : Resolved) where
   )
 
   -- what comes next is done
-  next_done : (now : Walking) (next : ℕ) (steps : List Step) → mark_at now next ≡ Done → AreSteps cells root found now (Some next) steps → AreSteps cells root found now None steps
+  next_done : (now : WalkState) (next : ℕ) (steps : List Step) → mark_at now next ≡ Done → AreSteps cells root found now (Some next) steps → AreSteps cells root found now None steps
   next_done now next [] done h = tt
   next_done now next (step ∷ before) done h = (
     record {
@@ -143,7 +143,7 @@ module _ (cells : List Cell) (root : ℕ) (found : Resolved) where
 
   -- ---- a step to what the last node leads to
 
-  pub next_step : (now : Walking) (step : Step) (next : ℕ) → IsWalk cells root found None (with_step step now) → slice_get (leads cells found step.node) step.met ≡ Some next → IsMet cells root found next → IsWalk cells root found (Some next) (with_step (step_of step.node (step.met + 1)) now)
+  pub next_step : (now : WalkState) (step : Step) (next : ℕ) → IsWalk cells root found None (with_step step now) → slice_get (leads cells found step.node) step.met ≡ Some next → IsMet cells root found next → IsWalk cells root found (Some next) (with_step (step_of step.node (step.met + 1)) now)
   next_step now step next h at met_next =
       let last = has_last now step h in
       let top = last.are_steps.0 in
@@ -185,7 +185,7 @@ module _ (cells : List Cell) (root : ℕ) (found : Resolved) where
 
   -- ---- a node that is met
 
-  pub newly_met : (now : Walking) (i : ℕ) → IsWalk cells root found (Some i) now → i < length now.marks → mark_at now i ≡ New → IsWalk cells root found None (opened i now)
+  pub newly_met : (now : WalkState) (i : ℕ) → IsWalk cells root found (Some i) now → i < length now.marks → mark_at now i ≡ New → IsWalk cells root found None (opened i now)
   newly_met now i h lt new =
       let stays_open : (step : Step) → Contains h.steps step → mark_at now step.node ≡ Open → mark_at (opened i now) step.node ≡ Open = λ step among is. other_mark now.marks i Open step.node (by_mark now i step.node New Open new is new_open) ∙ is in
       let stays_done : (j : ℕ) → mark_at now j ≡ Done → mark_at (opened i now) j ≡ Done = λ j is. other_mark now.marks i Open j (by_mark now i j New Done new is new_done) ∙ is in
@@ -220,7 +220,7 @@ module _ (cells : List Cell) (root : ℕ) (found : Resolved) where
         behind = h.behind;
       }
 
-  pub met_again : (now : Walking) (i : ℕ) → IsWalk cells root found (Some i) now → mark_at now i ≡ Done → IsWalk cells root found None now
+  pub met_again : (now : WalkState) (i : ℕ) → IsWalk cells root found (Some i) now → mark_at now i ≡ Done → IsWalk cells root found None now
   met_again now i h done = record {
     steps = h.steps;
     path_is = h.path_is;
@@ -236,7 +236,7 @@ module _ (cells : List Cell) (root : ℕ) (found : Resolved) where
 
   -- ---- a node that is left
 
-  pub node_left : (now : Walking) (step : Step) → IsWalk cells root found None (with_step step now) → step.node < length now.marks → slice_get (leads cells found step.node) step.met ≡ None → IsWalk cells root found None (left step.node now)
+  pub node_left : (now : WalkState) (step : Step) → IsWalk cells root found None (with_step step now) → step.node < length now.marks → slice_get (leads cells found step.node) step.met ≡ None → IsWalk cells root found None (left step.node now)
   node_left now step h lt none =
       let last = has_last now step h in
       let top = last.are_steps.0 in
@@ -298,13 +298,13 @@ module _ (cells : List Cell) (root : ℕ) (found : Resolved) where
 
 -- ---- what was met stays so
 
-pub opened_keeps : (now : Walking) (i : ℕ) → i < length now.marks → KeepsMarks now (opened i now)
+pub opened_keeps : (now : WalkState) (i : ℕ) → i < length now.marks → KeepsMarks now (opened i now)
 opened_keeps now i lt j met new = elim (cases_eq j i) [
   | inl same ↦ new_open (sym (sym (set_mark now.marks i Open lt) ∙ ap (mark_at (opened i now)) (sym same) ∙ new))
   | inr other ↦ met (sym (other_mark now.marks i Open j other) ∙ new)
 ]
 
-pub left_keeps : (now : Walking) (i : ℕ) → i < length now.marks → KeepsMarks now (left i now)
+pub left_keeps : (now : WalkState) (i : ℕ) → i < length now.marks → KeepsMarks now (left i now)
 left_keeps now i lt j met new = elim (cases_eq j i) [
   | inl same ↦ new_done (sym (sym (set_mark now.marks i Done lt) ∙ ap (mark_at (left i now)) (sym same) ∙ new))
   | inr other ↦ met (sym (other_mark now.marks i Done j other) ∙ new)
@@ -338,7 +338,7 @@ count_new_left (mark ∷ marks) (suc i) was =
     omega (arith, rest, count_cons mark marks, count_cons mark (set marks i Done))
 
 -- what is left to do with one more step on the path
-work_with : (cells : List Cell) (found : Resolved) (now : Walking) (step : Step) → work cells found (with_step step now) ≡ work cells found now + left_at cells found step
+work_with : (cells : List Cell) (found : Resolved) (now : WalkState) (step : Step) → work cells found (with_step step now) ≡ work cells found now + left_at cells found step
 work_with cells found now step =
     let sum = sum_by-append (left_at cells found) now.path (step ∷ []) in
     let one = sum_by-cons (left_at cells found) step [] in
@@ -348,13 +348,13 @@ work_with cells found now step =
 one_less : (fewer many each before after more : ℕ) → fewer + 1 ≡ many → after ≡ before + more → fewer * each + after + each ≡ many * each + before + more
 one_less fewer many each before after more is sum = rw (sym is, sum) (omega arith)
 
-newly_work : (cells : List Cell) (found : Resolved) (mid : Walking) (next : ℕ) → count_by is_new (set mid.marks next Open) + 1 ≡ count_by is_new mid.marks → work cells found (opened next mid) + most found ≡ work cells found mid + left_at cells found (step_of next 0)
+newly_work : (cells : List Cell) (found : Resolved) (mid : WalkState) (next : ℕ) → count_by is_new (set mid.marks next Open) + 1 ≡ count_by is_new mid.marks → work cells found (opened next mid) + most found ≡ work cells found mid + left_at cells found (step_of next 0)
 newly_work cells found mid next counted =
     let sum = sum_by-append (left_at cells found) mid.path (step_of next 0 ∷ []) in
     let one = sum_by-cons (left_at cells found) (step_of next 0) [] in
     one_less (count_by is_new (set mid.marks next Open)) (count_by is_new mid.marks) (most found) (sum_by (left_at cells found) mid.path) (sum_by (left_at cells found) (mid.path ++ step_of next 0 ∷ [])) (left_at cells found (step_of next 0)) counted (omega (arith, sum, one))
 
-module _ (cells : List Cell) (found : Resolved) (now : Walking) (step : Step) (next : ℕ) where
+module _ (cells : List Cell) (found : Resolved) (now : WalkState) (step : Step) (next : ℕ) where
   -- a node that was met before
   pub work_again : slice_get (leads cells found step.node) step.met ≡ Some next → work cells found (with_step (step_of step.node (step.met + 1)) now) < work cells found (with_step step now)
   work_again at =
@@ -371,7 +371,7 @@ module _ (cells : List Cell) (found : Resolved) (now : Walking) (step : Step) (n
       omega (arith, less, few, opened_work)
 
 -- one that is left
-pub work_left : (cells : List Cell) (found : Resolved) (now : Walking) (step : Step) → step.met ≤ length (leads cells found step.node) → mark_at now step.node ≡ Open → work cells found (left step.node now) < work cells found (with_step step now)
+pub work_left : (cells : List Cell) (found : Resolved) (now : WalkState) (step : Step) → step.met ≤ length (leads cells found step.node) → mark_at now step.node ≡ Open → work cells found (left step.node now) < work cells found (with_step step now)
 work_left cells found now step within is_open =
     let same = count_new_left now.marks step.node is_open in
     let equal : work cells found (left step.node now) ≡ work cells found now = ap (λ n. n * most found + sum_by (left_at cells found) now.path) same in

@@ -8,10 +8,10 @@ use Rattle.rng_simplify.specs.declared.fault.SchemaFault.{SchemaFault}
 use Rattle.rng_simplify.specs.declared.fault.SchemaFault.TheVariants.{NoMemory, Unreadable}
 use Rattle.rng_simplify.specs.declared.load.Loaded.{Loaded}
 use Rattle.rng_simplify.specs.Broken.{IsBroken}
-use Rattle.rng_simplify.specs.Breaking.{cells_of}
+use Rattle.rng_simplify.specs.Refusals.{cells_of}
 use Rattle.rng_simplify.specs.Composition.{IsOnePiece, GivesWhole}
-use Rattle.rng_simplify.specs.Loading.{AllLoaded}
-use Rattle.rng_simplify.specs.Making.{MakesWhole, whole_made, refused}
+use Rattle.rng_simplify.specs.LoadedFiles.{AllLoaded}
+use Rattle.rng_simplify.specs.MadeCells.{MakesWhole, whole_made, refused}
 use Rattle.rng_simplify.specs.Simplified.{IfTold}
 use Rattle.rng_simplify.proofs.Causes.{composing_cause}
 use Rattle.rng_simplify.proofs.OnePiece.{made_is_composed}

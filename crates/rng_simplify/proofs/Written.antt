@@ -20,9 +20,9 @@ use Rattle.rng_simplify.specs.Cells.{Cell}
 use Rattle.rng_simplify.specs.Cells as cell
 use Rattle.rng_simplify.specs.CellTexts.{IsText, AreTexts}
 use Rattle.rng_simplify.specs.Composition.{MadeIsText}
-use Rattle.rng_simplify.specs.Denoting.{IsCell}
-use Rattle.rng_simplify.specs.Loading.{Waiting, IsTextFile, AreRead, all_read, one_read, AllLoaded}
-use Rattle.rng_simplify.specs.Making.{Making, Outcome, made, refused, no_piece, ◌>>=◌, FilePiece, of_pattern, of_grammar, cell_made, or_empty_made, next_piece, as_pattern, as_grammar, next_pattern, next_grammar, make, make_item, make_items, make_replacement, make_anew, replaced_if, defines_all, with_new, make_file, lone_made, file_made, files_made, nothing_made, whole_made}
+use Rattle.rng_simplify.specs.CellMeanings.{IsCell}
+use Rattle.rng_simplify.specs.LoadedFiles.{Waiting, IsTextFile, AreRead, all_read, one_read, AllLoaded}
+use Rattle.rng_simplify.specs.MadeCells.{Stock, Outcome, made, refused, no_piece, ◌>>=◌, FilePiece, of_pattern, of_grammar, cell_made, or_empty_made, next_piece, as_pattern, as_grammar, next_pattern, next_grammar, make, make_item, make_items, make_replacement, make_anew, replaced_if, defines_all, with_new, make_file, lone_made, file_made, files_made, nothing_made, whole_made}
 use Rattle.rng_simplify.proofs.Owning.{old_or_last}
 use Rattle.rng_simplify.proofs.Walking.{file_last}
 
@@ -34,20 +34,20 @@ Writes (made v now) = AreTexts now.cells
 Writes (refused why) = Unit {0}
 Writes no_piece = Unit {0}
 
-then_writes : {A B : Type 0} (outcome : Outcome A) (more : A → Making → Outcome B) → Writes outcome →
-    ((v : A) (now : Making) → AreTexts now.cells → Writes (more v now)) → Writes (outcome >>= more)
+then_writes : {A B : Type 0} (outcome : Outcome A) (more : A → Stock → Outcome B) → Writes outcome →
+    ((v : A) (now : Stock) → AreTexts now.cells → Writes (more v now)) → Writes (outcome >>= more)
 then_writes (made v now) more first second = second v now first
 then_writes (refused why) more first second = tt
 then_writes no_piece more first second = tt
 
-cell_writes : (c : Cell) (now : Making) → IsText c → AreTexts now.cells → Writes (cell_made c now)
+cell_writes : (c : Cell) (now : Stock) → IsText c → AreTexts now.cells → Writes (cell_made c now)
 cell_writes c now is_text texts = record { each_is = λ i d at. each i d (old_or_last now.cells c i d at) }
   where
     each : (i : ℕ) (d : Cell) → IsCell now.cells i d ⊎ ((i ≡ length now.cells) × (c ≡ d)) → IsText d
     each i d (inl at) = texts.each_is i d at
     each i d (inr h) = subst (λ x. IsText x) h.1 is_text
 
-or_empty_writes : (i : ℕ) (now : Making) → AreTexts now.cells → Writes (or_empty_made i now)
+or_empty_writes : (i : ℕ) (now : Stock) → AreTexts now.cells → Writes (or_empty_made i now)
 or_empty_writes i now texts =
     then_writes (cell_made cell.empty now) (λ e. cell_made (cell.joined sign.Choice i e)) (cell_writes cell.empty now tt texts)
     (λ e mid more. cell_writes (cell.joined sign.Choice i e) mid tt more)
@@ -63,7 +63,7 @@ grammar_writes cells [] texts = tt
 grammar_writes cells (of_pattern root ∷ more) texts = tt
 grammar_writes cells (of_grammar clauses ∷ more) texts = texts
 
-replaced_writes : (old new : List Clause) (now : Making) → AreTexts now.cells →
+replaced_writes : (old new : List Clause) (now : Stock) → AreTexts now.cells →
     Writes (replaced_if (defines_all old new) (with_new old new) now)
 replaced_writes old new now texts = at (defines_all old new)
   where
@@ -87,14 +87,14 @@ module _ (ns : List ℕ) (is_text : IsUtf8 ns) where
   class_writes (written.without c d) h = sound_without (class_writes c h.0) (class_writes d h.1)
 
   -- definitions and those behind them
-  row_writes : (first : Outcome (List Clause)) (more : Making → Outcome (List Clause)) → Writes first →
-      ((now : Making) → AreTexts now.cells → Writes (more now)) → Writes (first >>= λ cs then. more then >>= λ ds. made (cs ++ ds))
+  row_writes : (first : Outcome (List Clause)) (more : Stock → Outcome (List Clause)) → Writes first →
+      ((now : Stock) → AreTexts now.cells → Writes (more now)) → Writes (first >>= λ cs then. more then >>= λ ds. made (cs ++ ds))
   row_writes first more one others =
       then_writes first (λ cs then. more then >>= λ ds. made (cs ++ ds)) one (λ cs now texts. then_writes (more now) (λ ds. made (cs ++ ds))
       (others now texts) (λ ds then ts. ts))
 
   mutual
-    make_writes : (p : WrittenPattern) (now : Making) → PatternIsText p → AreTexts now.cells → Writes (make ns p now)
+    make_writes : (p : WrittenPattern) (now : Stock) → PatternIsText p → AreTexts now.cells → Writes (make ns p now)
     make_writes (written.element class p) now h texts =
         then_writes (make ns p now) (λ i. cell_made (cell.element (class_in ns class) i)) (make_writes p now h.1 texts)
         (λ i mid ts. cell_writes (cell.element (class_in ns class) i) mid (class_writes class h.0) ts)
@@ -149,7 +149,7 @@ module _ (ns : List ℕ) (is_text : IsUtf8 ns) where
         (λ i mid ts. then_writes (make ns q mid) (λ j. cell_made (cell.joined sign.Interleave i j)) (make_writes q mid h.1 ts)
         (λ j then us. cell_writes (cell.joined sign.Interleave i j) then tt us))
 
-    item_writes : (item : WrittenItem) (now : Making) → ItemIsText item → AreTexts now.cells → Writes (make_item ns item now)
+    item_writes : (item : WrittenItem) (now : Stock) → ItemIsText item → AreTexts now.cells → Writes (make_item ns item now)
     item_writes (written.define name combine p) now h texts =
         then_writes (make ns p now) (λ i. made (record { name = name; combine = combine; body = i } ∷ [])) (make_writes p now h.1 texts)
         (λ i mid ts. ts)
@@ -160,42 +160,42 @@ module _ (ns : List ℕ) (is_text : IsUtf8 ns) where
         (λ old mid ts. then_writes (make_anew ns replacements mid) (λ new. replaced_if (defines_all old new) (with_new old new))
         (anew_write replacements mid h.1 ts) (λ new then us. replaced_writes old new then us))
 
-    items_write : (items : WrittenItems) (now : Making) → ItemsAreText items → AreTexts now.cells → Writes (make_items ns items now)
+    items_write : (items : WrittenItems) (now : Stock) → ItemsAreText items → AreTexts now.cells → Writes (make_items ns items now)
     items_write written.no_items now h texts = texts
     items_write (written.item_then item items) now h texts =
         row_writes (make_item ns item now) (λ then. make_items ns items then) (item_writes item now h.0 texts)
         (λ mid ts. items_write items mid h.1 ts)
 
-    replacement_writes : (replacement : WrittenReplacement) (now : Making) → ReplacementIsText replacement → AreTexts now.cells →
+    replacement_writes : (replacement : WrittenReplacement) (now : Stock) → ReplacementIsText replacement → AreTexts now.cells →
         Writes (make_replacement ns replacement now)
     replacement_writes (written.define_anew name combine p) now h texts =
         then_writes (make ns p now) (λ i. made (record { name = name; combine = combine; body = i } ∷ [])) (make_writes p now h.1 texts)
         (λ i mid ts. ts)
     replacement_writes (written.div_anew replacements) now h texts = anew_write replacements now h texts
 
-    anew_write : (replacements : WrittenReplacements) (now : Making) → ReplacementsAreText replacements → AreTexts now.cells →
+    anew_write : (replacements : WrittenReplacements) (now : Stock) → ReplacementsAreText replacements → AreTexts now.cells →
         Writes (make_anew ns replacements now)
     anew_write written.no_replacements now h texts = texts
     anew_write (written.replacement_then replacement replacements) now h texts =
         row_writes (make_replacement ns replacement now) (λ then. make_anew ns replacements then)
         (replacement_writes replacement now h.0 texts) (λ mid ts. anew_write replacements mid h.1 ts)
 
-  lone_writes : (p : WrittenPattern) (now : Making) → PatternIsText p → AreTexts now.cells → Writes (lone_made ns p now)
+  lone_writes : (p : WrittenPattern) (now : Stock) → PatternIsText p → AreTexts now.cells → Writes (lone_made ns p now)
   lone_writes p now h texts = then_writes (make ns p now) (λ root. made (of_pattern root)) (make_writes p now h texts) (λ root mid ts. ts)
 
-  grammar_file_writes : (items : WrittenItems) (now : Making) → ItemsAreText items → AreTexts now.cells →
+  grammar_file_writes : (items : WrittenItems) (now : Stock) → ItemsAreText items → AreTexts now.cells →
       Writes (make_file ns (written.a_grammar items) now)
   grammar_file_writes items now h texts =
       then_writes (make_items ns items now) (λ clauses. made (of_grammar clauses)) (items_write items now h texts) (λ clauses mid ts. ts)
 
-  surface_writes : (surface : WrittenSurface) (now : Making) → HasUtf8Texts surface → AreTexts now.cells → Writes (make_file ns surface now)
+  surface_writes : (surface : WrittenSurface) (now : Stock) → HasUtf8Texts surface → AreTexts now.cells → Writes (make_file ns surface now)
   surface_writes (written.a_grammar items) now h texts = grammar_file_writes items now h texts
   surface_writes (written.a_pattern (written.grammar items)) now h texts = grammar_file_writes items now h texts
   surface_writes (written.a_pattern p) now h texts = lone_writes p now h texts
 
 -- ---- files
 
-file_writes : (file : Loaded) (now : Making) → IsTextFile file → AreTexts now.cells → Writes (file_made file now)
+file_writes : (file : Loaded) (now : Stock) → IsTextFile file → AreTexts now.cells → Writes (file_made file now)
 file_writes file now is_text texts =
     then_writes (make_file file.inherited (surface_of file.surface) now)
     (λ piece then. made (tt {0}) (record { cells = then.cells; pieces = piece ∷ then.pieces }))

@@ -21,7 +21,7 @@ use Rattle.rnc_parse.specs.Reads.{Refuses}
 use Rattle.rng_simplify.specs.Classes.{has_bad_except, names_declarations, names_declarations_of_attribute}
 use Rattle.rng_simplify.specs.Composed.{Composed, Clauses, defines, defining, combines, numbers}
 use Rattle.rng_simplify.specs.Composed as composed
-use Rattle.rng_simplify.specs.Composing.{Context, Opens, grammar_items, Gathers, ComposesSchema}
+use Rattle.rng_simplify.specs.ComposedFiles.{Context, Opens, grammar_items, Gathers, ComposesSchema}
 use Rattle.rng_simplify.specs.Datatypes.{datatype_of, MayWrite, builtin_string, builtin_token}
 use Rattle.rng_simplify.specs.Forms.{Form, FormDefinition, Value, values_of, nodes, depth}
 use Rattle.rng_simplify.specs.Places.{place, Occurs, LeadsOn}
@@ -71,7 +71,7 @@ pub record HasIncludeLoop (files : FileMap) (uri : List ℕ) : Type 0 where
   pub mention : Mention
   pub mentioned : Mentions files uri context mention
   pub other : List ℕ
-  pub joined : Joins context.uri (reference_of mention).uri other
+  pub refers : Joins context.uri (reference_of mention).uri other
   pub leads_here : Contains context.chain other
 
 -- one includes a file that is no grammar
@@ -140,7 +140,7 @@ is_interleave combine.Alone = false
 is_interleave combine.Choice = false
 is_interleave combine.Interleave = true
 
--- two say nothing of how definitions of one name are joined, or two say it in two ways: 7.18
+-- two say nothing of how definitions of one name are combined, or two say it in two ways: 7.18
 abbrev pub clash : List Combine → Bool
 clash all = nat_lt 1 (length (filter is_alone all)) || (list_any is_choice all && list_any is_interleave all)
 

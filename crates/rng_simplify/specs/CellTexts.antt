@@ -3,7 +3,7 @@ use Rattle.std.specs.Prelude.{ℕ, List, IsUtf8}
 use Rattle.rng_core.specs.Soundness.{IsSoundClass}
 use Rattle.rng_simplify.specs.Cells.{Cell}
 use Rattle.rng_simplify.specs.Cells as cell
-use Rattle.rng_simplify.specs.Denoting.{IsCell}
+use Rattle.rng_simplify.specs.CellMeanings.{IsCell}
 
 -- what is written in a cell is UTF-8
 abbrev pub IsText : Cell → Type 0

@@ -63,7 +63,7 @@ but_for others end_of_clauses = end_of_clauses
 but_for others (clause_then name combine p more)
     = if defines name others then but_for others more else clause_then name combine p (but_for others more)
 
--- how they are joined
+-- how they are combined
 abbrev pub combines : Clauses → List Combine
 combines end_of_clauses = []
 combines (clause_then name combine p more) = combine ∷ combines more

@@ -5,17 +5,17 @@ use Rattle.nx_host.specs.Files.{FileMap}
 use Rattle.rng_simplify.specs.declared.compose.Whole.{Whole}
 use Rattle.rng_simplify.specs.declared.fault.SchemaFault.{SchemaFault}
 use Rattle.rng_simplify.specs.declared.load.Loaded.{Loaded}
-use Rattle.rng_simplify.specs.Breaking.{cells_of}
+use Rattle.rng_simplify.specs.Refusals.{cells_of}
 use Rattle.rng_simplify.specs.Broken.{IsBroken}
 use Rattle.rng_simplify.specs.Cells.{Cell}
 use Rattle.rng_simplify.specs.CellTexts.{AreTexts}
 use Rattle.rng_simplify.specs.Composed.{Composed}
-use Rattle.rng_simplify.specs.Composing.{ComposesSchema}
-use Rattle.rng_simplify.specs.Denoting.{Denotes}
-use Rattle.rng_simplify.specs.Loading.{AllLoaded}
-use Rattle.rng_simplify.specs.Making.{Making, made, refused, no_piece, whole_made}
+use Rattle.rng_simplify.specs.ComposedFiles.{ComposesSchema}
+use Rattle.rng_simplify.specs.CellMeanings.{Denotes}
+use Rattle.rng_simplify.specs.LoadedFiles.{AllLoaded}
+use Rattle.rng_simplify.specs.MadeCells.{Stock, made, refused, no_piece, whole_made}
 use Rattle.rng_simplify.specs.Simplified.{IfTold, Answers}
-use Rattle.rng_simplify.specs.Standing.{AreWellFormed}
+use Rattle.rng_simplify.specs.NodePlaces.{AreWellFormed}
 
 -- each file that is mentioned has its piece
 abbrev pub NoPieceIsMissing : Type 0
@@ -25,13 +25,13 @@ NoPieceIsMissing =
 -- no node that is made stands in two
 abbrev pub MadeIsWellFormed : Type 0
 MadeIsWellFormed =
-    (told : Option FileMap) (uri : List ℕ) (loaded : List Loaded) → AllLoaded told uri (reverse loaded) → (root : ℕ) (left : Making) →
+    (told : Option FileMap) (uri : List ℕ) (loaded : List Loaded) → AllLoaded told uri (reverse loaded) → (root : ℕ) (left : Stock) →
     whole_made loaded ≡ made root left → AreWellFormed left.cells root
 
 -- what is written in them is UTF-8
 abbrev pub MadeIsText : Type 0
 MadeIsText =
-    (told : Option FileMap) (uri : List ℕ) (loaded : List Loaded) → AllLoaded told uri (reverse loaded) → (root : ℕ) (left : Making) →
+    (told : Option FileMap) (uri : List ℕ) (loaded : List Loaded) → AllLoaded told uri (reverse loaded) → (root : ℕ) (left : Stock) →
     whole_made loaded ≡ made root left → AreTexts left.cells
 
 -- and well-formed nodes stand for something
@@ -47,7 +47,7 @@ pub record IsOnePiece (files : FileMap) (uri : List ℕ) (number : ℕ → ℕ) 
 
 abbrev pub MadeIsComposed : Type 0
 MadeIsComposed =
-    (files : FileMap) (uri : List ℕ) (loaded : List Loaded) → AllLoaded (Some files) uri (reverse loaded) → (root : ℕ) (left : Making) →
+    (files : FileMap) (uri : List ℕ) (loaded : List Loaded) → AllLoaded (Some files) uri (reverse loaded) → (root : ℕ) (left : Stock) →
     whole_made loaded ≡ made root left → (number : ℕ → ℕ) → IsOnePiece files uri number left.cells root
 
 -- files that are refused make no piece

@@ -5,7 +5,7 @@ use Rattle.nx_host.specs.Files.{FileMap}
 use Rattle.rng_core.specs.Patterns.{Pattern, Definition}
 use Rattle.rng_simplify.specs.Broken.{HasBadUri, WholeIsBroken, IsBroken}
 use Rattle.rng_simplify.specs.Composed.{Composed}
-use Rattle.rng_simplify.specs.Composing.{Context, ComposesSchema}
+use Rattle.rng_simplify.specs.ComposedFiles.{Context, ComposesSchema}
 use Rattle.rng_simplify.specs.Grammars.{IsSimplified}
 use Rattle.rng_simplify.specs.References.{Reached}
 use Rattle.rng_simplify.specs.Simplified.{Simplifies}

@@ -75,18 +75,18 @@ interleave_of p q = interleave p q
 
 -- ---- definitions of one name: section 7.18
 
--- how they are joined: the first that says how
+-- how they are combined: the first that says how
 abbrev pub combine_of : List Combine → Combine
 combine_of [] = combine.Alone
 combine_of (combine.Alone ∷ more) = combine_of more
 combine_of (combine.Choice ∷ more) = combine.Choice
 combine_of (combine.Interleave ∷ more) = combine.Interleave
 
--- the two of them; one that stands alone is joined to nothing
-abbrev pub join_of : Combine → Form → Form → Form
-join_of combine.Alone = choice_of
-join_of combine.Choice = choice_of
-join_of combine.Interleave = interleave_of
+-- the two of them; one that stands alone is combined with nothing
+abbrev pub combined_by : Combine → Form → Form → Form
+combined_by combine.Alone = choice_of
+combined_by combine.Choice = choice_of
+combined_by combine.Interleave = interleave_of
 
 -- ---- what is taken from a type
 

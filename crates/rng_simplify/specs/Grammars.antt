@@ -15,14 +15,14 @@ use Rattle.rng_simplify.specs.Cells.{Cell}
 use Rattle.rng_simplify.specs.CellTexts.{AreTexts}
 use Rattle.rng_simplify.specs.Composed.{Composed}
 use Rattle.rng_simplify.specs.Datatypes.{Typed, AreTyped}
-use Rattle.rng_simplify.specs.Denoting.{Denotes}
-use Rattle.rng_simplify.specs.Forming.{AreForms}
+use Rattle.rng_simplify.specs.CellMeanings.{Denotes}
+use Rattle.rng_simplify.specs.NodeForms.{AreForms}
 use Rattle.rng_simplify.specs.Forms.{Form, FormDefinition, Value}
-use Rattle.rng_simplify.specs.Judging.{AreGood}
-use Rattle.rng_simplify.specs.Limiting.{AreWithinLimits}
-use Rattle.rng_simplify.specs.Resolving.{IsResolved, IsOrdered}
-use Rattle.rng_simplify.specs.Standing.{AreWellFormed}
-use Rattle.rng_simplify.specs.Typing.{AreTypesBefore}
+use Rattle.rng_simplify.specs.GoodClasses.{AreGood}
+use Rattle.rng_simplify.specs.Limits.{AreWithinLimits}
+use Rattle.rng_simplify.specs.ResolvedNodes.{IsResolved, IsOrdered}
+use Rattle.rng_simplify.specs.NodePlaces.{AreWellFormed}
+use Rattle.rng_simplify.specs.NodeTypes.{AreTypesBefore}
 use Rattle.rng_simplify.specs.Whole.{IsForm}
 
 -- ---- what is answered

@@ -1,41 +1,48 @@
--- What a reader must believe: what `simplify` answers, and what that stands on.
-pub mod Composed
-pub mod Classes
-pub mod Composing
+-- What a reader must believe: what a simplified schema is. `simplify` answers what stands in Simplified.
+pub mod Simplified
+-- The files that a file refers to, and all of them in one piece.
 pub mod References
+pub mod Classes
+pub mod Composed
+pub mod ComposedFiles
+-- The simple form of a schema in one piece, and of what it is made.
+pub mod Places
 pub mod Forms
 pub mod Simple
-pub mod Places
 pub mod Whole
 pub mod Datatypes
+-- Why files define no grammar.
 pub mod Broken
-pub mod Simplified
--- What the parts of the code do, for the proof.
-pub mod Seeing
-pub mod Cells
-pub mod Denoting
-pub mod Making
-pub mod Keeping
-pub mod Supplying
-pub mod Rows
-pub mod Mentioning
-pub mod Loading
-pub mod Following
-pub mod Standing
-pub mod CellTexts
-pub mod Composition
-pub mod Resolving
-pub mod Scoping
-pub mod Breaking
-pub mod Walking
-pub mod Judging
-pub mod Shown
-pub mod Forming
-pub mod Limiting
-pub mod Typing
-pub mod Spelling
-pub mod Grammars
-pub mod Unnumbered
 -- The laws of these definitions.
-pub mod Agreeing
+pub mod Unambiguous
 pub mod Exact
+pub mod Unnumbered
+-- What the parts of the code do, for the proof. Files are loaded:
+pub mod KeptMentions
+pub mod LoadedFiles
+pub mod FileChains
+-- They are composed of numbered nodes, cells to a contract:
+pub mod Cells
+pub mod CellTexts
+pub mod CellMeanings
+pub mod Rows
+pub mod MadeCells
+pub mod SuppliedPieces
+pub mod Composition
+pub mod Refusals
+-- References are resolved, and name classes judged:
+pub mod NodePlaces
+pub mod NameTables
+pub mod Findings
+pub mod ResolvedNodes
+pub mod JudgedClasses
+pub mod GoodClasses
+-- Nodes are ordered, and get their forms by shapes:
+pub mod NodeWalks
+pub mod Shown
+pub mod NodeForms
+pub mod Limits
+-- Types are known, and the grammar is spelled out:
+pub mod NodeTypes
+pub mod SpelledShapes
+pub mod Grammars

@@ -7,7 +7,7 @@ use Rattle.rnc_parse.specs.declared.surface.Defined.{Defined}
 use Rattle.rnc_parse.specs.Written.{WrittenPattern, WrittenItem, WrittenItems, WrittenReplacement, WrittenReplacements}
 use Rattle.rnc_parse.specs.Written.{WrittenSurface, a_pattern, a_grammar}
 use Rattle.rnc_parse.specs.Written as written
-use Rattle.rng_simplify.specs.Composing.{Context, top, referred, Says}
+use Rattle.rng_simplify.specs.ComposedFiles.{Context, top, referred, Says}
 
 -- a file that is mentioned for its pattern, or for its definitions, with those that are defined anew
 pub data Mention : Type 0 where

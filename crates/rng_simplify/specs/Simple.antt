@@ -9,7 +9,7 @@ use Rattle.rng_core.specs.Names.{Class}
 use Rattle.rng_simplify.specs.Composed.{Composed, Clauses, defining, combines, bodies}
 use Rattle.rng_simplify.specs.Composed as composed
 use Rattle.rng_simplify.specs.Forms.{Form, Value, list_of, attribute_of, one_or_more_of, choice_of, group_of}
-use Rattle.rng_simplify.specs.Forms.{interleave_of, combine_of, join_of, values_of}
+use Rattle.rng_simplify.specs.Forms.{interleave_of, combine_of, combined_by, values_of}
 use Rattle.rng_simplify.specs.Forms as form
 
 mutual
@@ -45,11 +45,11 @@ mutual
     simple_parent_ref : {inner scope : Clauses} {outer : List Clauses} {name : List ℕ} {q : Form} →
         Defines scope outer (defined.Name name) q → Simple (inner ∷ scope ∷ outer) (composed.parent_ref name) q
 
-  -- 7.18: what a grammar defines under the name, joined in order; it nests to the left
+  -- 7.18: what a grammar defines under the name, combined in order; it nests to the left
   pub data Defines : Clauses → List Clauses → Defined → Form → Type 0 where
-    joined_in_order : {scope : Clauses} {outer : List Clauses} {name : Defined} {first q : Form} {more : List Form} →
+    combined_in_order : {scope : Clauses} {outer : List Clauses} {name : Defined} {first q : Form} {more : List Form} →
         AreSimple (scope ∷ outer) (bodies (defining name scope)) (first ∷ more) →
-        q ≡ joined (join_of (combine_of (combines (defining name scope)))) first more → Defines scope outer name q
+        q ≡ joined (combined_by (combine_of (combines (defining name scope)))) first more → Defines scope outer name q
 
   pub data AreSimple : List Clauses → List Composed → List Form → Type 0 where
     none_simple : {scopes : List Clauses} → AreSimple scopes [] []

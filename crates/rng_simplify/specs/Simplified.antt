@@ -12,7 +12,7 @@ use Rattle.rng_simplify.specs.declared.fault.SchemaFault.{SchemaFault}
 use Rattle.rng_simplify.specs.declared.fault.SchemaFault.TheVariants.{Absent, NotUtf8, BadUri, Failed, NoMemory, Unreadable}
 use Rattle.rng_simplify.specs.Broken.{IsAbsent, IsNoText, HasBadUri, IsBroken, WholeIsBroken}
 use Rattle.rng_simplify.specs.Composed.{Composed}
-use Rattle.rng_simplify.specs.Composing.{ComposesSchema}
+use Rattle.rng_simplify.specs.ComposedFiles.{ComposesSchema}
 use Rattle.rng_simplify.specs.Datatypes.{Typed, AreTyped}
 use Rattle.rng_simplify.specs.Forms.{Form, FormDefinition}
 use Rattle.rng_simplify.specs.Whole.{IsForm}

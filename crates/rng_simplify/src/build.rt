@@ -5,12 +5,12 @@ ghost use Rattle.rng_core.specs.Meaning.{pattern_of};
 ghost use Rattle.rng_simplify.specs.declared.build.Task.{Task as TaskOf};
 ghost use Rattle.rng_simplify.specs.declared.build.Task.TheVariants.{Spell, Wrap};
 ghost use Rattle.rng_simplify.specs.Cells.{cell_of};
-ghost use Rattle.rng_simplify.specs.Forming.{IsKnown};
-ghost use Rattle.rng_simplify.specs.Limiting.{AreElements, IsElement, content_of};
-ghost use Rattle.rng_simplify.specs.Typing.{IsValue};
-ghost use Rattle.rng_simplify.specs.Spelling.{IsReady, HasAttribute, HasType, Leaves, IsAttribute, IsLiteral, IsTyped};
-ghost use Rattle.rng_simplify.specs.Spelling.{BuildsPattern, IsUnderWay, Does, BuildsDefinition, Builds};
-ghost use Rattle.rng_simplify.specs.Spelling.{joined_pattern};
+ghost use Rattle.rng_simplify.specs.NodeForms.{IsKnown};
+ghost use Rattle.rng_simplify.specs.Limits.{AreElements, IsElement, content_of};
+ghost use Rattle.rng_simplify.specs.NodeTypes.{IsValue};
+ghost use Rattle.rng_simplify.specs.SpelledShapes.{IsReady, HasAttribute, HasType, Leaves, IsAttribute, IsLiteral, IsTyped};
+ghost use Rattle.rng_simplify.specs.SpelledShapes.{BuildsPattern, IsUnderWay, Does, BuildsDefinition, Builds};
+ghost use Rattle.rng_simplify.specs.SpelledShapes.{joined_pattern};
 
 use crate::fault::SchemaFault;
 use crate::form::Forms;

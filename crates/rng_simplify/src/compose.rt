@@ -9,10 +9,10 @@ ghost use Rattle.rnc_parse.specs.Written as written;
 ghost use Rattle.rnc_parse.specs.declared.surface.FileReference.{FileReference};
 ghost use Rattle.rnc_parse.specs.Views.{class_of as written_class_of};
 ghost use Rattle.rng_simplify.specs.Cells.{cell_of};
-ghost use Rattle.rng_simplify.specs.Making.{Makes, making_of, cell_made, or_empty_made, make, make_item, make_items};
-ghost use Rattle.rng_simplify.specs.Making.{make_replacement, make_anew, behind, next_pattern, next_grammar, make_row};
-ghost use Rattle.rng_simplify.specs.Making.{make_next, none_made, make_file, lone_made, piece_of, whole_made};
-ghost use Rattle.rng_simplify.specs.Making.{whole_made_from, files_made, file_made, no_piece, MakesWhole, IsFaultOf};
+ghost use Rattle.rng_simplify.specs.MadeCells.{Makes, stock_of, cell_made, or_empty_made, make, make_item, make_items};
+ghost use Rattle.rng_simplify.specs.MadeCells.{make_replacement, make_anew, behind, next_pattern, next_grammar, make_row};
+ghost use Rattle.rng_simplify.specs.MadeCells.{make_next, none_made, make_file, lone_made, piece_of, whole_made};
+ghost use Rattle.rng_simplify.specs.MadeCells.{whole_made_from, files_made, file_made, no_piece, MakesWhole, IsFaultOf};
 ghost use Rattle.rnc_parse.specs.Written.{a_grammar, a_pattern};
 ghost use Rattle.rng_simplify.specs.declared.stop.Stop.TheVariants.{NoPiece};
 ghost use Rattle.rng_simplify.specs.Rows.{row_of};
@@ -88,7 +88,7 @@ fn fault_of(stop: Stop) -> SchemaFault
 impl Composer {
     /// A further node, by its number.
     fn node(&mut self, node: Node) -> Result<NodeNumber, Stop>
-        ensures { Makes (making_of self.new) (λ i. i) (cell_made (cell_of node) (making_of self.old)) result }
+        ensures { Makes (stock_of self.new) (λ i. i) (cell_made (cell_of node) (stock_of self.old)) result }
     {
         let number = self.nodes.len();
         self.nodes.push(node)?;
@@ -97,7 +97,7 @@ impl Composer {
 
     /// All files in order, and the node of the one that is left.
     fn whole(&mut self, loaded: Vec<Loaded>) -> Result<NodeNumber, Stop>
-        ensures { Makes (making_of self.new) (λ i. i) (whole_made_from loaded.items (making_of self.old)) result }
+        ensures { Makes (stock_of self.new) (λ i. i) (whole_made_from loaded.items (stock_of self.old)) result }
     {
         self.files(loaded)?;
         self.mentioned()
@@ -105,7 +105,7 @@ impl Composer {
 
     /// Files in order.
     fn files(&mut self, loaded: Vec<Loaded>) -> Result<(), Stop>
-        ensures { Makes (making_of self.new) (λ done. done) (files_made loaded.items (making_of self.old)) result }
+        ensures { Makes (stock_of self.new) (λ done. done) (files_made loaded.items (stock_of self.old)) result }
     {
         for file in loaded {
             self.take(file)?;
@@ -115,7 +115,7 @@ impl Composer {
 
     /// A file, which leaves its piece for what mentions it.
     fn take(&mut self, file: Loaded) -> Result<(), Stop>
-        ensures { Makes (making_of self.new) (λ done. done) (file_made file (making_of self.old)) result }
+        ensures { Makes (stock_of self.new) (λ done. done) (file_made file (stock_of self.old)) result }
     {
         let piece = self.file(file)?;
         self.pieces.push(piece)?;
@@ -124,7 +124,7 @@ impl Composer {
 
     /// A whole file.
     fn file(&mut self, file: Loaded) -> Result<Piece, Stop>
-        ensures { Makes (making_of self.new) piece_of (make_file file.inherited (surface_of file.surface) (making_of self.old)) result }
+        ensures { Makes (stock_of self.new) piece_of (make_file file.inherited (surface_of file.surface) (stock_of self.old)) result }
     {
         let Loaded { inherited, surface } = file;
         match surface {
@@ -135,8 +135,8 @@ impl Composer {
 
     /// A file of these items.
     fn grammar_file(&mut self, inherited: &Bytes, items: Vec<Item>) -> Result<Piece, Stop>
-        ensures { Makes (making_of self.new) piece_of
-            (make_file inherited.now (a_grammar (items_in items.items)) (making_of self.old)) result }
+        ensures { Makes (stock_of self.new) piece_of
+            (make_file inherited.now (a_grammar (items_in items.items)) (stock_of self.old)) result }
     {
         let mut clauses = Vec::new(self.alloc);
         self.items(inherited, items, &mut clauses)?;
@@ -146,8 +146,8 @@ impl Composer {
     /// A file that is this pattern, which may be a grammar alone.
     #[cycle(file)]
     fn pattern_file(&mut self, inherited: &Bytes, pattern: Pattern) -> Result<Piece, Stop>
-        ensures { Makes (making_of self.new) piece_of
-            (make_file inherited.now (a_pattern (pattern_of pattern)) (making_of self.old)) result }
+        ensures { Makes (stock_of self.new) piece_of
+            (make_file inherited.now (a_pattern (pattern_of pattern)) (stock_of self.old)) result }
     {
         match pattern {
             Pattern::Grammar(items) => self.grammar_file(inherited, items),
@@ -166,8 +166,8 @@ impl Composer {
         sign: Sign,
         patterns: Vec<Pattern>,
     ) -> Result<Piece, Stop>
-        ensures { Makes (making_of self.new) piece_of
-            (make_file inherited.now (a_pattern (row_of sign patterns.items)) (making_of self.old)) result }
+        ensures { Makes (stock_of self.new) piece_of
+            (make_file inherited.now (a_pattern (row_of sign patterns.items)) (stock_of self.old)) result }
     {
         if patterns.len() != 1 {
             let root = self.joined(inherited, sign, patterns)?;
@@ -182,7 +182,7 @@ impl Composer {
 
     /// A file that is this pattern, and no grammar alone.
     fn lone_pattern(&mut self, inherited: &Bytes, pattern: Pattern) -> Result<Piece, Stop>
-        ensures { Makes (making_of self.new) piece_of (lone_made inherited.now (pattern_of pattern) (making_of self.old)) result }
+        ensures { Makes (stock_of self.new) piece_of (lone_made inherited.now (pattern_of pattern) (stock_of self.old)) result }
     {
         let root = self.pattern(inherited, pattern)?;
         Ok(Piece::Pattern(root))
@@ -190,7 +190,7 @@ impl Composer {
 
     /// The pattern of the file that is mentioned next.
     fn mentioned(&mut self) -> Result<NodeNumber, Stop>
-        ensures { Makes (making_of self.new) (λ i. i) (next_pattern (making_of self.old)) result }
+        ensures { Makes (stock_of self.new) (λ i. i) (next_pattern (stock_of self.old)) result }
     {
         match self.pieces.pop() {
             Some(Piece::Pattern(root)) => Ok(root),
@@ -201,7 +201,7 @@ impl Composer {
 
     /// The definitions of the file that is mentioned next, which must be a grammar.
     fn included(&mut self) -> Result<Vec<Clause>, Stop>
-        ensures { Makes (making_of self.new) (λ clauses. clauses.items) (next_grammar (making_of self.old)) result }
+        ensures { Makes (stock_of self.new) (λ clauses. clauses.items) (next_grammar (stock_of self.old)) result }
     {
         match self.pieces.pop() {
             Some(Piece::Pattern(_)) => Err(Stop::Unreadable(Cause::NotGrammar)),
@@ -213,7 +213,7 @@ impl Composer {
     /// A pattern of a file that inherits the namespace.
     #[cycle(compose)]
     fn pattern(&mut self, inherited: &Bytes, pattern: Pattern) -> Result<NodeNumber, Stop>
-        ensures { Makes (making_of self.new) (λ i. i) (make inherited.now (pattern_of pattern) (making_of self.old)) result }
+        ensures { Makes (stock_of self.new) (λ i. i) (make inherited.now (pattern_of pattern) (stock_of self.old)) result }
     {
         match pattern {
             Pattern::Element(class, content) => {
@@ -273,8 +273,8 @@ impl Composer {
         content: Pattern,
         class: WrittenClass,
     ) -> Result<NodeNumber, Stop>
-        ensures { Makes (making_of self.new) (λ i. i)
-            (make inherited.now (written.element (written_class_of class) (pattern_of content)) (making_of self.old)) result }
+        ensures { Makes (stock_of self.new) (λ i. i)
+            (make inherited.now (written.element (written_class_of class) (pattern_of content)) (stock_of self.old)) result }
     {
         let class = class_in(self.alloc, inherited, class)?;
         let content = self.pattern(inherited, content)?;
@@ -288,8 +288,8 @@ impl Composer {
         value: Pattern,
         class: WrittenClass,
     ) -> Result<NodeNumber, Stop>
-        ensures { Makes (making_of self.new) (λ i. i)
-            (make inherited.now (written.attribute (written_class_of class) (pattern_of value)) (making_of self.old)) result }
+        ensures { Makes (stock_of self.new) (λ i. i)
+            (make inherited.now (written.attribute (written_class_of class) (pattern_of value)) (stock_of self.old)) result }
     {
         let class = class_in(self.alloc, inherited, class)?;
         let value = self.pattern(inherited, value)?;
@@ -298,7 +298,7 @@ impl Composer {
 
     /// The choice of the pattern and nothing at all.
     fn or_empty(&mut self, body: NodeNumber) -> Result<NodeNumber, Stop>
-        ensures { Makes (making_of self.new) (λ i. i) (or_empty_made body (making_of self.old)) result }
+        ensures { Makes (stock_of self.new) (λ i. i) (or_empty_made body (stock_of self.old)) result }
     {
         let empty = self.node(Node::Empty)?;
         self.node(Node::Joined(Sign::Choice, body, empty))
@@ -312,7 +312,7 @@ impl Composer {
         sign: Sign,
         patterns: Vec<Pattern>,
     ) -> Result<NodeNumber, Stop>
-        ensures { Makes (making_of self.new) (λ i. i) (make_row inherited.now sign patterns.items (making_of self.old)) result }
+        ensures { Makes (stock_of self.new) (λ i. i) (make_row inherited.now sign patterns.items (stock_of self.old)) result }
     {
         let mut joined = None;
         for pattern in patterns {
@@ -333,7 +333,7 @@ impl Composer {
         joined: Option<NodeNumber>,
         next: Pattern,
     ) -> Result<NodeNumber, Stop>
-        ensures { Makes (making_of self.new) (λ i. i) (make_next inherited.now sign joined next (making_of self.old)) result }
+        ensures { Makes (stock_of self.new) (λ i. i) (make_next inherited.now sign joined next (stock_of self.old)) result }
     {
         let next = self.pattern(inherited, next)?;
         match joined {
@@ -344,7 +344,7 @@ impl Composer {
 
     /// No patterns joined by a sign.
     fn none_joined(&mut self, sign: Sign) -> Result<NodeNumber, Stop>
-        ensures { Makes (making_of self.new) (λ i. i) (none_made sign (making_of self.old)) result }
+        ensures { Makes (stock_of self.new) (λ i. i) (none_made sign (stock_of self.old)) result }
     {
         match sign {
             Sign::Choice => self.node(Node::NotAllowed),
@@ -355,8 +355,8 @@ impl Composer {
 
     #[cycle(compose)]
     fn grammar(&mut self, inherited: &Bytes, items: Vec<Item>) -> Result<NodeNumber, Stop>
-        ensures { Makes (making_of self.new) (λ i. i)
-            (make inherited.now (written.grammar (items_in items.items)) (making_of self.old)) result }
+        ensures { Makes (stock_of self.new) (λ i. i)
+            (make inherited.now (written.grammar (items_in items.items)) (stock_of self.old)) result }
     {
         let mut clauses = Vec::new(self.alloc);
         self.items(inherited, items, &mut clauses)?;
@@ -371,8 +371,8 @@ impl Composer {
         items: Vec<Item>,
         clauses: &mut Vec<Clause>,
     ) -> Result<(), Stop>
-        ensures { Makes (making_of self.new) (λ _. clauses.new.items)
-            (behind clauses.old.items (make_items inherited.now (items_in items.items) (making_of self.old))) result }
+        ensures { Makes (stock_of self.new) (λ _. clauses.new.items)
+            (behind clauses.old.items (make_items inherited.now (items_in items.items) (stock_of self.old))) result }
     {
         for item in items {
             self.item(inherited, item, clauses)?;
@@ -383,8 +383,8 @@ impl Composer {
     /// Adds those of an item.
     #[cycle(compose)]
     fn item(&mut self, inherited: &Bytes, item: Item, clauses: &mut Vec<Clause>) -> Result<(), Stop>
-        ensures { Makes (making_of self.new) (λ _. clauses.new.items)
-            (behind clauses.old.items (make_item inherited.now (item_of item) (making_of self.old))) result }
+        ensures { Makes (stock_of self.new) (λ _. clauses.new.items)
+            (behind clauses.old.items (make_item inherited.now (item_of item) (stock_of self.old))) result }
     {
         match item {
             Item::Define(name, combine, pattern) => {
@@ -403,9 +403,9 @@ impl Composer {
         replacements: Vec<Replacement>,
         clauses: &mut Vec<Clause>,
     ) -> Result<(), Stop>
-        ensures { (reference : FileReference) → Makes (making_of self.new) (λ _. clauses.new.items)
+        ensures { (reference : FileReference) → Makes (stock_of self.new) (λ _. clauses.new.items)
             (behind clauses.old.items
-            (make_item inherited.now (written.include reference (replacements_in replacements.items)) (making_of self.old)))
+            (make_item inherited.now (written.include reference (replacements_in replacements.items)) (stock_of self.old)))
             result }
     {
         let old = self.included()?;
@@ -424,8 +424,8 @@ impl Composer {
         replacements: Vec<Replacement>,
         clauses: &mut Vec<Clause>,
     ) -> Result<(), Stop>
-        ensures { Makes (making_of self.new) (λ _. clauses.new.items)
-            (behind clauses.old.items (make_anew inherited.now (replacements_in replacements.items) (making_of self.old))) result }
+        ensures { Makes (stock_of self.new) (λ _. clauses.new.items)
+            (behind clauses.old.items (make_anew inherited.now (replacements_in replacements.items) (stock_of self.old))) result }
     {
         for replacement in replacements {
             self.replacement(inherited, replacement, clauses)?;
@@ -441,8 +441,8 @@ impl Composer {
         replacement: Replacement,
         clauses: &mut Vec<Clause>,
     ) -> Result<(), Stop>
-        ensures { Makes (making_of self.new) (λ _. clauses.new.items)
-            (behind clauses.old.items (make_replacement inherited.now (replacement_of replacement) (making_of self.old))) result }
+        ensures { Makes (stock_of self.new) (λ _. clauses.new.items)
+            (behind clauses.old.items (make_replacement inherited.now (replacement_of replacement) (stock_of self.old))) result }
     {
         match replacement {
             Replacement::Define(name, combine, pattern) => {
@@ -462,9 +462,9 @@ impl Composer {
         pattern: Pattern,
         clauses: &mut Vec<Clause>,
     ) -> Result<(), Stop>
-        ensures { Makes (making_of self.new) (λ _. clauses.new.items)
+        ensures { Makes (stock_of self.new) (λ _. clauses.new.items)
             (behind clauses.old.items
-            (make_item inherited.now (written.define name combine (pattern_of pattern)) (making_of self.old))) result }
+            (make_item inherited.now (written.define name combine (pattern_of pattern)) (stock_of self.old))) result }
     {
         let body = self.pattern(inherited, pattern)?;
         clauses.push(Clause {

@@ -6,12 +6,12 @@
 
 ghost use Rattle.std.specs.Prelude.{ℕ, ◌<◌, ◌≡◌, length, map, IfOk, Contains};
 ghost use Rattle.rng_simplify.specs.Cells.{cell_of, Cell};
-ghost use Rattle.rng_simplify.specs.Denoting.{IsCell};
-ghost use Rattle.rng_simplify.specs.Forming.{IsKnown};
-ghost use Rattle.rng_simplify.specs.Limiting.{AreElements};
+ghost use Rattle.rng_simplify.specs.CellMeanings.{IsCell};
+ghost use Rattle.rng_simplify.specs.NodeForms.{IsKnown};
+ghost use Rattle.rng_simplify.specs.Limits.{AreElements};
 ghost use Rattle.rng_simplify.specs.Shown.{IsBehindParts};
-ghost use Rattle.rng_simplify.specs.Standing.{cell_parts};
-ghost use Rattle.rng_simplify.specs.Typing.{AreKnown};
+ghost use Rattle.rng_simplify.specs.NodePlaces.{cell_parts};
+ghost use Rattle.rng_simplify.specs.NodeTypes.{AreKnown};
 
 use crate::form::Forms;
 use crate::limit::content;

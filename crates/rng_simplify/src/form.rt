@@ -2,9 +2,9 @@
 
 ghost use Rattle.std.specs.Prelude.{◌≡◌, ◌+◌, ◌<◌, ℕ, length, map, slice_index, slice_get, Some, Contains};
 ghost use Rattle.rng_simplify.specs.Cells.{cell_of};
-ghost use Rattle.rng_simplify.specs.Forms.{join_of};
-ghost use Rattle.rng_simplify.specs.Forming.{IsKnown, IsRoom, IsInOrder, MakesCell, MakesCombined, JoinsAll, Makes, Places, MakesForms};
-ghost use Rattle.rng_simplify.specs.Resolving.{cell_leads, leads, combined_number};
+ghost use Rattle.rng_simplify.specs.Forms.{combined_by};
+ghost use Rattle.rng_simplify.specs.NodeForms.{IsKnown, IsRoom, IsInOrder, MakesCell, MakesCombined, JoinsAll, Makes, Places, MakesForms};
+ghost use Rattle.rng_simplify.specs.ResolvedNodes.{cell_leads, leads, combined_number};
 ghost use Rattle.rng_simplify.specs.Shown.{joined_of};
 
 use crate::fault::SchemaFault;
@@ -39,9 +39,9 @@ pub(crate) fn forms_of(
     Ok(forms)
 }
 
-/// The sign by which definitions are joined.
+/// The sign by which definitions are combined.
 fn sign_of(combine: Combine) -> Sign
-    ensures { joined_of result ≡ join_of combine }
+    ensures { joined_of result ≡ combined_by combine }
 {
     match combine {
         Combine::Alone => Sign::Choice,

@@ -1,11 +1,11 @@
 //! Laws of composing and of simple forms. Nothing here runs.
 
-ghost use Rattle.rng_simplify.specs.Agreeing.{SimpleFormIsOne, SchemaFormIsOne, GrammarIsOne, PieceIsOne};
-ghost use Rattle.rng_simplify.specs.Agreeing.{ComposedArePassed, SimplifiedIsNotBroken, GrammarIsNoRefusal};
+ghost use Rattle.rng_simplify.specs.Unambiguous.{SimpleFormIsOne, SchemaFormIsOne, GrammarIsOne, PieceIsOne};
+ghost use Rattle.rng_simplify.specs.Unambiguous.{ComposedArePassed, SimplifiedIsNotBroken, GrammarIsNoRefusal};
 ghost use Rattle.rng_simplify.specs.Exact.{PieceIsSimplifiedOrBroken, NumbersAreFree, SimplifiedOrBroken};
 ghost use Rattle.rng_simplify.specs.Composition.{NoPieceIsMissing, MadeIsWellFormed, MadeIsText, WellFormedDenotes};
 ghost use Rattle.rng_simplify.specs.Composition.{MadeIsComposed, RefusedIsBroken};
-ghost use Rattle.rng_simplify.specs.Supplying.{PatternsAreComposed};
+ghost use Rattle.rng_simplify.specs.SuppliedPieces.{PatternsAreComposed};
 
 use nx_host::uri::{joins_is_decided, texts_join_or_are_bad};
 use rnc_parse::law::texts_are_read_or_refused;

@@ -19,8 +19,9 @@
 //! (`Place`), a shape's (`ShapeNumber`) and an element's (`ElementNumber`). What a node leads to beside its parts is a `Target`.
 //!
 //! What `simplify` answers stands in specs/Simplified.antt. To believe it one reads that file and the ten on which it stands:
-//! Composed, Classes, Composing, References, Forms, Simple, Places, Whole, Datatypes and Broken; Agreeing.antt has their laws.
-//! All other files of specs/ say what the parts of the code do, for the proof. docs/ARCHITECTURE.md has a worked example.
+//! References, Classes, Composed and ComposedFiles (files in one piece), Places, Forms, Simple, Whole and Datatypes (its simple
+//! form) and Broken (why there is none). Unambiguous and Exact have their laws. All other files of specs/ say what the parts of
+//! the code do, for the proof; specs/Lib.antt names them by these parts. docs/ARCHITECTURE.md has a worked example.
 #![tactic(auto)]
 
 mod build;

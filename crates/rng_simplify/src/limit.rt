@@ -3,8 +3,8 @@
 ghost use Rattle.std.specs.Prelude.{◌≡◌, ◌≤◌, map};
 ghost use Rattle.rng_simplify.specs.Broken.{node_limit};
 ghost use Rattle.rng_simplify.specs.Cells.{cell_of};
-ghost use Rattle.rng_simplify.specs.Forming.{IsKnown};
-ghost use Rattle.rng_simplify.specs.Limiting.{content_of, IsElement, AreElements, IsWithinLimits, Counts};
+ghost use Rattle.rng_simplify.specs.NodeForms.{IsKnown};
+ghost use Rattle.rng_simplify.specs.Limits.{content_of, IsElement, AreElements, IsWithinLimits, Counts};
 
 use crate::fault::SchemaFault;
 use crate::form::Forms;

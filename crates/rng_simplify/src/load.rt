@@ -4,10 +4,10 @@ ghost use Rattle.std.specs.Prelude.{◌≡◌, ◌∷◌, List, ℕ, reverse, Er
 ghost use Rattle.std.specs.List.{list_any};
 ghost use Rattle.std.specs.Str.{bytes_eq};
 ghost use Rattle.rng_simplify.specs.declared.load.Link.{Link as TheLink};
-ghost use Rattle.rng_simplify.specs.Loading.{Loads, unread_as, SaysBytes, IsAbsence, Fetches, ReadsFile};
-ghost use Rattle.rng_simplify.specs.Mentioning.{IsTextMention};
-ghost use Rattle.rng_simplify.specs.Following.{IsAdded, IsUnderWay, uris_of, MakesUri, IsBadText, NextUri, OpensFile};
-ghost use Rattle.rng_simplify.specs.Following.{GoesOn, Follows, IsTextLink, AreTextLinks, AreOpened};
+ghost use Rattle.rng_simplify.specs.LoadedFiles.{Loads, unread_as, SaysBytes, IsAbsence, Fetches, ReadsFile};
+ghost use Rattle.rng_simplify.specs.KeptMentions.{IsTextMention};
+ghost use Rattle.rng_simplify.specs.FileChains.{IsAdded, IsUnderWay, uris_of, MakesUri, IsBadText, NextUri, OpensFile};
+ghost use Rattle.rng_simplify.specs.FileChains.{GoesOn, Follows, IsTextLink, AreTextLinks, AreOpened};
 
 use crate::fault::SchemaFault;
 use crate::mention::{Mention, mentions_of};

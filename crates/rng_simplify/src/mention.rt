@@ -3,7 +3,7 @@
 ghost use Rattle.std.specs.Prelude.{◌≡◌, ◌++◌, ◌∷◌, [], reverse, IfOk};
 ghost use Rattle.rnc_parse.specs.Views.{pattern_of, item_of, items_in, replacement_of, replacements_in, surface_of};
 ghost use Rattle.rng_simplify.specs.Classes.{namespace_in as namespace_in_file};
-ghost use Rattle.rng_simplify.specs.Mentioning.{kept_of_all, mentions_of_each};
+ghost use Rattle.rng_simplify.specs.KeptMentions.{kept_of_all, mentions_of_each};
 ghost use Rattle.rng_simplify.specs.References.{mentions, mentions_of as mentions_of_file, mentions_of_item};
 ghost use Rattle.rng_simplify.specs.References.{mentions_of_items, mentions_of_replacement, mentions_anew};
 

@@ -19,7 +19,7 @@ pub(crate) struct Names<T> {
 impl<T: Drop> Names<T> {
     ghost use Rattle.rnc_parse.specs.declared.surface.Defined.{Defined};
     ghost use Rattle.rnc_parse.specs.declared.surface.Defined.TheVariants as defined;
-    ghost use Rattle.rng_simplify.specs.Keeping.{kept_named, kept_for, KeepsOne};
+    ghost use Rattle.rng_simplify.specs.NameTables.{kept_named, kept_for, KeepsOne};
 
     /// Nothing for any name.
     pub(crate) fn new(alloc: Global) -> Names<T>

@@ -5,12 +5,12 @@
 
 ghost use Rattle.std.specs.Prelude.{◌≡◌, ◌≢◌, ℕ, ◌+◌, ◌-◌, ◌<◌, ◌^◌, [], ◌∷◌, length, slice_get, Some, None, IfOk, IfSome, OnOk};
 ghost use Rattle.rng_simplify.specs.declared.order.Mark.TheVariants.{New as NotMet};
-ghost use Rattle.rng_simplify.specs.Breaking.{cells_of, OkOrRefused};
+ghost use Rattle.rng_simplify.specs.Refusals.{cells_of, OkOrRefused};
 ghost use Rattle.rng_simplify.specs.Cells.{cell_of};
-ghost use Rattle.rng_simplify.specs.Resolving.{IsResolved, IsOrdered, leads};
-ghost use Rattle.rng_simplify.specs.Standing.{AreWellFormed, cell_parts, IsStanding};
-ghost use Rattle.rng_simplify.specs.Walking.{IsMet, is_linked as is_linked_cell, walking_of, mark_at, with_step, left};
-ghost use Rattle.rng_simplify.specs.Walking.{Meets, IsWalk, KeepsMarks, IsTurned, IsGone, IsPassed};
+ghost use Rattle.rng_simplify.specs.ResolvedNodes.{IsResolved, IsOrdered, leads};
+ghost use Rattle.rng_simplify.specs.NodePlaces.{AreWellFormed, cell_parts, IsStanding};
+ghost use Rattle.rng_simplify.specs.NodeWalks.{IsMet, is_linked as is_linked_cell, walk_state_of, mark_at, with_step, left};
+ghost use Rattle.rng_simplify.specs.NodeWalks.{Meets, IsWalk, KeepsMarks, IsTurned, IsGone, IsPassed};
 
 use crate::compose::Whole;
 use crate::fault::SchemaFault;
@@ -136,8 +136,8 @@ fn next(whole: &Whole, found: &Resolved, node: Place, k: usize) -> Option<Place>
 impl Walk {
     /// A walk that met nothing of so many nodes.
     fn begin(alloc: Global, count: usize) -> Result<Walk, NoMemory>
-        ensures { IfOk result (λ walk. (length (walking_of walk).marks ≡ count) × ((i : ℕ) → mark_at (walking_of walk) i ≡ NotMet) ×
-            ((walking_of walk).path ≡ []) × ((walking_of walk).order ≡ [])) }
+        ensures { IfOk result (λ walk. (length (walk_state_of walk).marks ≡ count) × ((i : ℕ) → mark_at (walk_state_of walk) i ≡ NotMet) ×
+            ((walk_state_of walk).path ≡ []) × ((walk_state_of walk).order ≡ [])) }
     {
         let mut marks = Vec::with_capacity(alloc, count)?;
         for _ in 0..count {
@@ -154,12 +154,12 @@ impl Walk {
     fn nodes(&mut self, whole: &Whole, found: &Resolved) -> Result<(), SchemaFault>
         requires formed { AreWellFormed (cells_of whole.now) whole.now.root }
         requires resolved { IsResolved (cells_of whole.now) whole.now.root found.now }
-        requires here { IsWalk (cells_of whole.now) whole.now.root found.now None (walking_of self.old) }
-        requires at_rest { (walking_of self.old).path ≡ [] }
+        requires here { IsWalk (cells_of whole.now) whole.now.root found.now None (walk_state_of self.old) }
+        requires at_rest { (walk_state_of self.old).path ≡ [] }
         ensures { OkOrRefused (cells_of whole.now) whole.now.root
-            (λ done. IsWalk (cells_of whole.now) whole.now.root found.now None (walking_of self.new) ×
-            ((walking_of self.new).path ≡ []) ×
-            ((i : ℕ) → IsStanding (cells_of whole.now) whole.now.root i → mark_at (walking_of self.new) i ≢ NotMet)) result }
+            (λ done. IsWalk (cells_of whole.now) whole.now.root found.now None (walk_state_of self.new) ×
+            ((walk_state_of self.new).path ≡ []) ×
+            ((i : ℕ) → IsStanding (cells_of whole.now) whole.now.root i → mark_at (walk_state_of self.new) i ≢ NotMet)) result }
     {
         for i in 0..whole.nodes.len() {
             self.node(whole, found, i)?;
@@ -172,10 +172,10 @@ impl Walk {
         requires within { i < length whole.now.nodes.items }
         requires formed { AreWellFormed (cells_of whole.now) whole.now.root }
         requires resolved { IsResolved (cells_of whole.now) whole.now.root found.now }
-        requires here { IsWalk (cells_of whole.now) whole.now.root found.now None (walking_of self.old) }
-        requires at_rest { (walking_of self.old).path ≡ [] }
+        requires here { IsWalk (cells_of whole.now) whole.now.root found.now None (walk_state_of self.old) }
+        requires at_rest { (walk_state_of self.old).path ≡ [] }
         ensures { OkOrRefused (cells_of whole.now) whole.now.root
-            (λ done. IsPassed (cells_of whole.now) whole.now.root found.now i (walking_of self.old) (walking_of self.new)) result }
+            (λ done. IsPassed (cells_of whole.now) whole.now.root found.now i (walk_state_of self.old) (walk_state_of self.new)) result }
     {
         match found.scopes[i] {
             Scope::Nowhere => Ok(()),
@@ -187,12 +187,12 @@ impl Walk {
     fn combined(&mut self, whole: &Whole, found: &Resolved) -> Result<(), SchemaFault>
         requires formed { AreWellFormed (cells_of whole.now) whole.now.root }
         requires resolved { IsResolved (cells_of whole.now) whole.now.root found.now }
-        requires here { IsWalk (cells_of whole.now) whole.now.root found.now None (walking_of self.old) }
-        requires at_rest { (walking_of self.old).path ≡ [] }
+        requires here { IsWalk (cells_of whole.now) whole.now.root found.now None (walk_state_of self.old) }
+        requires at_rest { (walk_state_of self.old).path ≡ [] }
         ensures { OkOrRefused (cells_of whole.now) whole.now.root
-            (λ done. IsWalk (cells_of whole.now) whole.now.root found.now None (walking_of self.new) ×
-            ((walking_of self.new).path ≡ []) × KeepsMarks (walking_of self.old) (walking_of self.new) ×
-            ((number : ℕ) → number < length found.now.combined.items → mark_at (walking_of self.new)
+            (λ done. IsWalk (cells_of whole.now) whole.now.root found.now None (walk_state_of self.new) ×
+            ((walk_state_of self.new).path ≡ []) × KeepsMarks (walk_state_of self.old) (walk_state_of self.new) ×
+            ((number : ℕ) → number < length found.now.combined.items → mark_at (walk_state_of self.new)
             (length whole.now.nodes.items + number) ≢ NotMet)) result }
     {
         for j in 0..found.combined.len() {
@@ -206,10 +206,10 @@ impl Walk {
         requires formed { AreWellFormed (cells_of whole.now) whole.now.root }
         requires resolved { IsResolved (cells_of whole.now) whole.now.root found.now }
         requires met { IsMet (cells_of whole.now) whole.now.root found.now from }
-        requires here { IsWalk (cells_of whole.now) whole.now.root found.now None (walking_of self.old) }
-        requires at_rest { (walking_of self.old).path ≡ [] }
+        requires here { IsWalk (cells_of whole.now) whole.now.root found.now None (walk_state_of self.old) }
+        requires at_rest { (walk_state_of self.old).path ≡ [] }
         ensures { OkOrRefused (cells_of whole.now) whole.now.root
-            (λ done. IsGone (cells_of whole.now) whole.now.root found.now from (walking_of self.old) (walking_of self.new)) result }
+            (λ done. IsGone (cells_of whole.now) whole.now.root found.now from (walk_state_of self.old) (walk_state_of self.new)) result }
     {
         self.meet(from)?;
         while let Some(step) = self.path.pop() {
@@ -222,10 +222,10 @@ impl Walk {
     fn turn(&mut self, whole: &Whole, found: &Resolved, step: Step) -> Result<(), SchemaFault>
         requires formed { AreWellFormed (cells_of whole.now) whole.now.root }
         requires resolved { IsResolved (cells_of whole.now) whole.now.root found.now }
-        requires here { IsWalk (cells_of whole.now) whole.now.root found.now None (with_step step (walking_of self.old)) }
+        requires here { IsWalk (cells_of whole.now) whole.now.root found.now None (with_step step (walk_state_of self.old)) }
         ensures { OkOrRefused (cells_of whole.now) whole.now.root
-            (λ done. IsTurned (cells_of whole.now) whole.now.root found.now (with_step step (walking_of self.old))
-            (walking_of self.new)) result }
+            (λ done. IsTurned (cells_of whole.now) whole.now.root found.now (with_step step (walk_state_of self.old))
+            (walk_state_of self.new)) result }
     {
         match next(whole, found, step.node, step.met) {
             Some(next) => {
@@ -244,8 +244,8 @@ impl Walk {
 
     /// Goes on to a node, unless it is in the order. A node of the path is a part of itself.
     fn meet(&mut self, node: usize) -> Result<(), SchemaFault>
-        requires { node < length (walking_of self.old).marks }
-        ensures { Meets node (mark_at (walking_of self.old) node) (walking_of self.old) (walking_of self.new) result }
+        requires { node < length (walk_state_of self.old).marks }
+        ensures { Meets node (mark_at (walk_state_of self.old) node) (walk_state_of self.old) (walk_state_of self.new) result }
     {
         match self.marks[node] {
             Mark::New => {
@@ -260,8 +260,8 @@ impl Walk {
 
     /// Goes back from a node all of whose nodes are in the order.
     fn leave(&mut self, node: usize) -> Result<(), NoMemory>
-        requires { node < length (walking_of self.old).marks }
-        ensures { OnOk result (walking_of self.new ≡ left node (walking_of self.old)) }
+        requires { node < length (walk_state_of self.old).marks }
+        ensures { OnOk result (walk_state_of self.new ≡ left node (walk_state_of self.old)) }
     {
         self.marks[node] = Mark::Done;
         self.order.push(node)?;

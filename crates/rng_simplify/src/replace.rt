@@ -3,8 +3,8 @@
 ghost use Rattle.std.specs.Prelude.{◌≡◌, ◌++◌, is_some, not, filter, IfOk, OnOk};
 ghost use Rattle.std.specs.List.{list_all};
 ghost use Rattle.rnc_parse.specs.declared.surface.Defined.{Defined};
-ghost use Rattle.rng_simplify.specs.Keeping.{kept_for};
-ghost use Rattle.rng_simplify.specs.Making.{IsReplaced, is_defined};
+ghost use Rattle.rng_simplify.specs.NameTables.{kept_for};
+ghost use Rattle.rng_simplify.specs.MadeCells.{IsReplaced, is_defined};
 
 use crate::names::Names;
 use crate::node::Clause;

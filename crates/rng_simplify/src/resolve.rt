@@ -6,15 +6,15 @@
 ghost use Rattle.std.specs.Prelude.{◌≡◌, ℕ, ◌+◌, ◌<◌, ◌&&◌, ◌||◌, List, [], ◌∷◌, length, map, replicate, Some, Contains, IfOk, OnOk};
 ghost use Rattle.rng_simplify.specs.declared.node.Clause.{Clause};
 ghost use Rattle.rng_simplify.specs.Broken.{is_alone as says_nothing};
-ghost use Rattle.rng_simplify.specs.Breaking.{cells_of, OkOrRefused};
+ghost use Rattle.rng_simplify.specs.Refusals.{cells_of, OkOrRefused};
 ghost use Rattle.rng_simplify.specs.Cells.{cell_of};
-ghost use Rattle.rng_simplify.specs.Keeping.{kept_for};
-ghost use Rattle.rng_simplify.specs.Resolving.{IsResolved, combined_number, element_number};
-ghost use Rattle.rng_simplify.specs.Scoping.{AddsTo, both_say, HasSigns, IsGathered, GathersOne, Gathers, given};
-ghost use Rattle.rng_simplify.specs.Scoping.{with_given, findings_of, findings_at_first, outer_in, combined_in, Links};
-ghost use Rattle.rng_simplify.specs.Scoping.{TakesGrammar, TakesCell, IsMidway, numbering_of, with_number};
-ghost use Rattle.rng_simplify.specs.Scoping.{with_numbered, AreNumbered};
-ghost use Rattle.rng_simplify.specs.Standing.{AreWellFormed, bodies_of, inner_nodes};
+ghost use Rattle.rng_simplify.specs.NameTables.{kept_for};
+ghost use Rattle.rng_simplify.specs.ResolvedNodes.{IsResolved, combined_number, element_number};
+ghost use Rattle.rng_simplify.specs.Findings.{AddsTo, both_say, HasSigns, IsGathered, GathersOne, Gathers, given};
+ghost use Rattle.rng_simplify.specs.Findings.{with_given, findings_of, findings_at_first, outer_in, combined_in, Links};
+ghost use Rattle.rng_simplify.specs.Findings.{TakesGrammar, TakesCell, IsMidway, numbering_of, with_number};
+ghost use Rattle.rng_simplify.specs.Findings.{with_numbered, AreNumbered};
+ghost use Rattle.rng_simplify.specs.NodePlaces.{AreWellFormed, bodies_of, inner_nodes};
 
 use crate::compose::Whole;
 use crate::fault::SchemaFault;
@@ -266,8 +266,8 @@ impl Combined {
             return Err(SchemaFault::Unreadable(Cause::CombineClash));
         }
         match both(self.combine, combine) {
-            Some(joined) => {
-                self.combine = joined;
+            Some(said) => {
+                self.combine = said;
                 self.has_alone = one_alone(self.has_alone, combine);
                 self.bodies.push(body)?;
                 Ok(())

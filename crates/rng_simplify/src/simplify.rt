@@ -1,12 +1,12 @@
 //! The grammar that schema files define.
 
 ghost use Rattle.std.specs.Prelude.{◌≡◌};
-ghost use Rattle.rng_simplify.specs.Breaking.{cells_of};
+ghost use Rattle.rng_simplify.specs.Refusals.{cells_of};
 ghost use Rattle.rng_simplify.specs.CellTexts.{AreTexts};
 ghost use Rattle.rng_simplify.specs.Composition.{GivesWhole};
 ghost use Rattle.rng_simplify.specs.Grammars.{GivesGrammar};
 ghost use Rattle.rng_simplify.specs.Simplified.{Answers};
-ghost use Rattle.rng_simplify.specs.Standing.{AreWellFormed};
+ghost use Rattle.rng_simplify.specs.NodePlaces.{AreWellFormed};
 
 use crate::build::Builder;
 use crate::class::check_classes;

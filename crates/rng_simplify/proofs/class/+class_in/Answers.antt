@@ -2,7 +2,7 @@ use Rattle.std.proofs.Common.{◌≡◌, ap, sym, ◌∙◌, subst, IfOk}
 use Rattle.rnc_parse.specs.Views.{class_of as written_class_of}
 use Rattle.rng_core.specs.Meaning.{class_of}
 use Rattle.rng_simplify.specs.Classes.{class_in as class_in_file}
-use Rattle.rng_simplify.specs.Seeing.{written_classes}
+use Rattle.rng_simplify.specs.JudgedClasses.{written_classes}
 use Rattle.rng_simplify.proofs.Views.{choice_seen, choices_left, left_next}
 use Rattle.rng_simplify.proofs.class.+class_in.Goals as goal
 

@@ -1,7 +1,7 @@
 -- the choice so far and the classes that are left make the whole one
 use Rattle.std.proofs.Common.{◌≡◌}
 use Rattle.rng_simplify.specs.Classes.{class_in}
-use Rattle.rng_simplify.specs.Seeing.{written_classes}
+use Rattle.rng_simplify.specs.JudgedClasses.{written_classes}
 use Rattle.rng_simplify.proofs.Views.{choices_left}
 use Rattle.rng_simplify.proofs.class.+class_in.Given as goal
 

@@ -1,6 +1,6 @@
 use Rattle.std.proofs.Common.{map}
 use Rattle.rng_simplify.specs.Cells.{cell_of}
-use Rattle.rng_simplify.specs.Forming.{AreFormed}
+use Rattle.rng_simplify.specs.NodeForms.{AreFormed}
 use Rattle.rng_simplify.proofs.form.forms_of.Given as goal
 
 abbrev pub invariant-loop-i : goal.invariant-loop-i

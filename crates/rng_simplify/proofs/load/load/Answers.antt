@@ -2,8 +2,8 @@ use Rattle.std.proofs.Common.{◌≡◌, ◌∙◌, ap, subst, sym, reverse, Ok,
 use Rattle.std.proofs.lemmas.List.{reverse-reverse}
 use Rattle.std.proofs.lemmas.Result.{err_from_is_err_and}
 use Rattle.std.proofs.lemmas.Str.{IsUtf8-nil}
-use Rattle.rng_simplify.specs.Following.{IsUnderWay, AreTextLinks}
-use Rattle.rng_simplify.specs.Loading.{AllLoaded}
+use Rattle.rng_simplify.specs.FileChains.{IsUnderWay, AreTextLinks}
+use Rattle.rng_simplify.specs.LoadedFiles.{AllLoaded}
 use Rattle.rng_simplify.proofs.Turns.{begins_from, opened_texts, answers_alike}
 use Rattle.rng_simplify.proofs.load.load.Goals as goal
 

@@ -1,6 +1,6 @@
 use Rattle.std.proofs.Common.{◌∙◌, subst, sym, Err, IsUtf8}
 use Rattle.rnc_parse.specs.Answering.{AnswersText}
-use Rattle.rng_simplify.specs.Loading.{Unreads}
+use Rattle.rng_simplify.specs.LoadedFiles.{Unreads}
 use Rattle.rng_simplify.proofs.Loading.{unread_is}
 use Rattle.rng_simplify.proofs.Unread.{unread_refuses}
 use Rattle.rng_simplify.proofs.load.surface_of.Goals as goal

@@ -2,7 +2,7 @@ use Rattle.std.proofs.Common.{◌≡◌, ◌++◌, ap, sym, ◌∙◌, subst, If
 use Rattle.rnc_parse.specs.Written as written
 use Rattle.rnc_parse.specs.Views.{pattern_of, item_of, items_in, replacement_of, replacements_in}
 use Rattle.rng_simplify.specs.declared.node.Sign.TheVariants as sign
-use Rattle.rng_simplify.specs.Mentioning.{kept_of_all, mentions_of_each}
+use Rattle.rng_simplify.specs.KeptMentions.{kept_of_all, mentions_of_each}
 use Rattle.rng_simplify.specs.References.{mentions, mentions_of_item, mentions_of_replacement}
 use Rattle.rng_simplify.proofs.Joining.{choice_is, group_is, interleave_is, row_mentions, reference_then}
 use Rattle.rng_simplify.proofs.Rows.{grammar_seen, div_seen, include_seen, div_anew_seen}

@@ -1,7 +1,7 @@
 -- what is found so far, and what is left to be found, is all that is found
 use Rattle.std.proofs.Common.{◌≡◌, ◌++◌, drop}
 use Rattle.rnc_parse.specs.Views.{items_in, replacements_in}
-use Rattle.rng_simplify.specs.Mentioning.{kept_of_all, mentions_of_each}
+use Rattle.rng_simplify.specs.KeptMentions.{kept_of_all, mentions_of_each}
 use Rattle.rng_simplify.specs.References.{mentions_of_items, mentions_anew}
 use Rattle.rng_simplify.proofs.mention.+mentions.Given as goal
 

@@ -2,7 +2,7 @@ use Rattle.std.proofs.Common.{◌≡◌, ◌-◌, ◌<◌, ◌≤◌, sym, ap, �
 use Rattle.std.proofs.lemmas.List.{get_or_read, length-map}
 use Rattle.rng_simplify.specs.Cells.{cell_of}
 use Rattle.rng_simplify.specs.declared.resolve.Target.TheVariants.{Nothing}
-use Rattle.rng_simplify.specs.Resolving.{combined_number}
+use Rattle.rng_simplify.specs.ResolvedNodes.{combined_number}
 use Rattle.rng_simplify.proofs.WalkTurns.{leads_linked, leads_parts, leads_bodies, link_fits, combination_there}
 use Rattle.rng_simplify.proofs.order.next.Goals as goal
 

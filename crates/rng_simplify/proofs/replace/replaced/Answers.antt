@@ -3,8 +3,8 @@ use Rattle.std.proofs.lemmas.Bool.{eqb-true}
 use Rattle.std.specs.List.{list_all}
 use Rattle.std.specs.Prelude.{not}
 use Rattle.rnc_parse.specs.declared.surface.Defined.{Defined}
-use Rattle.rng_simplify.specs.Keeping.{kept_for}
-use Rattle.rng_simplify.specs.Making.{is_defined}
+use Rattle.rng_simplify.specs.NameTables.{kept_for}
+use Rattle.rng_simplify.specs.MadeCells.{is_defined}
 use Rattle.rng_simplify.proofs.Entries.{all_same, filter_same}
 use Rattle.rng_simplify.proofs.Replacing.{none_replaced}
 use Rattle.rng_simplify.proofs.replace.replaced.Goals as goal

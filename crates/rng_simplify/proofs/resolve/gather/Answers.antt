@@ -1,6 +1,6 @@
 use Rattle.std.proofs.Common.{◌≡◌, sym, ◌∙◌, refl, length, subst, arith}
 use Rattle.std.proofs.lemmas.Option.{slice_get_read}
-use Rattle.rng_simplify.specs.Keeping.{KeepsOne}
+use Rattle.rng_simplify.specs.NameTables.{KeepsOne}
 use Rattle.rng_simplify.proofs.Gathering.{gathers_added, gathers_begun}
 use Rattle.rng_simplify.proofs.resolve.gather.Goals as goal
 

@@ -1,7 +1,7 @@
 use Rattle.std.proofs.Common.{List, take, length, sym, ◌∙◌, subst, arith}
 use Rattle.std.proofs.lemmas.Result.{err_from_is_err_and}
 use Rattle.rng_simplify.specs.declared.node.Clause.{Clause}
-use Rattle.rng_simplify.specs.Scoping.{IsGathered}
+use Rattle.rng_simplify.specs.Findings.{IsGathered}
 use Rattle.rng_simplify.proofs.Gathering.{gathers_failed, number_within, up_to_it, around_it}
 use Rattle.rng_simplify.proofs.resolve.gathered.Goals as goal
 

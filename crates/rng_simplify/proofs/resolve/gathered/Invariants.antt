@@ -1,6 +1,6 @@
 -- the definitions so far are gathered
 use Rattle.std.proofs.Common.{take, length}
-use Rattle.rng_simplify.specs.Scoping.{IsGathered, KeepsFirst}
+use Rattle.rng_simplify.specs.Findings.{IsGathered, KeepsFirst}
 use Rattle.rng_simplify.proofs.resolve.gathered.Given as goal
 
 abbrev pub invariant-loop-clause : goal.invariant-loop-clause

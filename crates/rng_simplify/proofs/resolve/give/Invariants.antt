@@ -1,7 +1,7 @@
 -- what is still to be given a scope, on top of what was
 use Rattle.std.proofs.Common.{◌≡◌, drop, length}
-use Rattle.rng_simplify.specs.Scoping.{given}
-use Rattle.rng_simplify.specs.Standing.{bodies_of}
+use Rattle.rng_simplify.specs.Findings.{given}
+use Rattle.rng_simplify.specs.NodePlaces.{bodies_of}
 use Rattle.rng_simplify.proofs.resolve.give.Given as goal
 
 abbrev pub invariant-loop-clause : goal.invariant-loop-clause

@@ -1,7 +1,7 @@
 -- the elements so far are numbered
 use Rattle.std.proofs.Common.{map}
 use Rattle.rng_simplify.specs.Cells.{cell_of}
-use Rattle.rng_simplify.specs.Scoping.{AreNumbered, numbering_of}
+use Rattle.rng_simplify.specs.Findings.{AreNumbered, numbering_of}
 use Rattle.rng_simplify.proofs.resolve.numbered.Given as goal
 
 abbrev pub invariant-loop-i : goal.invariant-loop-i

@@ -1,6 +1,6 @@
 use Rattle.std.proofs.Common.{map, take}
 use Rattle.rng_simplify.specs.Cells.{cell_of}
-use Rattle.rng_simplify.specs.Typing.{AreTakenFrom}
+use Rattle.rng_simplify.specs.NodeTypes.{AreTakenFrom}
 use Rattle.rng_simplify.proofs.types.excepts_from.Given as goal
 
 abbrev pub invariant-loop-value : goal.invariant-loop-value

@@ -1,7 +1,7 @@
 use Rattle.std.proofs.Common.{map, take}
 use Rattle.rng_core.specs.Meaning.{definition_of}
 use Rattle.rng_simplify.specs.Cells.{cell_of}
-use Rattle.rng_simplify.specs.Spelling.{AreDefinitions}
+use Rattle.rng_simplify.specs.SpelledShapes.{AreDefinitions}
 use Rattle.rng_simplify.proofs.build.Builder.grammar.Given as goal
 
 abbrev pub invariant-loop-element : goal.invariant-loop-element

@@ -1,6 +1,6 @@
 use Rattle.std.proofs.Common.{map}
 use Rattle.rng_simplify.specs.Cells.{cell_of}
-use Rattle.rng_simplify.specs.Spelling.{IsUnderWay, work}
+use Rattle.rng_simplify.specs.SpelledShapes.{IsUnderWay, work}
 use Rattle.rng_simplify.proofs.build.Builder.pattern.Given as goal
 
 abbrev pub invariant-loop-task : goal.invariant-loop-task

@@ -1,5 +1,5 @@
 use Rattle.std.proofs.Common.{refl}
-use Rattle.rng_simplify.specs.Spelling.{spells_not_allowed, spells_empty, spells_text, spells_value, spells_type, spells_ref}
+use Rattle.rng_simplify.specs.SpelledShapes.{spells_not_allowed, spells_empty, spells_text, spells_value, spells_type, spells_ref}
 use Rattle.rng_simplify.proofs.Spelling.{leaf_done, leaves_one, leaves_two, is_it, value_ready, value_type_ready, type_ready, ref_ready}
 use Rattle.rng_simplify.proofs.build.Builder.spell.Goals as goal
 

@@ -1,5 +1,5 @@
 use Rattle.std.proofs.Common.{◌≡◌, take}
-use Rattle.rng_simplify.specs.Forming.{AreAllJoined}
+use Rattle.rng_simplify.specs.NodeForms.{AreAllJoined}
 use Rattle.rng_simplify.proofs.form.Forms.behind.Given as goal
 
 abbrev pub invariant-loop-other : goal.invariant-loop-other

@@ -2,7 +2,7 @@ use Rattle.rng_simplify.proofs.Forming.{of_node, lead_known, cell_added, element
 use Rattle.std.proofs.Common.{refl, [], ◌∷◌, ◌+◌}
 use Rattle.rng_simplify.proofs.Nodes.{in_first, in_more}
 use Rattle.rng_simplify.specs.Cells as cell
-use Rattle.rng_simplify.specs.Resolving.{combined_number}
+use Rattle.rng_simplify.specs.ResolvedNodes.{combined_number}
 use Rattle.rng_simplify.proofs.form.Forms.node.Goals as goal
 
 pub of-value-requires : goal.of-value-requires

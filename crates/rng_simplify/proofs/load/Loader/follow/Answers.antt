@@ -1,6 +1,6 @@
 use Rattle.std.proofs.Common.{subst, sym, arith, ◌∷◌, reverse}
 use Rattle.std.proofs.lemmas.Result.{err_from_is_err_and}
-use Rattle.rng_simplify.specs.Following.{IsUnderWay}
+use Rattle.rng_simplify.specs.FileChains.{IsUnderWay}
 use Rattle.rng_simplify.proofs.Loading.{completed_all}
 use Rattle.rng_simplify.proofs.Turns.{last_first, none_reversed, answers_alike}
 use Rattle.rng_simplify.proofs.load.Loader.follow.Goals as goal

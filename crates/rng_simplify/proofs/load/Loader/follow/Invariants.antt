@@ -1,6 +1,6 @@
 -- the files go on from those that loading began with
 use Rattle.std.proofs.Common.{◌≡◌, ℕ, List, reverse}
-use Rattle.rng_simplify.specs.Following.{IsUnderWay, AreTextLinks, AreOpened}
+use Rattle.rng_simplify.specs.FileChains.{IsUnderWay, AreTextLinks, AreOpened}
 use Rattle.rng_simplify.proofs.load.Loader.follow.Given as goal
 
 abbrev pub invariant-loop-turn : goal.invariant-loop-turn

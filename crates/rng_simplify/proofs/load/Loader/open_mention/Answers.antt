@@ -1,6 +1,6 @@
 use Rattle.std.proofs.Common.{subst, sym, reverse}
 use Rattle.std.proofs.lemmas.Result.{err_from_is_err_and}
-use Rattle.rng_simplify.specs.Following.{AreTextLinks, AreOpened}
+use Rattle.rng_simplify.specs.FileChains.{AreTextLinks, AreOpened}
 use Rattle.rng_simplify.proofs.Turns.{last_first, leads_nowhere, leads_to, opened_texts}
 use Rattle.rng_simplify.proofs.load.Loader.open_mention.Goals as goal
 

@@ -2,15 +2,15 @@
 use Rattle.std.proofs.Common.{map, ◌≢◌, None}
 use Rattle.rng_simplify.specs.declared.order.Mark.TheVariants.{New}
 use Rattle.rng_simplify.specs.Cells.{cell_of}
-use Rattle.rng_simplify.specs.Walking.{walking_of, mark_at, IsWalk, KeepsMarks, work}
+use Rattle.rng_simplify.specs.NodeWalks.{walk_state_of, mark_at, IsWalk, KeepsMarks, work}
 use Rattle.rng_simplify.proofs.order.Walk.go.Given as goal
 
 abbrev pub invariant-loop-step : goal.invariant-loop-step
 invariant-loop-step l = record {
-  is_walk : IsWalk (map cell_of l.whole.nodes.items) l.whole.root l.found None (walking_of l.self);
-  keeps : KeepsMarks (walking_of l.fn.self) (walking_of l.self);
-  met : mark_at (walking_of l.self) l.from ≢ New;
+  is_walk : IsWalk (map cell_of l.whole.nodes.items) l.whole.root l.found None (walk_state_of l.self);
+  keeps : KeepsMarks (walk_state_of l.fn.self) (walk_state_of l.self);
+  met : mark_at (walk_state_of l.self) l.from ≢ New;
 }
 
 abbrev pub decreases-loop-step : goal.decreases-loop-step
-decreases-loop-step l = work (map cell_of l.whole.nodes.items) l.found (walking_of l.self)
+decreases-loop-step l = work (map cell_of l.whole.nodes.items) l.found (walk_state_of l.self)

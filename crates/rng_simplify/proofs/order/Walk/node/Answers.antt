@@ -1,6 +1,6 @@
 use Rattle.std.proofs.Common.{map}
 use Rattle.rng_simplify.specs.Cells.{cell_of}
-use Rattle.rng_simplify.specs.Walking.{walking_of}
+use Rattle.rng_simplify.specs.NodeWalks.{walk_state_of}
 use Rattle.rng_simplify.proofs.WalkTurns.{standing_met, nowhere_passed, gone_passed}
 use Rattle.rng_simplify.proofs.order.Walk.node.Goals as goal
 
@@ -14,7 +14,7 @@ go-requires c = record {
 }
 
 pub returns-in-Nowhere : goal.returns-in-Nowhere
-returns-in-Nowhere c = nowhere_passed c.args.whole.now.nodes.items c.args.whole.now.root c.args.found.now c.args.i c.index.result.now (walking_of c.args.self.now) c.requires.resolved c.requires.within c.index.ensures c.in-Nowhere.is c.requires.here c.requires.at_rest
+returns-in-Nowhere c = nowhere_passed c.args.whole.now.nodes.items c.args.whole.now.root c.args.found.now c.args.i c.index.result.now (walk_state_of c.args.self.now) c.requires.resolved c.requires.within c.index.ensures c.in-Nowhere.is c.requires.here c.requires.at_rest
 
 pub returns-in_default : goal.returns-in_default
-returns-in_default c = gone_passed (map cell_of c.args.whole.now.nodes.items) c.args.whole.now.root c.args.found.now c.args.i (walking_of c.args.self.now) (walking_of c.go.new.self) c.go.result c.go.ensures
+returns-in_default c = gone_passed (map cell_of c.args.whole.now.nodes.items) c.args.whole.now.root c.args.found.now c.args.i (walk_state_of c.args.self.now) (walk_state_of c.go.new.self) c.go.result c.go.ensures

@@ -2,8 +2,8 @@ use Rattle.std.proofs.Common.{map, arith, inl, inr, ap, sym, subst, ◌∙◌}
 use Rattle.std.proofs.lemmas.Bool.{cases_eq}
 use Rattle.std.proofs.lemmas.List.{length-map}
 use Rattle.rng_simplify.specs.Cells.{cell_of}
-use Rattle.rng_simplify.specs.Standing.{IsStanding}
-use Rattle.rng_simplify.specs.Walking.{walking_of, mark_at}
+use Rattle.rng_simplify.specs.NodePlaces.{IsStanding}
+use Rattle.rng_simplify.specs.NodeWalks.{walk_state_of, mark_at}
 use Rattle.rng_simplify.proofs.Posts.{stands_within}
 use Rattle.rng_simplify.proofs.order.Walk.nodes.Goals as goal
 
@@ -14,7 +14,7 @@ loop-i-preserved c =
       is_walk = h.is_walk;
       at_rest = h.at_rest;
       met = λ k lt standing. elim (cases_eq k c.loop-i.i) [
-        | inl is ↦ λ new. h.met (subst (λ m. IsStanding (map cell_of c.args.whole.now.nodes.items) c.args.whole.now.root m) is standing) (ap (mark_at (walking_of c.node.new.self)) (sym is) ∙ new)
+        | inl is ↦ λ new. h.met (subst (λ m. IsStanding (map cell_of c.args.whole.now.nodes.items) c.args.whole.now.root m) is standing) (ap (mark_at (walk_state_of c.node.new.self)) (sym is) ∙ new)
         | inr other ↦ h.keeps k (c.loop-i.invariant.met k (omega (arith, lt, other)) standing)
       ];
     }

@@ -1,6 +1,6 @@
 use Rattle.std.proofs.Common.{sym, ◌∙◌, subst, ℕ, Option, length}
 use Rattle.rnc_parse.specs.declared.surface.Defined.TheVariants.{Start}
-use Rattle.rng_simplify.specs.Scoping.{IsGatheredAs}
+use Rattle.rng_simplify.specs.Findings.{IsGatheredAs}
 use Rattle.rng_simplify.proofs.resolve.Resolver.grammar.Goals as goal
 
 pub returns-in-None : goal.returns-in-None

@@ -1,10 +1,10 @@
 use Rattle.std.proofs.Common.{List, [], ◌∷◌, length, ap, ◌∙◌, Contains, subst, sym, arith}
 use Rattle.std.proofs.lemmas.List.{length-set}
 use Rattle.rng_simplify.specs.declared.node.Clause.{Clause}
-use Rattle.rng_simplify.specs.Scoping.{Findings}
+use Rattle.rng_simplify.specs.Findings.{Findings}
 use Rattle.rng_simplify.specs.declared.node.Node.{Node}
 use Rattle.rng_simplify.specs.Cells.{cell_of}
-use Rattle.rng_simplify.specs.Standing.{inner_nodes, bodies_of}
+use Rattle.rng_simplify.specs.NodePlaces.{inner_nodes, bodies_of}
 use Rattle.rng_simplify.proofs.Nodes.{in_first, in_more}
 use Rattle.rng_simplify.proofs.resolve.Resolver.standing.Goals as goal
 

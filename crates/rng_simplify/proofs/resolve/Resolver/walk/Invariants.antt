@@ -1,7 +1,7 @@
 -- the nodes from here on are taken
 use Rattle.std.proofs.Common.{map, length, ◌≤◌}
 use Rattle.rng_simplify.specs.Cells.{cell_of}
-use Rattle.rng_simplify.specs.Scoping.{IsMidway, findings_of}
+use Rattle.rng_simplify.specs.Findings.{IsMidway, findings_of}
 use Rattle.rng_simplify.proofs.resolve.Resolver.walk.Given as goal
 
 abbrev pub invariant-loop-rest : goal.invariant-loop-rest

@@ -8,8 +8,8 @@ use Rattle.rng_simplify.specs.declared.form.Forms.{Forms}
 use Rattle.rng_simplify.specs.Broken.{node_limit, depth_limit}
 use Rattle.rng_simplify.specs.Cells.{Cell}
 use Rattle.rng_simplify.specs.Cells as cell
-use Rattle.rng_simplify.specs.Denoting.{IsCell}
-use Rattle.rng_simplify.specs.Forming.{form_of, IsKnown}
+use Rattle.rng_simplify.specs.CellMeanings.{IsCell}
+use Rattle.rng_simplify.specs.NodeForms.{form_of, IsKnown}
 use Rattle.rng_simplify.specs.Forms.{Value, nodes, depth}
 
 -- the content of an element

@@ -21,10 +21,10 @@ use Rattle.rng_simplify.specs.declared.shape.Shape.TheVariants as shape
 use Rattle.rng_simplify.specs.declared.types.NodeType.{NodeType}
 use Rattle.rng_simplify.specs.Cells.{Cell}
 use Rattle.rng_simplify.specs.Cells as cell
-use Rattle.rng_simplify.specs.Denoting.{IsCell}
+use Rattle.rng_simplify.specs.CellMeanings.{IsCell}
 use Rattle.rng_simplify.specs.Forms.{nodes}
 use Rattle.rng_simplify.specs.Shown.{form_at, shape_parts, IsBehindParts, AreOfSchema}
-use Rattle.rng_simplify.specs.Typing.{known_at}
+use Rattle.rng_simplify.specs.NodeTypes.{known_at}
 
 abbrev pub joined_pattern : Sign → Pattern → Pattern → Pattern
 joined_pattern sign.Choice = pattern.choice

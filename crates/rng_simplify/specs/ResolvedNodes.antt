@@ -17,9 +17,9 @@ use Rattle.rng_simplify.specs.Broken.{clash}
 use Rattle.rng_simplify.specs.Cells.{Cell}
 use Rattle.rng_simplify.specs.Cells as cell
 use Rattle.rng_simplify.specs.Composed.{same_defined}
-use Rattle.rng_simplify.specs.Denoting.{IsCell}
+use Rattle.rng_simplify.specs.CellMeanings.{IsCell}
 use Rattle.rng_simplify.specs.Forms.{combine_of}
-use Rattle.rng_simplify.specs.Standing.{bodies_of, Stands, IsStanding}
+use Rattle.rng_simplify.specs.NodePlaces.{bodies_of, Stands, IsStanding}
 
 -- in which grammar a node stands
 abbrev pub scope_at : Resolved → ℕ → Scope

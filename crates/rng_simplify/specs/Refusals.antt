@@ -6,7 +6,7 @@ use Rattle.rng_simplify.specs.declared.fault.SchemaFault.TheVariants.{NoMemory, 
 use Rattle.rng_simplify.specs.Broken.{WholeIsBroken}
 use Rattle.rng_simplify.specs.Cells.{Cell, cell_of}
 use Rattle.rng_simplify.specs.Composed.{Composed}
-use Rattle.rng_simplify.specs.Denoting.{Denotes}
+use Rattle.rng_simplify.specs.CellMeanings.{Denotes}
 
 -- the cells of a schema in one piece
 abbrev pub cells_of : Whole → List Cell

@@ -13,8 +13,8 @@ use Rattle.rng_simplify.specs.declared.resolve.Combined.{Combined}
 use Rattle.rng_simplify.specs.declared.resolve.Resolved.{Resolved}
 use Rattle.rng_simplify.specs.Cells.{Cell}
 use Rattle.rng_simplify.specs.Cells as cell
-use Rattle.rng_simplify.specs.Resolving.{leads, IsCombinedNumber}
-use Rattle.rng_simplify.specs.Standing.{IsStanding}
+use Rattle.rng_simplify.specs.ResolvedNodes.{leads, IsCombinedNumber}
+use Rattle.rng_simplify.specs.NodePlaces.{IsStanding}
 
 -- a node that stands in the schema, or combined definitions
 abbrev pub IsMet : List Cell → ℕ → Resolved → ℕ → Type 0
@@ -29,34 +29,34 @@ is_linked c = false
 
 -- ---- what the walk has done
 
-pub record Walking : Type 0 where
+pub record WalkState : Type 0 where
   pub marks : List Mark
   pub path : List Step
   pub order : List ℕ
 
-abbrev pub walking_of : Walk → Walking
-walking_of walk = record { marks = walk.marks.items; path = walk.path.items; order = walk.order.items }
+abbrev pub walk_state_of : Walk → WalkState
+walk_state_of walk = record { marks = walk.marks.items; path = walk.path.items; order = walk.order.items }
 
-abbrev pub mark_at : Walking → ℕ → Mark
+abbrev pub mark_at : WalkState → ℕ → Mark
 mark_at now i = slice_index_or now.marks i New
 
 abbrev pub step_of : ℕ → ℕ → Step
 step_of node met = record { node = node; met = met }
 
 -- with a further step
-abbrev pub with_step : Step → Walking → Walking
+abbrev pub with_step : Step → WalkState → WalkState
 with_step step now = record now { path = now.path ++ step ∷ [] }
 
 -- a node is met
-abbrev pub opened : ℕ → Walking → Walking
+abbrev pub opened : ℕ → WalkState → WalkState
 opened node now = record { marks = set now.marks node Open; path = now.path ++ step_of node 0 ∷ []; order = now.order }
 
 -- all that it leads to is in the order
-abbrev pub left : ℕ → Walking → Walking
+abbrev pub left : ℕ → WalkState → WalkState
 left node now = record { marks = set now.marks node Done; path = now.path; order = now.order ++ node ∷ [] }
 
 -- the walk comes to a node that had this mark
-abbrev pub Meets : {A : Type 0} → ℕ → Mark → Walking → Walking → Result A SchemaFault → Type 0
+abbrev pub Meets : {A : Type 0} → ℕ → Mark → WalkState → WalkState → Result A SchemaFault → Type 0
 Meets node New old new (Ok done) = new ≡ opened node old
 Meets node Done old new (Ok done) = new ≡ old
 Meets node Open old new (Ok done) = ⊥
@@ -67,7 +67,7 @@ Meets node mark old new (Err other) = ⊥
 -- ---- what holds of it
 
 -- a step of the path, with the node that comes next and the steps before: all that it met is done or comes next
-pub record IsStep (cells : List Cell) (root : ℕ) (found : Resolved) (now : Walking) (next : Option ℕ) (step : Step)
+pub record IsStep (cells : List Cell) (root : ℕ) (found : Resolved) (now : WalkState) (next : Option ℕ) (step : Step)
     (before : List Step) : Type 0 where
   pub is_met : IsMet cells root found step.node
   pub is_open : mark_at now step.node ≡ Open
@@ -77,7 +77,7 @@ pub record IsStep (cells : List Cell) (root : ℕ) (found : Resolved) (now : Wal
   pub apart : (other : Step) → Contains before other → other.node ≢ step.node
 
 -- all steps, the last one first
-abbrev pub AreSteps : List Cell → ℕ → Resolved → Walking → Option ℕ → List Step → Type 0
+abbrev pub AreSteps : List Cell → ℕ → Resolved → WalkState → Option ℕ → List Step → Type 0
 AreSteps cells root found now next [] = Unit {0}
 AreSteps cells root found now next (step ∷ before)
     = IsStep cells root found now next step before × AreSteps cells root found now (Some step.node) before
@@ -88,7 +88,7 @@ path_of [] = []
 path_of (step ∷ before) = path_of before ++ step ∷ []
 
 -- a walk that is here; a node may come next
-pub record IsWalk (cells : List Cell) (root : ℕ) (found : Resolved) (next : Option ℕ) (now : Walking) : Type 0 where
+pub record IsWalk (cells : List Cell) (root : ℕ) (found : Resolved) (next : Option ℕ) (now : WalkState) : Type 0 where
   pub steps : List Step
   pub path_is : now.path ≡ path_of steps
   pub are_steps : AreSteps cells root found now next steps
@@ -102,7 +102,7 @@ pub record IsWalk (cells : List Cell) (root : ℕ) (found : Resolved) (next : Op
   pub behind : (k i j : ℕ) → slice_get now.order k ≡ Some i → Contains (leads cells found i) j → Contains (take k now.order) j
 
 -- what was met stays so
-abbrev pub KeepsMarks : Walking → Walking → Type 0
+abbrev pub KeepsMarks : WalkState → WalkState → Type 0
 KeepsMarks old new = (i : ℕ) → mark_at old i ≢ New → mark_at new i ≢ New
 
 -- ---- how long it takes
@@ -120,24 +120,24 @@ most found = 4 + sum_by (λ (combination : Combined). length combination.bodies.
 abbrev pub left_at : List Cell → Resolved → Step → ℕ
 left_at cells found step = length (leads cells found step.node) + 1 - step.met
 
-abbrev pub work : List Cell → Resolved → Walking → ℕ
+abbrev pub work : List Cell → Resolved → WalkState → ℕ
 work cells found now = count_by is_new now.marks * most found + sum_by (left_at cells found) now.path
 
 -- one turn
-pub record IsTurned (cells : List Cell) (root : ℕ) (found : Resolved) (old new : Walking) : Type 0 where
+pub record IsTurned (cells : List Cell) (root : ℕ) (found : Resolved) (old new : WalkState) : Type 0 where
   pub is_walk : IsWalk cells root found None new
   pub keeps : KeepsMarks old new
   pub falls : work cells found new < work cells found old
 
 -- a node and all that it leads to is in the order
-pub record IsGone (cells : List Cell) (root : ℕ) (found : Resolved) (from : ℕ) (old new : Walking) : Type 0 where
+pub record IsGone (cells : List Cell) (root : ℕ) (found : Resolved) (from : ℕ) (old new : WalkState) : Type 0 where
   pub is_walk : IsWalk cells root found None new
   pub at_rest : new.path ≡ []
   pub keeps : KeepsMarks old new
   pub met : mark_at new from ≢ New
 
 -- a node was passed, and all that it leads to is in the order, if it stands in the schema
-pub record IsPassed (cells : List Cell) (root : ℕ) (found : Resolved) (i : ℕ) (old new : Walking) : Type 0 where
+pub record IsPassed (cells : List Cell) (root : ℕ) (found : Resolved) (i : ℕ) (old new : WalkState) : Type 0 where
   pub is_walk : IsWalk cells root found None new
   pub at_rest : new.path ≡ []
   pub keeps : KeepsMarks old new

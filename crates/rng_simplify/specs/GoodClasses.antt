@@ -4,9 +4,9 @@ use Rattle.rng_simplify.specs.declared.fault.SchemaFault.{SchemaFault}
 use Rattle.rng_simplify.specs.Cells.{Cell}
 use Rattle.rng_simplify.specs.Cells as cell
 use Rattle.rng_simplify.specs.Classes.{has_bad_except, names_declarations, names_declarations_of_attribute}
-use Rattle.rng_simplify.specs.Denoting.{IsCell}
-use Rattle.rng_simplify.specs.Seeing.{JudgesElementClass, JudgesAttributeClass}
-use Rattle.rng_simplify.specs.Standing.{IsStanding}
+use Rattle.rng_simplify.specs.CellMeanings.{IsCell}
+use Rattle.rng_simplify.specs.JudgedClasses.{JudgesElementClass, JudgesAttributeClass}
+use Rattle.rng_simplify.specs.NodePlaces.{IsStanding}
 
 -- a node's class is passed, or refused for a cause that it has
 abbrev pub JudgesCell : {A : Type 0} → Cell → Result A SchemaFault → Type 0

@@ -38,39 +38,39 @@ piece_of (piece.Pattern root) = of_pattern root
 piece_of (piece.Grammar clauses) = of_grammar clauses.items
 
 -- the cells so far, and the pieces that are left, the next one first
-pub record Making : Type 0 where
+pub record Stock : Type 0 where
   pub cells : List Cell
   pub pieces : List FilePiece
 
-abbrev pub making_of : Composer → Making
-making_of composer = record { cells = map cell_of composer.nodes.items; pieces = reverse (map piece_of composer.pieces.items) }
+abbrev pub stock_of : Composer → Stock
+stock_of composer = record { cells = map cell_of composer.nodes.items; pieces = reverse (map piece_of composer.pieces.items) }
 
 -- something was made, or the files make no schema, or a piece was missing
 pub data Outcome (A : Type 0) : Type 0 where
-  made : A → Making → Outcome A
+  made : A → Stock → Outcome A
   refused : Cause → Outcome A
   no_piece : Outcome A
 
 -- the next step, from what the one before made
 infixl 10 ◌>>=◌
-abbrev pub ◌>>=◌ : {A B : Type 0} → Outcome A → (A → Making → Outcome B) → Outcome B
+abbrev pub ◌>>=◌ : {A B : Type 0} → Outcome A → (A → Stock → Outcome B) → Outcome B
 made value now >>= more = more value now
 refused why >>= more = refused why
 no_piece >>= more = no_piece
 
 -- a call answers what is made, seen by view, and leaves what is so far, unless memory runs out
-abbrev pub Makes : {A B : Type 0} → Making → (A → B) → Outcome B → Result A Stop → Type 0
+abbrev pub Makes : {A B : Type 0} → Stock → (A → B) → Outcome B → Result A Stop → Type 0
 Makes after view outcome (Ok value) = outcome ≡ made (view value) after
 Makes after view outcome (Err (Unreadable why)) = outcome ≡ refused why
 Makes after view outcome (Err NoPiece) = outcome ≡ no_piece
 Makes after view outcome (Err NoMemory) = Unit {0}
 
 -- a further cell, by its number
-abbrev pub cell_made : Cell → Making → Outcome ℕ
+abbrev pub cell_made : Cell → Stock → Outcome ℕ
 cell_made c now = made (length now.cells) (record { cells = now.cells ++ c ∷ []; pieces = now.pieces })
 
 -- a choice of a pattern and nothing at all
-abbrev pub or_empty_made : ℕ → Making → Outcome ℕ
+abbrev pub or_empty_made : ℕ → Stock → Outcome ℕ
 or_empty_made body now = cell_made cell.empty now >>= λ e. cell_made (cell.joined sign.Choice body e)
 
 -- the next piece
@@ -79,19 +79,19 @@ next_piece cells [] = no_piece
 next_piece cells (first ∷ more) = made first (record { cells = cells; pieces = more })
 
 -- as a pattern
-abbrev pub as_pattern : FilePiece → Making → Outcome ℕ
+abbrev pub as_pattern : FilePiece → Stock → Outcome ℕ
 as_pattern (of_pattern root) now = made root now
 as_pattern (of_grammar clauses) now = cell_made (cell.grammar clauses) now
 
-abbrev pub next_pattern : Making → Outcome ℕ
+abbrev pub next_pattern : Stock → Outcome ℕ
 next_pattern now = next_piece now.cells now.pieces >>= as_pattern
 
 -- as a grammar
-abbrev pub as_grammar : FilePiece → Making → Outcome (List Clause)
+abbrev pub as_grammar : FilePiece → Stock → Outcome (List Clause)
 as_grammar (of_pattern root) now = refused NotGrammar
 as_grammar (of_grammar clauses) now = made clauses now
 
-abbrev pub next_grammar : Making → Outcome (List Clause)
+abbrev pub next_grammar : Stock → Outcome (List Clause)
 next_grammar now = next_piece now.cells now.pieces >>= as_grammar
 
 -- ---- definitions that are replaced
@@ -111,14 +111,14 @@ IsReplaced old new (Err (Unreadable NoDefinition)) = defines_all old new ≡ fal
 IsReplaced old new (Err NoMemory) = Unit {0}
 IsReplaced old new (Err other) = ⊥
 
-abbrev pub replaced_if : Bool → List Clause → Making → Outcome (List Clause)
+abbrev pub replaced_if : Bool → List Clause → Stock → Outcome (List Clause)
 replaced_if true clauses now = made clauses now
 replaced_if false clauses now = refused NoDefinition
 
 -- ---- patterns and items of a file that inherits the namespace
 
 abbrev mutual
-  pub make : List ℕ → WrittenPattern → Making → Outcome ℕ
+  pub make : List ℕ → WrittenPattern → Stock → Outcome ℕ
   make ns (written.element class p) now = make ns p now >>= λ i. cell_made (cell.element (class_in ns class) i)
   make ns (written.attribute class p) now = make ns p now >>= λ i. cell_made (cell.attribute (class_in ns class) i)
   make ns (written.list p) now = make ns p now >>= λ i. cell_made (cell.listed i)
@@ -141,23 +141,23 @@ abbrev mutual
   make ns (written.group p q) now = make ns p now >>= λ i then. make ns q then >>= λ j. cell_made (cell.joined sign.Group i j)
   make ns (written.interleave p q) now = make ns p now >>= λ i then. make ns q then >>= λ j. cell_made (cell.joined sign.Interleave i j)
 
-  pub make_item : List ℕ → WrittenItem → Making → Outcome (List Clause)
+  pub make_item : List ℕ → WrittenItem → Stock → Outcome (List Clause)
   make_item ns (written.define name combine p) now = make ns p now >>= λ i. made (record { name = name; combine = combine; body = i } ∷ [])
   make_item ns (written.div items) now = make_items ns items now
   make_item ns (written.include reference replacements)
       now = next_grammar now >>= λ old then. make_anew ns replacements then >>= λ new. replaced_if (defines_all old new) (with_new old new)
 
-  pub make_items : List ℕ → WrittenItems → Making → Outcome (List Clause)
+  pub make_items : List ℕ → WrittenItems → Stock → Outcome (List Clause)
   make_items ns written.no_items now = made [] now
   make_items ns (written.item_then item items)
       now = make_item ns item now >>= λ first then. make_items ns items then >>= λ more. made (first ++ more)
 
-  pub make_replacement : List ℕ → WrittenReplacement → Making → Outcome (List Clause)
+  pub make_replacement : List ℕ → WrittenReplacement → Stock → Outcome (List Clause)
   make_replacement ns (written.define_anew name combine p)
       now = make ns p now >>= λ i. made (record { name = name; combine = combine; body = i } ∷ [])
   make_replacement ns (written.div_anew replacements) now = make_anew ns replacements now
 
-  pub make_anew : List ℕ → WrittenReplacements → Making → Outcome (List Clause)
+  pub make_anew : List ℕ → WrittenReplacements → Stock → Outcome (List Clause)
   make_anew ns written.no_replacements now = made [] now
   make_anew ns (written.replacement_then replacement replacements)
       now = make_replacement ns replacement now >>= λ first then. make_anew ns replacements then >>= λ more. made (first ++ more)
@@ -168,52 +168,52 @@ behind before outcome = outcome >>= λ clauses. made (before ++ clauses)
 
 -- ---- patterns joined by a sign, by the list of them
 
-abbrev pub none_made : Sign → Making → Outcome ℕ
+abbrev pub none_made : Sign → Stock → Outcome ℕ
 none_made sign.Choice now = cell_made cell.not_allowed now
 none_made sign.Group now = cell_made cell.empty now
 none_made sign.Interleave now = cell_made cell.empty now
 
 -- the next pattern behind those that are joined so far, if there are some
-abbrev pub make_next : List ℕ → Sign → Option ℕ → Pattern → Making → Outcome ℕ
+abbrev pub make_next : List ℕ → Sign → Option ℕ → Pattern → Stock → Outcome ℕ
 make_next ns by None next now = make ns (pattern_of next) now
 make_next ns by (Some first) next now = make ns (pattern_of next) now >>= λ i. cell_made (cell.joined by first i)
 
 -- and all behind it
-abbrev pub make_behind : List ℕ → Sign → ℕ → List Pattern → Making → Outcome ℕ
+abbrev pub make_behind : List ℕ → Sign → ℕ → List Pattern → Stock → Outcome ℕ
 make_behind ns by first [] now = made first now
 make_behind ns by first (next ∷ more) now = make_next ns by (Some first) next now >>= λ i. make_behind ns by i more
 
-abbrev pub make_row : List ℕ → Sign → List Pattern → Making → Outcome ℕ
+abbrev pub make_row : List ℕ → Sign → List Pattern → Stock → Outcome ℕ
 make_row ns by [] now = none_made by now
 make_row ns by (first ∷ more) now = make_next ns by None first now >>= λ i. make_behind ns by i more
 
 -- ---- files
 
 -- a pattern that is a whole file, and no grammar alone
-abbrev pub lone_made : List ℕ → WrittenPattern → Making → Outcome FilePiece
+abbrev pub lone_made : List ℕ → WrittenPattern → Stock → Outcome FilePiece
 lone_made ns p now = make ns p now >>= λ root. made (of_pattern root)
 
 -- a whole file
-abbrev pub make_file : List ℕ → WrittenSurface → Making → Outcome FilePiece
+abbrev pub make_file : List ℕ → WrittenSurface → Stock → Outcome FilePiece
 make_file ns (written.a_grammar items) now = make_items ns items now >>= λ clauses. made (of_grammar clauses)
 make_file ns (written.a_pattern (written.grammar items)) now = make_items ns items now >>= λ clauses. made (of_grammar clauses)
 make_file ns (written.a_pattern p) now = lone_made ns p now
 
 -- it leaves its piece for what mentions it
-abbrev pub file_made : Loaded → Making → Outcome (Unit {0})
+abbrev pub file_made : Loaded → Stock → Outcome (Unit {0})
 file_made file now = make_file file.inherited (surface_of file.surface)
     now >>= λ piece then. made tt (record { cells = then.cells; pieces = piece ∷ then.pieces })
 
 -- files in order, each behind those that it mentions
-abbrev pub files_made : List Loaded → Making → Outcome (Unit {0})
+abbrev pub files_made : List Loaded → Stock → Outcome (Unit {0})
 files_made [] now = made tt now
 files_made (file ∷ files) now = file_made file now >>= λ done. files_made files
 
-abbrev pub nothing_made : Making
+abbrev pub nothing_made : Stock
 nothing_made = record { cells = []; pieces = [] }
 
 -- all of them, in one piece
-abbrev pub whole_made_from : List Loaded → Making → Outcome ℕ
+abbrev pub whole_made_from : List Loaded → Stock → Outcome ℕ
 whole_made_from files now = files_made files now >>= λ done. next_pattern
 
 abbrev pub whole_made : List Loaded → Outcome ℕ

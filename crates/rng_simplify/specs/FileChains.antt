@@ -14,10 +14,10 @@ use Rattle.rng_simplify.specs.declared.load.Link.{Link}
 use Rattle.rng_simplify.specs.declared.load.Loaded.{Loaded}
 use Rattle.rng_simplify.specs.declared.mention.Mention.{Mention as Kept}
 use Rattle.rng_simplify.specs.declared.names.Names.{Names}
-use Rattle.rng_simplify.specs.Composing.{Context, Says}
-use Rattle.rng_simplify.specs.Keeping.{kept_named}
-use Rattle.rng_simplify.specs.Loading.{Waiting, waiting_in, AreRead, AllLoaded, ReadsFile}
-use Rattle.rng_simplify.specs.Mentioning.{kept_of_all, AreTextMentions}
+use Rattle.rng_simplify.specs.ComposedFiles.{Context, Says}
+use Rattle.rng_simplify.specs.NameTables.{kept_named}
+use Rattle.rng_simplify.specs.LoadedFiles.{Waiting, waiting_in, AreRead, AllLoaded, ReadsFile}
+use Rattle.rng_simplify.specs.KeptMentions.{kept_of_all, AreTextMentions}
 use Rattle.rng_simplify.specs.References.{Mention, Mentions, mentions_of}
 use Rattle.rng_simplify.specs.Simplified.{IfTold, Answers}
 

@@ -45,7 +45,7 @@ pub record Says (files : FileMap) (uri : List ℕ) (surface : WrittenSurface) : 
 pub record Opens (files : FileMap) (context : Context) (reference : FileReference) (inner : Context)
     (surface : WrittenSurface) : Type 0 where
   pub uri : List ℕ
-  pub joined : Joins context.uri reference.uri uri
+  pub refers : Joins context.uri reference.uri uri
   pub inner_is : inner ≡ referred context reference uri
   pub no_loop : ¬ Contains context.chain uri
   pub says : Says files uri surface

@@ -21,10 +21,10 @@ use Rattle.rng_simplify.specs.Broken.{IsForeign, except_limit}
 use Rattle.rng_simplify.specs.Cells.{Cell}
 use Rattle.rng_simplify.specs.Cells as cell
 use Rattle.rng_simplify.specs.Datatypes.{datatype_of, MayWrite, AreExcepts, builtin_string, builtin_token}
-use Rattle.rng_simplify.specs.Denoting.{IsCell}
-use Rattle.rng_simplify.specs.Forming.{IsBefore, IsKnown}
+use Rattle.rng_simplify.specs.CellMeanings.{IsCell}
+use Rattle.rng_simplify.specs.NodeForms.{IsBefore, IsKnown}
 use Rattle.rng_simplify.specs.Forms.{Value, values_of}
-use Rattle.rng_simplify.specs.Standing.{cell_parts}
+use Rattle.rng_simplify.specs.NodePlaces.{cell_parts}
 use Rattle.rng_simplify.specs.Shown.{value_in, form_at, AreOfSchema}
 
 -- ---- types by their names

@@ -6,7 +6,7 @@ use Rattle.rng_simplify.specs.declared.node.Clause.{Clause}
 use Rattle.rng_simplify.specs.Cells.{Cell}
 use Rattle.rng_simplify.specs.Cells as cell
 use Rattle.rng_simplify.specs.Composed.{Composed, Clauses}
-use Rattle.rng_simplify.specs.Denoting.{IsCell, Denotes, DenoteAll}
+use Rattle.rng_simplify.specs.CellMeanings.{IsCell, Denotes, DenoteAll}
 use Rattle.rng_simplify.specs.Places.{place, Occurs}
 
 -- the nodes of which a node is made; an element and a grammar are made of none

@@ -24,11 +24,11 @@ use Rattle.rng_simplify.specs.declared.resolve.Target.TheVariants.{Nothing, Defi
 use Rattle.rng_simplify.specs.Broken.{clash, is_alone}
 use Rattle.rng_simplify.specs.Cells.{Cell}
 use Rattle.rng_simplify.specs.Cells as cell
-use Rattle.rng_simplify.specs.Denoting.{IsCell}
+use Rattle.rng_simplify.specs.CellMeanings.{IsCell}
 use Rattle.rng_simplify.specs.Forms.{combine_of}
-use Rattle.rng_simplify.specs.Keeping.{kept_named, kept_for}
-use Rattle.rng_simplify.specs.Standing.{bodies_of, inner_nodes, Stands, IsStanding}
-use Rattle.rng_simplify.specs.Resolving.{combined_number, element_number, clauses_of, combines_of, IsCombined, IsCombinedIn, IsCombinedOutside, IsOfGrammar}
+use Rattle.rng_simplify.specs.NameTables.{kept_named, kept_for}
+use Rattle.rng_simplify.specs.NodePlaces.{bodies_of, inner_nodes, Stands, IsStanding}
+use Rattle.rng_simplify.specs.ResolvedNodes.{combined_number, element_number, clauses_of, combines_of, IsCombined, IsCombinedIn, IsCombinedOutside, IsOfGrammar}
 
 -- ---- combined definitions
 

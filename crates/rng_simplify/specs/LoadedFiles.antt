@@ -16,7 +16,7 @@ use Rattle.rnc_parse.specs.Views.{surface_of}
 use Rattle.rng_simplify.specs.declared.fault.SchemaFault.{SchemaFault}
 use Rattle.rng_simplify.specs.declared.fault.SchemaFault.TheVariants.{Absent, NotUtf8, BadUri, Failed, NoMemory, Unreadable}
 use Rattle.rng_simplify.specs.declared.load.Loaded.{Loaded}
-use Rattle.rng_simplify.specs.Composing.{Context, top, Says, Opens}
+use Rattle.rng_simplify.specs.ComposedFiles.{Context, top, Says, Opens}
 use Rattle.rng_simplify.specs.References.{Mention, reference_of, mentions_of}
 use Rattle.rng_simplify.specs.Simplified.{IfTold, Answers}
 

@@ -16,10 +16,10 @@ use Rattle.rng_simplify.specs.declared.resolve.Target.{Target}
 use Rattle.rng_simplify.specs.declared.shape.Shape.{Shape}
 use Rattle.rng_simplify.specs.Cells.{Cell}
 use Rattle.rng_simplify.specs.Cells as cell
-use Rattle.rng_simplify.specs.Denoting.{IsCell}
-use Rattle.rng_simplify.specs.Forms.{Form, Value, list_of, attribute_of, one_or_more_of, join_of, values_of}
+use Rattle.rng_simplify.specs.CellMeanings.{IsCell}
+use Rattle.rng_simplify.specs.Forms.{Form, Value, list_of, attribute_of, one_or_more_of, combined_by, values_of}
 use Rattle.rng_simplify.specs.Forms as form
-use Rattle.rng_simplify.specs.Resolving.{combined_number, element_number, target_at, number_at, leads}
+use Rattle.rng_simplify.specs.ResolvedNodes.{combined_number, element_number, target_at, number_at, leads}
 use Rattle.rng_simplify.specs.Shown.{joined_of, form_at, AreOfSchema}
 
 -- ---- forms of cells and combined definitions
@@ -43,7 +43,7 @@ cell_form at count link values (cell.joined by first second) = joined_of by (at 
 
 abbrev pub bodies_form : Combine → List Form → Form
 bodies_form combine [] = form.not_allowed
-bodies_form combine (first ∷ more) = joined (join_of combine) first more
+bodies_form combine (first ∷ more) = joined (combined_by combine) first more
 
 -- that of combined definitions by those of their bodies
 abbrev pub combined_form : (ℕ → Form) → Combined → Form
@@ -131,7 +131,7 @@ MakesCell old new of count i link c (Ok number) = IsCellMade old new of count i 
 MakesCell old new of count i link c (Err fault.NoMemory) = Unit {0}
 MakesCell old new of count i link c (Err other) = ⊥
 
--- and so of definitions that are joined
+-- and so of combined definitions
 pub record IsCombinedMade (old new : List Shape) (of : List ℕ) (combine : Combine) (bodies : List ℕ) (number : ℕ) : Type 0 where
   pub more : List Shape
   pub grows : new ≡ old ++ more

@@ -8,7 +8,7 @@ use Rattle.rng_simplify.specs.declared.fault.SchemaFault.{SchemaFault}
 use Rattle.rng_simplify.specs.declared.fault.SchemaFault.TheVariants.{NoMemory, Failed}
 use Rattle.rng_simplify.specs.Broken.{IsAbsent, IsNoText, HasBadUri, IsRefused, HasIncludeLoop, IncludesOther, ReplacesNothing, IsBroken}
 use Rattle.rng_simplify.specs.Composed.{Composed, Clauses}
-use Rattle.rng_simplify.specs.Composing.{ComposesSchema}
+use Rattle.rng_simplify.specs.ComposedFiles.{ComposesSchema}
 use Rattle.rng_simplify.specs.Forms.{Form, FormDefinition}
 use Rattle.rng_simplify.specs.Grammars.{IsSimplified}
 use Rattle.rng_simplify.specs.Simple.{Simple}

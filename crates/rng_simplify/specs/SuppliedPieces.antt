@@ -5,9 +5,9 @@ use Rattle.rnc_parse.specs.Written.{WrittenPattern, WrittenItems, WrittenSurface
 use Rattle.rng_simplify.specs.declared.node.Clause.{Clause}
 use Rattle.rng_simplify.specs.Cells.{Cell}
 use Rattle.rng_simplify.specs.Composed.{Composed, Clauses}
-use Rattle.rng_simplify.specs.Composing.{Context, Opens, grammar_items, Composes, ComposesFile, Gathers}
-use Rattle.rng_simplify.specs.Denoting.{IsCell, Denotes, DenoteAll}
-use Rattle.rng_simplify.specs.Making.{Making, made, FilePiece, of_pattern, of_grammar, make}
+use Rattle.rng_simplify.specs.ComposedFiles.{Context, Opens, grammar_items, Composes, ComposesFile, Gathers}
+use Rattle.rng_simplify.specs.CellMeanings.{IsCell, Denotes, DenoteAll}
+use Rattle.rng_simplify.specs.MadeCells.{Stock, made, FilePiece, of_pattern, of_grammar, make}
 use Rattle.rng_simplify.specs.References.{Mention, reference_of, mentions}
 
 -- each cell of the one list is that of the other
@@ -33,7 +33,7 @@ pub data Supplies (files : FileMap) (number : ℕ → ℕ) (context : Context) (
 
 -- the cell of this number stands for the pattern in one piece; what is left of the pieces is for what is mentioned behind
 pub record IsMadeOf (files : FileMap) (number : ℕ →
-    ℕ) (context : Context) (p : WrittenPattern) (more : List Mention) (i : ℕ) (old new : Making) : Type 0 where
+    ℕ) (context : Context) (p : WrittenPattern) (more : List Mention) (i : ℕ) (old new : Stock) : Type 0 where
   pub whole : Composed
   pub composes : Composes files context p whole
   pub denotes : Denotes new.cells number i whole
@@ -43,6 +43,6 @@ pub record IsMadeOf (files : FileMap) (number : ℕ →
 -- a pattern that is made of pieces for what it mentions stands for that pattern in one piece
 abbrev pub PatternsAreComposed : Type 0
 PatternsAreComposed = (files : FileMap) (number : ℕ →
-    ℕ) (context : Context) (p : WrittenPattern) (more : List Mention) (i : ℕ) (old new : Making) →
+    ℕ) (context : Context) (p : WrittenPattern) (more : List Mention) (i : ℕ) (old new : Stock) →
     Supplies files number context old.cells (mentions p ++ more) old.pieces → make context.inherited p old ≡ made i new →
     IsMadeOf files number context p more i old new
