@@ -207,3 +207,17 @@ pub(crate) fn answer<M: Matcher>(
         }
     }
 }
+
+/// The state behind events, all of which are to be followed.
+pub(crate) fn state_behind<M: Matcher>(
+    alloc: Global,
+    matcher: &mut M,
+    events: &str,
+) -> Result<M::State, Fail> {
+    let mut state = matcher.begin(alloc)?;
+    for event in events.split("  ") {
+        let by = move_of(event).ok_or("no event")?;
+        state = moved(alloc, matcher, &state, by)?.ok_or("not followed")?;
+    }
+    Ok(state)
+}

@@ -24,7 +24,7 @@ use rng_core::grammar::Def;
 use std::alloc::Global;
 
 /// A state of the matcher, by its number.
-#[derive(Clone, Copy)]
+#[derive(Clone, Copy, Debug, PartialEq, Eq)]
 pub struct PoolState {
     pub(crate) number: usize,
 }
