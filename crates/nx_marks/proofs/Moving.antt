@@ -6,7 +6,7 @@ use Rattle.nx_base.specs.Running.{CutsTo, after_all}
 use Rattle.nx_base.specs.Text.{IsPlace, edited}
 use Rattle.nx_base.specs.Tokens.{cut}
 use Rattle.nx_base.specs.declared.token.Token.{Token}
-use Rattle.nx_marks.specs.Bound.{WillJoin, JoinsIn}
+use Rattle.nx_marks.specs.Bound.{WillJoin, WillReach, ReachesIn}
 use Rattle.nx_marks.specs.Chain.{Kept, FirstMeans, frontier_of, reach}
 use Rattle.nx_marks.specs.Editing.{edit_noted, place_after}
 use Rattle.nx_marks.specs.Frontier.{IsBorder, MovesOver}
@@ -95,25 +95,25 @@ module _ {S M : Type 0} (is_state : S → Type 0) (means : S → M) (r : Rules M
       between t 0 (frontier_of k) (frontier_of j) a.tokens b.tokens utf8 a.cuts b.cuts le
 
   -- what is left when marks were joined
-  pub rejoined : (k j : Kept S) (n : ℕ) → Rejoins is_state means r k j → IsRight is_state means r t k → WillJoin means r t n k → JoinsIn means r t n j
-  rejoined k j n s h w = by (zero_or k.here.len)
+  pub rejoined : (k j : Kept S) (n end : ℕ) → Rejoins is_state means r k j → WillReach means r t n end k → ReachesIn means r t n end j
+  rejoined k j n end s w = by (zero_or k.here.len)
     where
       zero_or : (m : ℕ) → (0 < m) ⊎ (m ≡ 0)
       zero_or m = grind arith
 
-      by : (0 < k.here.len) ⊎ (k.here.len ≡ 0) → JoinsIn means r t n j
+      by : (0 < k.here.len) ⊎ (k.here.len ≡ 0) → ReachesIn means r t n end j
       by (inl some) =
-          let P : Kept S → Type 0 = λ i. JoinsIn means r t n i in
+          let P : Kept S → Type 0 = λ i. ReachesIn means r t n end i in
           subst P (sym (s.waits some)) (inl (w, some))
       by (inr none) =
           let no : w.left ≡ [] = none-left is_state means r t utf8 (frontier_of k) (frontier_of k + k.here.len) w.left (omega arith) w.cuts in
           let count : n ≡ 0 = (let e = ap length no in let c = w.count in omega arith) in
-          let P : ℕ → Type 0 = λ m. WillJoin means r t m k in
-          inr (s.joins t utf8 h (subst P count w))
+          let P : ℕ → Type 0 = λ m. WillReach means r t m end k in
+          inr (s.joins t end utf8 (subst P count w))
 
   -- a token doesn't pass a mark that is to be joined
-  pub gone_idle : (k : Kept S) (n : ℕ) (token : Token) → token ≡ cut t (frontier_of k) → 0 < k.here.len → WillJoin means r t n k → gone_from (length token.bytes) k ≡ k
-  gone_idle k n token is some w = by w.left w.cuts w.first
+  pub gone_idle : (k : Kept S) (n end : ℕ) (token : Token) → token ≡ cut t (frontier_of k) → 0 < k.here.len → WillReach means r t n end k → gone_from (length token.bytes) k ≡ k
+  gone_idle k n end token is some w = by w.left w.cuts w.first
     where
       aside : (m : M) (l : List (Mark S)) → FirstMeans means m l → 0 < length l
       aside m [] f = absurd f
@@ -137,7 +137,7 @@ module _ {S M : Type 0} (is_state : S → Type 0) (means : S → M) (r : Rules M
     pub marked : j.marked ≡ k.marked
     pub at : frontier_of j ≡ frontier_of k
     pub far : length token.bytes ≤ j.here.len
-    pub waits : (n : ℕ) → WillJoin means r t n k → 0 < k.here.len → j ≡ k
+    pub waits : (n end : ℕ) → WillReach means r t n end k → 0 < k.here.len → j ≡ k
 
   pub passed : (k j : Kept S) (n : ℕ) (token : Token) → IsRight is_state means r t k → token ≡ cut t (frontier_of k) → frontier_of k < length t → n ≡ length token.bytes → j ≡ gone_from n k → Passed k j token
   passed k j n token h is rest count gone_is =
@@ -153,15 +153,15 @@ module _ {S M : Type 0} (is_state : S → Type 0) (means : S → M) (r : Rules M
         marked = ap (λ (i : Kept S). i.marked) gone_is ∙ g.marked_is;
         at = ap (λ (i : Kept S). frontier_of i) gone_is ∙ ap reach g.front_is;
         far = omega arith;
-        waits = λ m w some. gone_is ∙ ap (λ c. gone_from c k) count ∙ gone_idle k m token is some w;
+        waits = λ m end w some. gone_is ∙ ap (λ c. gone_from c k) count ∙ gone_idle k m end token is some w;
       }
 
   -- what is left behind a token, and behind the marks that were joined
-  pub near_on : (earlier_means : S → M) (earlier : Rules M) (k i j : Kept S) (n : ℕ) → frontier_of k < length t →
-      ((m : ℕ) → WillJoin earlier_means earlier t m k → 0 < k.here.len → (0 < m) × WillJoin means r t (m - 1) i) →
-      Rejoins is_state means r i j → IsRight is_state means r t i → JoinsIn earlier_means earlier t n k → (0 < n) × JoinsIn means r t (n - 1) j
-  near_on earlier_means earlier k i j n rest step s h (inl w) = let x = step n w.0 w.1 in (x.0, rejoined i j (n - 1) s h x.1)
-  near_on earlier_means earlier k i j n rest step s h (inr all) = absurd (omega arith)
+  pub near_on : (earlier_means : S → M) (earlier : Rules M) (k i j : Kept S) (n end : ℕ) → frontier_of k ≤ frontier_of j →
+      ((m e : ℕ) → WillReach earlier_means earlier t m e k → 0 < k.here.len → (0 < m) × WillReach means r t (m - 1) e i) →
+      Rejoins is_state means r i j → ReachesIn earlier_means earlier t n end k → ((0 < n) ⊎ (end ≤ frontier_of k)) × ReachesIn means r t (n - 1) end j
+  near_on earlier_means earlier k i j n end grows step s (inl w) = let x = step n end w.0 w.1 in (inl x.0, rejoined i j (n - 1) end s x.1)
+  near_on earlier_means earlier k i j n end grows step s (inr all) = (inr all, inr (omega arith))
 
   pub within : (k : Kept S) → IsRight is_state means r t k → frontier_of k ≤ length t
   within k h = (frontier_place is_state means r t laws utf8 k h).0
@@ -177,6 +177,20 @@ fits_text is_state means r t added from to k utf8 added_utf8 f u o h small new =
 pub on_err : {A E P : Type 0} (o : Result A E) → P → OnErr o P
 on_err (Ok x) p = tt
 on_err (Err e) p = p
+
+-- before the text's end some token is left
+pub still_some : (n len at : ℕ) → at < len → (0 < n) ⊎ (len ≤ at) → 0 < n
+still_some n len at lt (inl some) = some
+still_some n len at lt (inr all) = absurd (omega arith)
+
+-- where no token is left up to a row, the frontier is at its end, or behind it
+pub reached : {S M : Type 0} (means : S → M) (r : Rules M) (t : List ℕ) (count taken end : ℕ) (k : Kept S) → count ≤ taken → ReachesIn means r t (count - taken) end k → end ≤ frontier_of k
+reached means r t count taken end k le (inr there) = there
+reached means r t count taken end k le (inl w) = absurd (none w.0.left (let c = w.0.count in omega arith) w.0.cuts)
+  where
+    none : (ks : List Lexeme) → length ks ≡ 0 → CutsTo t (frontier_of k) ks (frontier_of k + k.here.len) → ⊥
+    none [] e h = let some = w.1 in omega arith
+    none (c ∷ cs) e h = omega arith
 
 -- at the end of the text nothing is aside
 pub none_aside : {S M : Type 0} (is_state : S → Type 0) (means : S → M) (r : Rules M) (t : List ℕ) (k : Kept S) → IsRight is_state means r t k → frontier_of k ≡ length t → (0 < k.here.len) ⊎ (k.aside ≡ []) → k.aside ≡ []

@@ -3,7 +3,7 @@ use Rattle.std.proofs.Common.{◌≡◌, ◌⊎◌, inl, inr, ℕ, ◌+◌, ◌<
 use Rattle.std.specs.Prelude.{IsUtf8, if◌then◌else◌}
 use Rattle.nx_base.specs.Rules.{Rules, RulesLaws, Lexeme}
 use Rattle.nx_base.specs.Running.{CutsTo, after_all}
-use Rattle.nx_marks.specs.Bound.{WillJoin}
+use Rattle.nx_marks.specs.Bound.{WillReach}
 use Rattle.nx_marks.specs.Chain.{FirstMeans, Chain, Kept, all_of, frontier_of, reach}
 use Rattle.nx_marks.specs.Editing.{split}
 use Rattle.nx_marks.specs.Keeping.{KeepsMarks}
@@ -92,7 +92,7 @@ joins_with {S = S} {M = M} means r k a b due t f more is_it =
 pub record Rejoining {S M : Type 0} (is_state : S → Type 0) (means : S → M) (r : Rules M) (old now : Kept S) : Type 0 where
   pub right : (t : List ℕ) → IsUtf8 t → IsRight is_state means r t old → IsRight is_state means r t now
   pub further : frontier_of old ≤ frontier_of now
-  pub joins : (t : List ℕ) → IsUtf8 t → IsRight is_state means r t old → WillJoin means r t 0 old → (now ≡ old) ⊎ (frontier_of now ≡ length t)
+  pub joins : (t : List ℕ) (end : ℕ) → IsUtf8 t → WillReach means r t 0 end old → (now ≡ old) ⊎ (end ≤ frontier_of now)
   pub keeps : (t : List ℕ) → IsUtf8 t → IsRight is_state means r t old → KeepsMarks means r t old now
   pub waits : 0 < old.here.len → now ≡ old
 
@@ -142,7 +142,7 @@ module _ {S M : Type 0} (is_state : S → Type 0) (means : S → M) (r : Rules M
       record {
         right = λ t utf8 h. joins_right t k j s here f h;
         further = omega arith;
-        joins = λ t utf8 w. ap (λ (i : Kept S). frontier_of i) s.is ∙ (joined_all is_state means r t utf8 k s.mark s.behind 0 s.are here w).1;
+        joins = λ t end utf8 w. (let e : frontier_of j ≡ end = ap (λ (i : Kept S). frontier_of i) s.is ∙ (joined_all is_state means r t utf8 k s.mark s.behind 0 end s.are here w).1 in omega arith);
         keeps = λ t utf8 h. (let P : Kept S → Type 0 = λ i. KeepsMarks means r t k i in
             subst P (sym s.is) (keeps_joined is_state means r t laws k s.mark s.behind s.are here h (joined_right is_state means r t laws k s.mark s.behind s.are here (first-of k s.mark s.behind (means k.here.state) s.are f) h)));
         fewer = omega arith;
@@ -172,12 +172,12 @@ module _ {S M : Type 0} (is_state : S → Type 0) (means : S → M) (r : Rules M
       })
 
   -- with no token left the states mean the same
-  joins_now : (t : List ℕ) (k : Kept S) → IsUtf8 t → k.here.len ≡ 0 → WillJoin means r t 0 k → FirstMeans means (means k.here.state) k.aside
-  joins_now t k utf8 here w = by k.aside refl
+  joins_now : (t : List ℕ) (end : ℕ) (k : Kept S) → IsUtf8 t → k.here.len ≡ 0 → WillReach means r t 0 end k → FirstMeans means (means k.here.state) k.aside
+  joins_now t end k utf8 here w = by k.aside refl
     where
       by : (l : List (Mark S)) → k.aside ≡ l → FirstMeans means (means k.here.state) l
       by [] e = absurd (let P : List (Mark S) → Type 0 = λ l. FirstMeans means (after_all r (means k.here.state) w.left) l in subst P e w.first)
-      by (y ∷ ys) e = (joined_all is_state means r t utf8 k y ys 0 e here w).0
+      by (y ∷ ys) e = (joined_all is_state means r t utf8 k y ys 0 end e here w).0
 
   pub rejoins_by_passing : (k j : Kept S) → PassesNext k j → k.here.len ≡ 0 → (FirstMeans means (means k.here.state) k.aside → ⊥) → RejoinsOne is_state means r k j
   rejoins_by_passing k j s here differs =
@@ -187,7 +187,7 @@ module _ {S M : Type 0} (is_state : S → Type 0) (means : S → M) (r : Rules M
       record {
         right = λ t utf8 h. passed_right t k j s h;
         further = omega arith;
-        joins = λ t utf8 w. absurd (differs (joins_now t k utf8 here w));
+        joins = λ t end utf8 w. absurd (differs (joins_now t end k utf8 here w));
         keeps = λ t utf8 h. keeps_dropping is_state means r t laws k j s.mark s.behind utf8 h s.are here
             (λ e. differs (let F : List (Mark S) → Type 0 = λ l. FirstMeans means (means k.here.state) l in subst F (sym s.are) e))
             (ap (λ (i : Kept S). i.front) s.is) (ap (λ (i : Kept S). i.marked) s.is) (ap (λ (i : Kept S). i.aside) s.is) (ap (λ (i : Kept S). i.here.len) s.is);
@@ -195,23 +195,20 @@ module _ {S M : Type 0} (is_state : S → Type 0) (means : S → M) (r : Rules M
       }
 
   pub rejoin_began : (k : Kept S) → Rejoining is_state means r k k
-  rejoin_began k = record { right = λ t utf8 h. h; further = omega arith; joins = λ t utf8 h w. inl refl; keeps = λ t utf8 h. keeps_all means r t k; waits = λ _. refl }
+  rejoin_began k = record { right = λ t utf8 h. h; further = omega arith; joins = λ t end utf8 w. inl refl; keeps = λ t utf8 h. keeps_all means r t k; waits = λ _. refl }
 
   pub rejoin_more : (old k j : Kept S) → Rejoining is_state means r old k → k.here.len ≡ 0 → RejoinsOne is_state means r k j → Rejoining is_state means r old j
   rejoin_more old k j g here s = record {
     right = λ t utf8 h. s.right t utf8 (g.right t utf8 h);
     further = (let a = g.further in let b = s.further in omega arith);
-    joins = λ t utf8 h w. inr (by t utf8 h w (g.joins t utf8 h w));
+    joins = λ t end utf8 w. inr (by t end utf8 w (g.joins t end utf8 w));
     keeps = λ t utf8 h. keeps_on means r t old k j (g.keeps t utf8 h) (s.keeps t utf8 (g.right t utf8 h));
     waits = λ lt. absurd (let e = ap (λ (i : Kept S). i.here.len) (g.waits lt) in omega arith);
   }
     where
-      by : (t : List ℕ) → IsUtf8 t → IsRight is_state means r t old → WillJoin means r t 0 old → (k ≡ old) ⊎ (frontier_of k ≡ length t) → frontier_of j ≡ length t
-      by t utf8 h w (inl e) = let P : Kept S → Type 0 = λ i. WillJoin means r t 0 i in s.joins t utf8 (subst P (sym e) w)
-      by t utf8 h w (inr e) =
-          let a = s.further in
-          let b = all_within is_state means r t j (s.right t utf8 (g.right t utf8 h)) in
-          omega arith
+      by : (t : List ℕ) (end : ℕ) → IsUtf8 t → WillReach means r t 0 end old → (k ≡ old) ⊎ (end ≤ frontier_of k) → end ≤ frontier_of j
+      by t end utf8 w (inl e) = let P : Kept S → Type 0 = λ i. WillReach means r t 0 end i in s.joins t end utf8 (subst P (sym e) w)
+      by t end utf8 w (inr e) = let a = s.further in omega arith
 
   pub rejoin_some : (old k : Kept S) → Rejoining is_state means r old k → IsRightForSome is_state means r old → IsRightForSome is_state means r k
   rejoin_some old k g h = record { text = h.text; utf8 = h.utf8; fits = h.fits; right = g.right h.text h.utf8 h.right }
@@ -220,24 +217,24 @@ module _ {S M : Type 0} (is_state : S → Type 0) (means : S → M) (r : Rules M
   rejoin_ended old k g e = record {
     right = g.right;
     further = g.further;
-    joins = λ t utf8 h w. by t utf8 w (g.joins t utf8 h w) e;
+    joins = λ t end utf8 w. by t end utf8 w (g.joins t end utf8 w) e;
     keeps = g.keeps;
     waits = g.waits;
     settled = e;
   }
     where
-      none : (t : List ℕ) → WillJoin means r t 0 old → (l : List (Mark S)) → old.aside ≡ l → l ≡ [] → ⊥
-      none t w [] e f = let P : List (Mark S) → Type 0 = λ l. FirstMeans means (after_all r (means old.here.state) w.left) l in subst P e w.first
-      none t w (y ∷ ys) e f = let n = ap length f in absurd (omega arith)
+      none : (t : List ℕ) (end : ℕ) → WillReach means r t 0 end old → (l : List (Mark S)) → old.aside ≡ l → l ≡ [] → ⊥
+      none t end w [] e f = let P : List (Mark S) → Type 0 = λ l. FirstMeans means (after_all r (means old.here.state) w.left) l in subst P e w.first
+      none t end w (y ∷ ys) e f = let n = ap length f in absurd (omega arith)
 
-      by : (t : List ℕ) → IsUtf8 t → WillJoin means r t 0 old → (k ≡ old) ⊎ (frontier_of k ≡ length t) → (0 < k.here.len) ⊎ (k.aside ≡ []) → frontier_of k ≡ length t
-      by t utf8 w (inr e) d = e
-      by t utf8 w (inl e) (inl lt) = absurd (let n = nothing w.left w.count w.cuts in let m = ap (λ (i : Kept S). i.here.len) e in omega arith)
+      by : (t : List ℕ) (end : ℕ) → IsUtf8 t → WillReach means r t 0 end old → (k ≡ old) ⊎ (end ≤ frontier_of k) → (0 < k.here.len) ⊎ (k.aside ≡ []) → end ≤ frontier_of k
+      by t end utf8 w (inr e) d = e
+      by t end utf8 w (inl e) (inl lt) = absurd (let n = nothing w.left w.count w.cuts in let m = ap (λ (i : Kept S). i.here.len) e in omega arith)
         where
           nothing : (ks : List Lexeme) → length ks ≡ 0 → CutsTo t (frontier_of old) ks (frontier_of old + old.here.len) → old.here.len ≡ 0
           nothing [] n h = omega arith
           nothing (c ∷ cs) n h = absurd (omega arith)
-      by t utf8 w (inl e) (inr d) = absurd (none t w old.aside refl (sym (ap (λ (i : Kept S). i.aside) e) ∙ d))
+      by t end utf8 w (inl e) (inr d) = absurd (none t end w old.aside refl (sym (ap (λ (i : Kept S). i.aside) e) ∙ d))
 
 pub nothing : {X : Type 0} (xs : List X) → length xs ≡ 0 → xs ≡ []
 nothing [] e = refl

@@ -13,7 +13,7 @@ use Rattle.nx_base.specs.declared.token.TokenKind.{TokenKind}
 use Rattle.nx_base.specs.declared.token.TokenKind.TheVariants as kind
 use Rattle.nx_scan.proofs.Every.{cut-is_token}
 use Rattle.nx_scan.proofs.OwnBytes.{cut-own}
-use Rattle.nx_marks.specs.Bound.{WillJoin}
+use Rattle.nx_marks.specs.Bound.{WillReach}
 use Rattle.nx_marks.specs.Chain.{FirstMeans, IsFirst, OwnStates, Chain, AreWhole, Kept, all_of, frontier_of, reach}
 use Rattle.nx_marks.specs.Right.{IsRight}
 use Rattle.nx_marks.specs.Ruling.{is_due}
@@ -131,8 +131,8 @@ ready {S = S} is_state means r t k before x token laws utf8 h front_is rest is =
 module _ {Self S M : Type 0} (later : Self → Self → Type 0) (is_state : Self → S → Type 0) (means : Self → S → M) (rules : Self → Rules M)
     (laws : LaterLaws later is_state means rules) (rule_laws : (s : Self) → RulesLaws (rules s)) where
   -- what is left up to the first mark aside
-  pub will_later : (a b : Self) (t : List ℕ) (n : ℕ) (k : Kept S) → later a b → OwnStates (is_state a) k → WillJoin (means a) (rules a) t n k → WillJoin (means b) (rules b) t n k
-  will_later a b t n k l own w =
+  pub will_later : (a b : Self) (t : List ℕ) (n end : ℕ) (k : Kept S) → later a b → OwnStates (is_state a) k → WillReach (means a) (rules a) t n end k → WillReach (means b) (rules b) t n end k
+  will_later a b t n end k l own w =
       let e : means a k.here.state ≡ means b k.here.state = sym (laws.meaning a b k.here.state l own.here) in
       let r : rules a ≡ rules b = sym (laws.rule a b l) in
       let P : Rules M → M → Type 0 = λ q m. FirstMeans (means b) (after_all q m w.left) k.aside in
@@ -168,13 +168,13 @@ module _ {Self S M : Type 0} (later : Self → Self → Type 0) (is_state : Self
       let st = stepped a b k (lexeme_of token) s l (own_states (is_state a) (means a) (rules a) t k h).here own same in
       took_right (is_state b) (means b) (rules b) t (rule_laws b) k before x (lexeme_of token) s place rest (ap lexeme_of is) front_is unmarked far own st.after g
 
-  pub stepped_near : (a b : Self) (t : List ℕ) (k : Kept S) (before : List (Mark S)) (x : Mark S) (token : Token) (s : S) (n : ℕ) → later a b → IsRight (is_state a) (means a) (rules a) t k →
-      token ≡ cut t (frontier_of k) → k.front ≡ before ++ x ∷ [] → is_state b s → means b s ≡ (rules a).after (means a k.here.state) (lexeme_of token) → 0 < k.here.len → WillJoin (means a) (rules a) t n k →
-      (0 < n) × WillJoin (means b) (rules b) t (n - 1) (took (means b) (rules b) k before x (lexeme_of token) s)
-  stepped_near a b t k before x token s n l h is front_is own same some w =
+  pub stepped_near : (a b : Self) (t : List ℕ) (k : Kept S) (before : List (Mark S)) (x : Mark S) (token : Token) (s : S) (n end : ℕ) → later a b → IsRight (is_state a) (means a) (rules a) t k →
+      token ≡ cut t (frontier_of k) → k.front ≡ before ++ x ∷ [] → is_state b s → means b s ≡ (rules a).after (means a k.here.state) (lexeme_of token) → 0 < k.here.len → WillReach (means a) (rules a) t n end k →
+      (0 < n) × WillReach (means b) (rules b) t (n - 1) end (took (means b) (rules b) k before x (lexeme_of token) s)
+  stepped_near a b t k before x token s n end l h is front_is own same some w =
       let o = own_states (is_state a) (means a) (rules a) t k h in
       let st = stepped a b k (lexeme_of token) s l o.here own same in
-      took_nearer (is_state b) (means b) (rules b) t k before x (lexeme_of token) s n (ap lexeme_of is) front_is st.after some (will_later a b t n k l o w)
+      took_nearer (is_state b) (means b) (rules b) t k before x (lexeme_of token) s n end (ap lexeme_of is) front_is st.after some (will_later a b t n end k l o w)
 
   -- the faults that it gives are the same for the later machine
   pub faults_later : (a b : Self) (k : Kept S) (len : ℕ) (token : Lexeme) → later a b → is_state a k.here.state →

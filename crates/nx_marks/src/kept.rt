@@ -9,7 +9,7 @@ ghost use Rattle.nx_marks.specs.Editing.{edit_noted, noted};
 ghost use Rattle.nx_marks.specs.Frontier.{FrontierAfterEdit};
 ghost use Rattle.nx_marks.specs.Right.{IsRight, tags_behind};
 ghost use Rattle.nx_marks.specs.Before.{IsLast, LiesInFront};
-ghost use Rattle.nx_marks.specs.Bound.{WillJoin};
+ghost use Rattle.nx_marks.specs.Bound.{WillReach};
 ghost use Rattle.nx_marks.specs.Keeping.{KeepsMarks};
 ghost use Rattle.nx_marks.specs.Ruling.{is_due};
 ghost use Rattle.nx_marks.specs.Tags.{tag_of};
@@ -434,8 +434,8 @@ pub(crate) fn begin_here<A: Machine>(
     ensures right { IsRight (A.is_state machine.now) (A.means machine.now) (A.rules machine.now) text.now kept.new }
     ensures unmarked { OnOk result (kept.new.marked ≡ false) }
     ensures frontier { frontier_of kept.new ≡ frontier_of kept.old }
-    ensures near { (n : ℕ) → WillJoin (A.means machine.now) (A.rules machine.now) text.now n kept.old
-        → WillJoin (A.means machine.now) (A.rules machine.now) text.now n kept.new }
+    ensures near { (n end : ℕ) → WillReach (A.means machine.now) (A.rules machine.now) text.now n end kept.old
+        → WillReach (A.means machine.now) (A.rules machine.now) text.now n end kept.new }
     ensures gap { kept.new.here.len ≡ kept.old.here.len }
     ensures keeps { KeepsMarks (A.means machine.now) (A.rules machine.now) text.now kept.old kept.new }
 {
@@ -475,8 +475,8 @@ pub(crate) fn step<A: Machine>(
     ensures later { A.later machine.old machine.new }
     ensures right { IsRight (A.is_state machine.new) (A.means machine.new) (A.rules machine.new) text.now kept.new }
     ensures on { OnOk result (frontier_of kept.new ≡ frontier_of kept.old + length token.bytes) }
-    ensures near { OnOk result ((n : ℕ) → WillJoin (A.means machine.old) (A.rules machine.old) text.now n kept.old → 0 < kept.old.here.len
-        → (0 < n) × WillJoin (A.means machine.new) (A.rules machine.new) text.now (n - 1) kept.new) }
+    ensures near { OnOk result ((n end : ℕ) → WillReach (A.means machine.old) (A.rules machine.old) text.now n end kept.old
+        → 0 < kept.old.here.len → (0 < n) × WillReach (A.means machine.new) (A.rules machine.new) text.now (n - 1) end kept.new) }
     ensures off { OnErr result (frontier_of kept.new ≡ frontier_of kept.old) }
     ensures keeps { KeepsMarks (A.means machine.old) (A.rules machine.old) text.now kept.old kept.new }
 {

@@ -4,7 +4,7 @@ ghost use Rattle.std.specs.Prelude.{◌≡◌, ◌⊎◌, ℕ, ◌+◌, ◌-◌,
 ghost use Rattle.nx_base.specs.Running.{machine_faults};
 ghost use Rattle.nx_base.specs.Text.{IsPlace, edited};
 ghost use Rattle.nx_base.specs.Tokens.{cut, token_count};
-ghost use Rattle.nx_marks.specs.Bound.{WillJoin, JoinsIn};
+ghost use Rattle.nx_marks.specs.Bound.{WillJoin, WillReach, ReachesIn};
 ghost use Rattle.nx_marks.specs.Chain.{AreWhole, frontier_of};
 ghost use Rattle.nx_marks.specs.Editing.{edit_kept};
 ghost use Rattle.nx_marks.specs.Frontier.{FrontierAfterEdit, MovesOver};
@@ -56,8 +56,8 @@ fn take<A: Machine>(
     ensures later { A.later machine.old machine.new }
     ensures right { IsRight (A.is_state machine.new) (A.means machine.new) (A.rules machine.new) text.now kept.new }
     ensures on { OnOk result (frontier_of kept.new ≡ frontier_of kept.old + length token.bytes) }
-    ensures near { OnOk result ((n : ℕ) → WillJoin (A.means machine.old) (A.rules machine.old) text.now n kept.old → 0 < kept.old.here.len
-        → (0 < n) × WillJoin (A.means machine.new) (A.rules machine.new) text.now (n - 1) kept.new) }
+    ensures near { OnOk result ((n end : ℕ) → WillReach (A.means machine.old) (A.rules machine.old) text.now n end kept.old
+        → 0 < kept.old.here.len → (0 < n) × WillReach (A.means machine.new) (A.rules machine.new) text.now (n - 1) end kept.new) }
     ensures off { OnErr result (frontier_of kept.new ≡ frontier_of kept.old) }
     ensures keeps { KeepsMarks (A.means machine.old) (A.rules machine.old) text.now kept.old kept.new }
 {
@@ -127,8 +127,8 @@ impl<A: Machine> Marks<A> {
         ensures later { A.later machine.old machine.new }
         ensures right { IsRight (A.is_state machine.new) (A.means machine.new) (A.rules machine.new) text.now self.new.kept }
         ensures on { OnOk result (MovesOver text.now (frontier_of self.old.kept) 1 (frontier_of self.new.kept)) }
-        ensures near { OnOk result ((n : ℕ) → JoinsIn (A.means machine.old) (A.rules machine.old) text.now n self.old.kept
-            → (0 < n) × JoinsIn (A.means machine.new) (A.rules machine.new) text.now (n - 1) self.new.kept) }
+        ensures near { OnOk result ((n end : ℕ) → ReachesIn (A.means machine.old) (A.rules machine.old) text.now n end self.old.kept
+            → ((0 < n) ⊎ (end ≤ frontier_of self.old.kept)) × ReachesIn (A.means machine.new) (A.rules machine.new) text.now (n - 1) end self.new.kept) }
         ensures settled { OnOk result ((0 < self.new.kept.here.len) ⊎ (self.new.kept.aside ≡ [])) }
         ensures keeps { KeepsMarks (A.means machine.old) (A.rules machine.old) text.now self.old.kept self.new.kept }
         ensures off { OnErr result (frontier_of self.new.kept ≡ frontier_of self.old.kept) }
@@ -165,6 +165,8 @@ impl<A: Machine> Marks<A> {
         ensures enough { OnOk result ((self.new.taken ≡ n) ⊎ (frontier_of self.new.kept ≡ length text.now)) }
         ensures bound { OnOk result ((count : ℕ) → WillJoin (A.means machine.old) (A.rules machine.old) text.now count self.old.kept
             → self.new.taken ≤ count) }
+        ensures joined { OnOk result ((count end : ℕ) → WillReach (A.means machine.old) (A.rules machine.old) text.now count end self.old.kept
+            → count ≤ self.new.taken → end ≤ frontier_of self.new.kept) }
         ensures settled { OnOk result ((0 < self.new.kept.here.len) ⊎ (self.new.kept.aside ≡ [])) }
         ensures keeps { KeepsMarks (A.means machine.old) (A.rules machine.old) text.now self.old.kept self.new.kept }
     {

@@ -1,5 +1,5 @@
 use Rattle.std.proofs.Common.{rules, ◌≡◌, true, ap, subst, sym, ◌∙◌}
-use Rattle.nx_marks.specs.Bound.{WillJoin}
+use Rattle.nx_marks.specs.Bound.{WillReach}
 use Rattle.nx_marks.specs.Chain.{Kept, frontier_of}
 use Rattle.nx_marks.specs.Right.{IsRight}
 use Rattle.nx_marks.proofs.Stepping.{own_states, begun_at}
@@ -29,12 +29,12 @@ pub returns-clause-frontier : goal.returns-clause-frontier
 returns-clause-frontier g c = ap (λ (k : Kept _). frontier_of k) c.in_ok-begin.ensures.ok ∙ begun_at c.args.kept.now c.in_ok-state.state
 
 pub returns-clause-near : goal.returns-clause-near
-returns-clause-near g c = λ n w.
+returns-clause-near g c = λ n end w.
     let m = g.A.Machine in
     let a = c.args.machine.now in
-    let P : Kept _ → Type 0 = λ k. WillJoin (m.means a) (m.rules a) c.args.text.now n k in
+    let P : Kept _ → Type 0 = λ k. WillReach (m.means a) (m.rules a) c.args.text.now n end k in
     let meaning = c.in_ok-state.ensures.meaning ∙ ap (λ (k : Kept _). m.means a k.here.state) c.kept.view_is in
-    subst P (sym c.in_ok-begin.ensures.ok) (begun_near (m.is_state a) (m.means a) (m.rules a) c.args.text.now c.args.kept.now c.in_ok-state.state n meaning w)
+    subst P (sym c.in_ok-begin.ensures.ok) (begun_near (m.is_state a) (m.means a) (m.rules a) c.args.text.now c.args.kept.now c.in_ok-state.state n end meaning w)
 
 pub returns-clause-keeps : goal.returns-clause-keeps
 returns-clause-keeps g c =

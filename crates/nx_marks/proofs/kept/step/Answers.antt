@@ -2,7 +2,7 @@ use Rattle.std.proofs.Common.{◌≡◌, ◌+◌, ◌-◌, ◌<◌, ◌≤◌, f
 use Rattle.nx_base.specs.Rules.{Rules, lexeme_of}
 use Rattle.nx_base.specs.Shifting.{placed}
 use Rattle.nx_base.specs.Tokens.{cut}
-use Rattle.nx_marks.specs.Bound.{WillJoin}
+use Rattle.nx_marks.specs.Bound.{WillReach}
 use Rattle.nx_marks.specs.Chain.{Kept, frontier_of, reach}
 use Rattle.nx_marks.specs.Right.{IsRight}
 use Rattle.nx_marks.specs.Tags.{tag_of}
@@ -228,11 +228,11 @@ returns-in-Ok-clause-near g c =
     let tags : c.in-Some.last.tags + c.tags_of.result ≡ c.in-Some.last.tags + tag_of c.args.token.kind = ap (λ n. c.in-Some.last.tags + n) c.tags_of.ensures in
     let took_it = took_is (m.means b) (m.rules b) K c.pop.new.self.items c.in-Some.last (lexeme_of c.args.token) c.step_stored.new.state c.push_reserved.new.self.items (c.in-Some.last.len + c.len-len-in-Ok.result) (c.in-Some.last.tags + c.tags_of.result)
     (K.here.len - c.len-len-in-Ok.result) c.step_stored.new.faults c.is_due-kept-inside.result c.push_reserved.ensures.items (ap (λ n. c.in-Some.last.len + n) len) tags fs (ap (λ n. K.here.len - n) len) c.is_due-kept-inside.ensures in
-    λ n w some.
-    (let P : Kept _ → Type 0 = λ k. (0 < n) × WillJoin (m.means b) (m.rules b) c.args.text.now (n - 1) k in
-    let W : Kept _ → Type 0 = λ k. WillJoin (m.means a) (m.rules a) c.args.text.now n k in
+    λ n end w some.
+    (let P : Kept _ → Type 0 = λ k. (0 < n) × WillReach (m.means b) (m.rules b) c.args.text.now (n - 1) end k in
+    let W : Kept _ → Type 0 = λ k. WillReach (m.means a) (m.rules a) c.args.text.now n end k in
     let gap : 0 < K.here.len = (let e = ap (λ (k : Kept _). k.here.len) c.kept.view_is in omega (arith, e, some)) in
-    subst P (sym took_it) (stepped_near m.later m.is_state m.means m.rules g.met.A.Machine.laws g.met.A.Machine.rule_laws a b c.args.text.now K c.pop.new.self.items c.in-Some.last c.args.token c.step_stored.new.state n c.step_stored.ensures.later right is
+    subst P (sym took_it) (stepped_near m.later m.is_state m.means m.rules g.met.A.Machine.laws g.met.A.Machine.rule_laws a b c.args.text.now K c.pop.new.self.items c.in-Some.last c.args.token c.step_stored.new.state n end c.step_stored.ensures.later right is
     c.in-Some.ensures.items c.step_stored.ensures.state c.in-Ok.ensures.after gap (subst W (sym c.kept.view_is) w)))
 
 pub returns-in-Err-clause-right : goal.returns-in-Err-clause-right

@@ -1,6 +1,6 @@
 use Rattle.std.proofs.Common.{◌≡◌, ◌+◌, ◌<◌, length, ap, subst, sym, ◌∙◌, arith}
 use Rattle.nx_base.specs.Tokens.{cut}
-use Rattle.nx_marks.specs.Bound.{WillJoin}
+use Rattle.nx_marks.specs.Bound.{WillReach}
 use Rattle.nx_marks.specs.Chain.{Kept, frontier_of}
 use Rattle.nx_marks.proofs.Moving.{passed, on_err}
 use Rattle.nx_marks.proofs.Keeping.{keeps_on, keeps_passing, still_settled}
@@ -75,19 +75,19 @@ returns-clause-on g c =
     c.in_ok-buffer.ensures.on ∙ ap (λ n. n + length c.args.token.bytes) (p.at ∙ c.begin_here.ensures.frontier)
 
 pub returns-clause-near : goal.returns-clause-near
-returns-clause-near g c = λ n w some.
-    (let W : Kept _ → Type 0 = λ i. WillJoin (g.A.Machine.means c.args.machine.now) (g.A.Machine.rules c.args.machine.now) c.args.text.now n i in
+returns-clause-near g c = λ n end w some.
+    (let W : Kept _ → Type 0 = λ i. WillReach (g.A.Machine.means c.args.machine.now) (g.A.Machine.rules c.args.machine.now) c.args.text.now n end i in
     let m = g.A.Machine in
     let a = c.args.machine.now in
     let k = c.begin_here.new.kept in
     let is : c.args.token ≡ cut c.args.text.now (frontier_of k) = c.requires.token ∙ ap (cut c.args.text.now) (sym c.begin_here.ensures.frontier) in
     let p = passed (m.is_state a) (m.means a) (m.rules a) (g.met.A.Machine.rule_laws a) c.args.text.now c.len-len.ensures.utf8 k c.let_go.new.self c.len-count.result c.args.token c.begin_here.ensures.right is
     (omega (arith, c.requires.rest, c.begin_here.ensures.frontier)) c.len-count.ensures c.let_go.ensures in
-    let first = c.begin_here.ensures.near n w in
+    let first = c.begin_here.ensures.near n end w in
     let gap : 0 < k.here.len = omega (arith, some, c.begin_here.ensures.gap) in
-    let same = p.waits n first gap in
+    let same = p.waits n end first gap in
     let far : 0 < c.let_go.new.self.here.len = (let e = ap (λ (i : Kept _). i.here.len) same in omega arith) in
-    c.in_ok-buffer.ensures.near n (subst W (sym same) first) far)
+    c.in_ok-buffer.ensures.near n end (subst W (sym same) first) far)
 
 pub returns-in_err-buffer-clause-off : goal.returns-in_err-buffer-clause-off
 returns-in_err-buffer-clause-off g c =

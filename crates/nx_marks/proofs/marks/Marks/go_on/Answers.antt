@@ -3,7 +3,7 @@ use Rattle.nx_base.specs.Text.{IsPlace}
 use Rattle.nx_base.specs.Tokens.{cut, CutAt}
 use Rattle.nx_base.specs.declared.token.Token.{Token}
 use Rattle.nx_marks.specs.Chain.{frontier_of}
-use Rattle.nx_marks.proofs.Moving.{one_token, moves_on, over_between, near_on}
+use Rattle.nx_marks.proofs.Moving.{one_token, moves_on, over_between, over_reaches, near_on}
 use Rattle.nx_marks.proofs.Keeping.{keeps_all, keeps_later}
 use Rattle.nx_marks.proofs.Reading.{frontier_place}
 use Rattle.nx_marks.proofs.marks.Marks.go_on.Goals as goal
@@ -31,12 +31,12 @@ returns-clause-on g c =
     moves_on t (frontier_of k) 1 (frontier_of i) 0 (frontier_of c.rejoin.new.kept) one zero
 
 pub returns-clause-near : goal.returns-clause-near
-returns-clause-near g c = λ n w.
+returns-clause-near g c = λ n end w.
     let m = g.A.Machine in
     let a = c.args.machine.now in
     let b = c.take.new.machine in
-    near_on (m.is_state b) (m.means b) (m.rules b) (g.met.A.Machine.rule_laws b) c.args.text.now c.len-len.ensures.utf8 (m.means a) (m.rules a) c.args.self.now.kept c.take.new.kept c.rejoin.new.kept n c.requires.rest c.in_ok-self.ensures.near
-    c.rejoin.ensures c.take.ensures.right w
+    near_on (m.is_state b) (m.means b) (m.rules b) (g.met.A.Machine.rule_laws b) c.args.text.now c.len-len.ensures.utf8 (m.means a) (m.rules a) c.args.self.now.kept c.take.new.kept c.rejoin.new.kept n end (over_reaches c.args.text.now _ _ _ (returns-clause-on g c)) c.in_ok-self.ensures.near
+    c.rejoin.ensures w
 
 pub returns-clause-keeps : goal.returns-clause-keeps
 returns-clause-keeps g c =

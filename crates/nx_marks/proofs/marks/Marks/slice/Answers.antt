@@ -1,9 +1,9 @@
-use Rattle.std.proofs.Common.{◌≡◌, ℕ, ◌-◌, inr, subst, sym, arith}
-use Rattle.nx_marks.specs.Bound.{JoinsIn}
+use Rattle.std.proofs.Common.{◌≡◌, ℕ, ◌-◌, inr, length, subst, sym, arith}
+use Rattle.nx_marks.specs.Bound.{ReachesIn}
 use Rattle.nx_marks.specs.Chain.{frontier_of}
 use Rattle.nx_marks.specs.Frontier.{MovesOver}
 use Rattle.nx_marks.proofs.Keeping.{keeps_later}
-use Rattle.nx_marks.proofs.Moving.{moves_on, over_between, over_grows, over_reaches, smaller, within, rejoined}
+use Rattle.nx_marks.proofs.Moving.{moves_on, over_between, over_grows, over_reaches, smaller, within, rejoined, still_some, reached}
 use Rattle.nx_marks.proofs.marks.Marks.slice.Goals as goal
 
 pub loop-self-init : goal.loop-self-init
@@ -23,8 +23,12 @@ loop-self-init g c =
       counted = omega arith;
       bound = λ count w.
           (let none : count ≡ count - 0 = omega arith in
-          let P : ℕ → Type 0 = λ n. JoinsIn (m.means a) (m.rules a) t n j in
-          (omega arith, subst P none (rejoined (m.is_state a) (m.means a) (m.rules a) (g.met.A.Machine.rule_laws a) t utf8 k j count c.rejoin.ensures c.requires.right w)));
+          let P : ℕ → Type 0 = λ n. ReachesIn (m.means a) (m.rules a) t n (length t) j in
+          (omega arith, subst P none (rejoined (m.is_state a) (m.means a) (m.rules a) (g.met.A.Machine.rule_laws a) t utf8 k j count (length t) c.rejoin.ensures w)));
+      joined = λ count end w.
+          (let none : count ≡ count - 0 = omega arith in
+          let P : ℕ → Type 0 = λ n. ReachesIn (m.means a) (m.rules a) t n end j in
+          subst P none (rejoined (m.is_state a) (m.means a) (m.rules a) (g.met.A.Machine.rule_laws a) t utf8 k j count end c.rejoin.ensures w));
       settled = c.rejoin.ensures.settled;
       keeps = c.rejoin.ensures.keeps t utf8 c.requires.right;
     }
@@ -49,12 +53,17 @@ loop-self-preserved g c =
       counted = omega arith;
       bound = λ count w.
           (let before = c.loop-self.invariant.bound count w in
-          let on = c.in_ok-go_on.ensures.near (count - c.loop-self.self.taken) before.1 in
+          let on = c.in_ok-go_on.ensures.near (count - c.loop-self.self.taken) (length c.args.text.now) before.1 in
           let le = before.0 in
-          let some = on.0 in
+          let some = still_some _ (length c.args.text.now) (frontier_of c.loop-self.self.kept) (omega (arith, c.len-len.ensures.bytes, c.frontier.ensures, c.loop-self-test.true)) on.0 in
           let same : count - c.loop-self.self.taken - 1 ≡ count - c.go_on.new.self.taken = omega (arith, c.go_on.ensures.taken) in
-          let Q : ℕ → Type 0 = λ n. JoinsIn (m.means b) (m.rules b) c.args.text.now n c.go_on.new.self.kept in
+          let Q : ℕ → Type 0 = λ n. ReachesIn (m.means b) (m.rules b) c.args.text.now n (length c.args.text.now) c.go_on.new.self.kept in
           (omega (arith, c.go_on.ensures.taken), subst Q same on.1));
+      joined = λ count end w.
+          (let on = c.in_ok-go_on.ensures.near (count - c.loop-self.self.taken) end (c.loop-self.invariant.joined count end w) in
+          let same : count - c.loop-self.self.taken - 1 ≡ count - c.go_on.new.self.taken = omega (arith, c.go_on.ensures.taken) in
+          let Q : ℕ → Type 0 = λ n. ReachesIn (m.means b) (m.rules b) c.args.text.now n end c.go_on.new.self.kept in
+          subst Q same on.1);
       settled = c.in_ok-go_on.ensures.settled;
       keeps = keeps_later m.later m.is_state m.means m.rules g.met.A.Machine.laws c.args.machine.now c.loop-self.machine c.args.text.now c.args.self.now.kept c.loop-self.self.kept c.go_on.new.self.kept c.loop-self.invariant.later c.requires.right c.loop-self.invariant.keeps c.go_on.ensures.keeps;
     }
@@ -82,6 +91,21 @@ pub returns-in_err-go_on-clause-keeps : goal.returns-in_err-go_on-clause-keeps
 returns-in_err-go_on-clause-keeps g c =
     let m = g.A.Machine in
     keeps_later m.later m.is_state m.means m.rules g.met.A.Machine.laws c.args.machine.now c.loop-self.machine c.args.text.now c.args.self.now.kept c.loop-self.self.kept c.go_on.new.self.kept c.loop-self.invariant.later c.requires.right c.loop-self.invariant.keeps c.go_on.ensures.keeps
+
+pub returns-else-self-n-clause-joined : goal.returns-else-self-n-clause-joined
+returns-else-self-n-clause-joined g c = λ count end w le.
+    let m = g.A.Machine in
+    let b = c.loop-self.machine in
+    reached (m.means b) (m.rules b) c.args.text.now count c.loop-self.self.taken end c.loop-self.self.kept le (c.loop-self.invariant.joined count end w)
+
+pub returns-after-loop-self-clause-joined : goal.returns-after-loop-self-clause-joined
+returns-after-loop-self-clause-joined g c = λ count end w le.
+    let m = g.A.Machine in
+    let b = c.loop-self.machine in
+    reached (m.means b) (m.rules b) c.args.text.now count c.loop-self.self.taken end c.loop-self.self.kept le (c.loop-self.invariant.joined count end w)
+
+pub returns-else-self-n-clause-bound : goal.returns-else-self-n-clause-bound
+returns-else-self-n-clause-bound g c = λ count w. (c.loop-self.invariant.bound count w).0
 
 pub returns-after-loop-self-clause-bound : goal.returns-after-loop-self-clause-bound
 returns-after-loop-self-clause-bound g c = λ count w. (c.loop-self.invariant.bound count w).0

@@ -1,6 +1,6 @@
 use Rattle.std.proofs.Common.{◌≡◌, ◌⊎◌, ℕ, ◌+◌, ◌-◌, ◌<◌, ◌≤◌, List, [], length}
 use Rattle.nx_base.specs.Rules.{Rules}
-use Rattle.nx_marks.specs.Bound.{WillJoin, JoinsIn}
+use Rattle.nx_marks.specs.Bound.{WillJoin, WillReach, ReachesIn}
 use Rattle.nx_marks.specs.Chain.{Kept, frontier_of}
 use Rattle.nx_marks.specs.Frontier.{MovesOver}
 use Rattle.nx_marks.specs.Keeping.{KeepsMarks}
@@ -16,7 +16,8 @@ pub record GoesOn {Self S M : Type 0} (later_than : Self → Self → Type 0) (i
   pub over : MovesOver text (frontier_of old) taken (frontier_of kept)
   pub most : taken ≤ n
   pub counted : steps ≡ steps_first + taken
-  pub bound : (count : ℕ) → WillJoin (means first) (rules first) text count old → (taken ≤ count) × JoinsIn (means now) (rules now) text (count - taken) kept
+  pub bound : (count : ℕ) → WillJoin (means first) (rules first) text count old → (taken ≤ count) × ReachesIn (means now) (rules now) text (count - taken) (length text) kept
+  pub joined : (count end : ℕ) → WillReach (means first) (rules first) text count end old → ReachesIn (means now) (rules now) text (count - taken) end kept
   pub settled : (0 < kept.here.len) ⊎ (kept.aside ≡ [])
   pub keeps : KeepsMarks (means first) (rules first) text old kept
 
