@@ -12,10 +12,12 @@ const SCHEMA: &str = "start = element doc { attribute id { xsd:NCName }, element
   element para { (text | element em { text })* }* }";
 
 /// A document with two paragraphs, up to the end of the second.
-const TWO_PARAGRAPHS: &str = r##"<doc  @id="a"  >  <title  >  "T"  </  <para  >  "x"  </  <para  >  <em  >  "y"  </  "z"  </"##;
+const TWO_PARAGRAPHS: &str =
+    r##"<doc  @id="a"  >  <title  >  "T"  </  <para  >  "x"  </  <para  >  <em  >  "y"  </  "z"  </"##;
 
 /// Another document up to a paragraph, and what comes in that one many times.
 const ANOTHER: &str = r##"<doc  @id="b"  >  <title  >  </  <para  >"##;
+
 const MORE: &str = r##"  "x"  <em  >  </"##;
 
 /// Calls on other states, so many times four.
