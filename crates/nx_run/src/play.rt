@@ -63,9 +63,9 @@ fn answer<F: Files, L: Ledger>(
     views: &mut Vec<Box<dyn View>>,
     steps: &mut Steps<L>,
 ) -> Reply
-    ensures step { TurnStep (world session.old (files_state (F.told files.old) (F.faults files.old))
+    ensures step { TurnStep (world session.old.editor (files_state (F.told files.old) (F.faults files.old))
         (map (λ b. state b) views.old.items) steps.old) (turn_of turn.entry) result
-        (world session.new (files_state (F.told files.new) (F.faults files.new)) (map (λ b. state b) views.new.items) steps.new) }
+        (world session.new.editor (files_state (F.told files.new) (F.faults files.new)) (map (λ b. state b) views.new.items) steps.new) }
     ensures text { ViewsAreText (map (λ b. state b) views.old.items) → ReplyIsText result }
     ensures views { ViewsAreText (map (λ b. state b) views.old.items) → ViewsAreText (map (λ b. state b) views.new.items) }
 {

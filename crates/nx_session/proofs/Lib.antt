@@ -6,6 +6,7 @@ pub mod Edited
 pub mod Filing
 pub mod Holding
 pub mod Locating
+pub mod Marks
 pub mod OfferTexts
 pub mod Pieces
 pub mod Reading

@@ -1,12 +1,13 @@
 -- What is kept of reading a text, and what is found in it.
-use Rattle.std.proofs.Common.{◌≡◌, ℕ, zero, suc, ◌+◌, ◌-◌, List, length, Option, Some, None, option_map, refl, sym, ap, subst, arith, inl, inr}
+use Rattle.std.proofs.Common.{◌≡◌, ℕ, zero, suc, ◌+◌, ◌-◌, List, length, Option, Some, None, option_map, Result, Ok, Err, refl, sym, ap, subst, ◌∙◌, arith, inl, inr}
 use Rattle.std.specs.List.{AllByRecursion}
-use Rattle.std.specs.Prelude.{IfSome}
+use Rattle.std.specs.Prelude.{IfSome, OnOk}
 use Rattle.std.specs.Str.{IsUtf8}
 use Rattle.std.proofs.lemmas.Bool.{cases_lt, le-leb, lt-leb}
 use Rattle.std.proofs.lemmas.Str.{IsCharBoundary-start, IsUtf8-between}
 use Rattle.deriv_pool.specs.Later as pool
 use Rattle.deriv_pool.specs.declared.pool.Pool.{Pool}
+use Rattle.nx_base.specs.Rules.{Rules}
 use Rattle.nx_base.specs.Running.{machine_faults}
 use Rattle.nx_base.specs.Text.{IsPlace}
 use Rattle.nx_base.specs.Tokens.{IsOfKind, cut, end_of, tokens_within, tokens_of}
@@ -17,13 +18,19 @@ use Rattle.nx_scan.proofs.OwnBytes.{cut-own}
 use Rattle.nx_events.specs.Items.{items_of_text}
 use Rattle.nx_events.specs.Texts.{ItemsAreText}
 use Rattle.nx_events.proofs.TextItems.{all_text}
+use Rattle.nx_marks.specs.Bound.{WillJoin}
+use Rattle.nx_marks.specs.Chain.{Kept}
+use Rattle.nx_marks.specs.Keeping.{KeepsMarks}
+use Rattle.nx_marks.specs.Meant.{is_any, itself}
+use Rattle.nx_marks.specs.Right.{IsRight}
+use Rattle.nx_marks.specs.Starting.{started}
 use Rattle.nx_recover.specs.Faults.{AreFaultsOf}
 use Rattle.nx_recover.specs.Machine.{later_by}
-use Rattle.nx_recover.specs.RecoverRules.{recover_rules}
+use Rattle.nx_recover.specs.RecoverRules.{Recovered, recover_rules}
 use Rattle.nx_recover.specs.declared.state.RecoverState.{RecoverState}
 use Rattle.nx_recovery.proofs.Along.{recover_gives_faults}
 use Rattle.nx_recovery.proofs.Details.{faults_are_text}
-use Rattle.nx_session.specs.Reading.{grammar_of, followed}
+use Rattle.nx_session.specs.Reading.{grammar_of, followed, rules_for}
 use Rattle.rng_core.specs.Meaning.{language_of}
 use Rattle.rng_core.specs.Patterns.{Language}
 use Rattle.rng_core.specs.Soundness.{IsSound}
@@ -58,11 +65,47 @@ later_sound old new h sound =
     let P : Option Grammar → Type 0 = λ o. IfSome o IsSound in
     subst P (sym (later_grammar old new h)) sound
 
--- ---- the machine finds the faults of the text
+-- ---- the rules of reading
 
 pub schema_followed : (matcher : Option Pool) → followed matcher ≡ option_map language_of (grammar_of matcher)
 schema_followed None = refl
 schema_followed (Some matcher) = refl
+
+-- the machine's rules are those of its grammar
+pub same_rules : (matcher : Option Pool) → recover_rules (followed matcher) ≡ rules_for (grammar_of matcher)
+same_rules matcher = ap recover_rules (schema_followed matcher)
+
+-- the marks of a machine that has begun
+pub begun_marks : (old new : Option Pool) (marks : Kept Recovered) → IsLater old new → marks ≡ started (recover_rules (followed new)).first
+    → marks ≡ started (rules_for (grammar_of old)).first
+begun_marks old new marks later is =
+    let first : Rules Recovered → Kept Recovered = λ r. started r.first in
+    is ∙ ap first (same_rules new ∙ ap rules_for (later_grammar old new later))
+
+-- what reading on does, by the rules of the grammar
+pub reads_marks : (matcher : Option Pool) (text : List ℕ) (old new : Kept Recovered) → KeepsMarks itself (recover_rules (followed matcher)) text old new
+    → KeepsMarks itself (rules_for (grammar_of matcher)) text old new
+reads_marks matcher text old new keeps =
+    let P : Rules Recovered → Type 0 = λ r. KeepsMarks itself r text old new in
+    subst P (same_rules matcher) keeps
+
+pub will_join : (matcher : Option Pool) (text : List ℕ) (count : ℕ) (marks : Kept Recovered) → WillJoin itself (rules_for (grammar_of matcher)) text count marks
+    → WillJoin itself (recover_rules (followed matcher)) text count marks
+will_join matcher text count marks will =
+    let P : Rules Recovered → Type 0 = λ r. WillJoin itself r text count marks in
+    subst P (sym (same_rules matcher)) will
+
+pub marks_right : (matcher : Option Pool) (text : List ℕ) (marks : Kept Recovered) → IsRight is_any itself (recover_rules (followed matcher)) text marks
+    → IsRight is_any itself (rules_for (grammar_of matcher)) text marks
+marks_right matcher text marks right =
+    let P : Rules Recovered → Type 0 = λ r. IsRight is_any itself r text marks in
+    subst P (same_rules matcher) right
+
+pub on_ok : {A E P Q : Type 0} (r : Result A E) → (P → Q) → OnOk r P → OnOk r Q
+on_ok (Ok a) f h = f h
+on_ok (Err e) f h = tt
+
+-- ---- the machine finds the faults of the text
 
 pub are_faults : (text : List ℕ) (matcher : Option Pool) (faults : List Fault) → IsUtf8 text → IfSome (followed matcher) IsLive
     → faults ≡ machine_faults (recover_rules (followed matcher)) text → AreFaultsOf (option_map language_of (grammar_of matcher)) text faults

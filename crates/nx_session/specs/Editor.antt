@@ -3,6 +3,8 @@ use Rattle.std.specs.Prelude.{ℕ, List, [], ◌==◌, length, codes, Option, No
 use Rattle.nx_base.specs.Text.{edited, moved_place}
 use Rattle.nx_base.specs.declared.edit.Edit.{Edit}
 use Rattle.nx_host.specs.Files.{FileMap}
+use Rattle.nx_marks.specs.Chain.{Kept}
+use Rattle.nx_recover.specs.RecoverRules.{Recovered}
 use Rattle.nx_views.specs.States.{ViewState}
 use Rattle.rng_core.specs.Meaning.{language_of}
 use Rattle.rng_core.specs.Patterns.{Language}
@@ -19,6 +21,11 @@ pub record EditorState : Type 0 where
   pub rules : Option (List ℕ)
   pub frontier : ℕ
   pub taken : ℕ
+
+-- an editor, and what it keeps of reading its text: the marks, each with what its state means
+pub record SessionState : Type 0 where
+  pub editor : EditorState
+  pub marks : Kept Recovered
 
 -- what files tell, and how many calls they have failed
 pub record FilesState : Type 0 where

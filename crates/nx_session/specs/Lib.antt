@@ -6,6 +6,7 @@ pub mod Editor
 pub mod Faults
 pub mod LargeDocuments
 pub mod Locating
+pub mod Marks
 pub mod Moving
 pub mod Premises
 pub mod Step

@@ -1,6 +1,7 @@
 //! Laws of the editor. Nothing here runs.
 
 ghost use Rattle.nx_session.specs.Done.{AllowedCommandsAreDone, AllowedLinesAreDone, FaultsAreCounted};
+ghost use Rattle.nx_session.specs.Marks.{OneEditTakesFew};
 ghost use Rattle.nx_session.specs.Faults.{TextsGiveText};
 ghost use Rattle.nx_session.specs.Step.{RefusalsLeaveTheDocument};
 
@@ -39,4 +40,10 @@ pub fn allowed_lines_are_done()
 /// No command lowers the count of the files' faults.
 pub fn faults_are_counted()
     ensures { FaultsAreCounted }
+{}
+
+/// Behind one edit of a text that is read to its end, no more tokens are taken than lead from the last mark before the edit to the
+/// first behind it, where these lead to what its state means.
+pub fn one_edit_takes_few()
+    ensures { OneEditTakesFew }
 {}

@@ -4,6 +4,7 @@ ghost use Rattle.std.specs.Prelude.{◌≡◌, length, map, is_some, IfOk};
 ghost use Rattle.nx_script.specs.Commands.{HasUtf8Texts};
 ghost use Rattle.nx_script.specs.Replies.{reply_of, ReplyIsText};
 ghost use Rattle.nx_session.specs.Editor.{new_editor, files_state, world};
+ghost use Rattle.nx_session.specs.Marks.{MarksAreRight, MarksStep};
 ghost use Rattle.nx_session.specs.Step.{Step};
 ghost use Rattle.nx_session.specs.Viewing.{ViewsAreText};
 
@@ -23,6 +24,7 @@ use nx_base::memory::NoMemory;
 use nx_base::sequence::Bytes;
 use nx_base::steps::Steps;
 use nx_host::files::Files;
+use nx_marks::law::meanings_are_right;
 use nx_marks::marks::Marks;
 use nx_recover::recover::Recover;
 use nx_script::command::Command;
@@ -38,7 +40,8 @@ use std::sync::ledger::Ledger;
 const UNTITLED: &str = "file:///work/untitled.xml";
 
 /// An editor. To a contract it is its text, its caret, its document's URI, the grammar that the document is held against, the URI
-/// text of the rules by which schemas are located, how far the text is read, and how many tokens the last command took that read it.
+/// text of the rules by which schemas are located, how far the text is read, and how many tokens the last command took that read it;
+/// and beside that the marks, each with what its state means.
 #[derive(Drop)]
 pub struct Session {
     alloc: Global,
@@ -55,26 +58,32 @@ pub struct Session {
 }
 
 impl Model for Session {
-    ghost use Rattle.nx_session.specs.Editor.{EditorState};
+    ghost use Rattle.nx_session.specs.Editor.{SessionState};
     ghost use Rattle.std.specs.Prelude.{IfSome, IsUtf8};
     ghost use Rattle.nx_marks.specs.Chain.{frontier_of};
-    ghost use Rattle.nx_session.specs.Reading.{grammar_of, IsWellKept, IsKept};
+    ghost use Rattle.nx_session.specs.Reading.{grammar_of, meant, IsWellKept, IsKept};
     ghost use Rattle.rng_core.specs.contracts.grammar.Pat as pat;
     ghost use Rattle.rng_core.specs.contracts.name_class.NameClass as class;
     ghost use Rattle.std.specs.Coded.{codes};
+    ghost use Rattle.deriv_states.specs.Codes.{residual_code};
+    ghost use Rattle.nx_base.specs.contracts.fault.Fault as fault;
+    ghost use Rattle.nx_events.specs.contracts.state.EventState as events;
 
-    ghost Value = { EditorState };
+    ghost Value = { SessionState };
 
-    ghost coded = { Prim.hlevel (codes, pat.the_row.coded, class.the_row.coded) };
+    ghost coded = { Prim.hlevel (codes, pat.the_row.coded, class.the_row.coded, fault.the_row.coded, events.the_row.coded, residual_code) };
 
     ghost view = { λ s. record {
-      text = s.text;
-      caret = s.caret;
-      document = s.document;
-      schema = grammar_of s.machine.matcher;
-      rules = s.rules;
-      frontier = frontier_of s.marks.kept;
-      taken = s.marks.taken;
+      editor = record {
+        text = s.text;
+        caret = s.caret;
+        document = s.document;
+        schema = grammar_of s.machine.matcher;
+        rules = s.rules;
+        frontier = frontier_of s.marks.kept;
+        taken = s.marks.taken;
+      };
+      marks = meant s.machine.matcher s.marks.kept;
     } };
 
     ghost invariant = { λ s. IsKept s.text s.caret s.machine.matcher s.marks.kept };
@@ -83,12 +92,13 @@ impl Model for Session {
 impl Session {
     /// An editor of the empty text, which is given the URI text of the rules by which schemas are located, or none.
     pub fn new(alloc: Global, rules: Option<Bytes>) -> Result<Session, NoMemory>
-        ensures { IfOk result (λ session. session ≡ new_editor rules) }
+        ensures editor { IfOk result (λ session. session.editor ≡ new_editor rules) }
+        ensures right { IfOk result MarksAreRight }
     {
         let untitled = Vec::from_slice(alloc, UNTITLED.as_bytes())?;
         let mut machine = Recover::new(None);
         let marks = begun(alloc, &mut machine)?;
-        Ok(Session {
+        let session = Session {
             alloc,
             text: Text::new(alloc),
             caret: 0,
@@ -96,26 +106,28 @@ impl Session {
             rules,
             machine,
             marks,
-        })
+        };
+        session.reads_right();
+        Ok(session)
     }
 
     /// How many bytes the text has.
     pub fn len(&self) -> usize
-        ensures { result ≡ length self.now.text }
+        ensures { result ≡ length self.now.editor.text }
     {
         self.text.len()
     }
 
     /// The caret, as a byte offset of the text.
     pub fn caret(&self) -> usize
-        ensures { result ≡ self.now.caret }
+        ensures { result ≡ self.now.editor.caret }
     {
         self.caret
     }
 
     /// Whether the document is held against a schema.
     pub fn has_schema(&self) -> bool
-        ensures { result ≡ is_some self.now.schema }
+        ensures { result ≡ is_some self.now.editor.schema }
     {
         self.machine.matcher.is_some()
     }
@@ -129,16 +141,28 @@ impl Session {
         steps: &mut Steps<L>,
     ) -> Reply
         requires { HasUtf8Texts command.now }
-        ensures step { Step (world self.old (files_state (F.told files.old) (F.faults files.old))
+        ensures step { Step (world self.old.editor (files_state (F.told files.old) (F.faults files.old))
             (map (λ b. state b) views.old.items) steps.old) command.now result
-            (world self.new (files_state (F.told files.new) (F.faults files.new)) (map (λ b. state b) views.new.items) steps.new) }
+            (world self.new.editor (files_state (F.told files.new) (F.faults files.new)) (map (λ b. state b) views.new.items) steps.new) }
+        ensures marks { MarksStep self.old command.now result self.new }
+        ensures right { MarksAreRight self.new }
         ensures text { ViewsAreText (map (λ b. state b) views.old.items) → ReplyIsText result }
         ensures views { ViewsAreText (map (λ b. state b) views.old.items) → ViewsAreText (map (λ b. state b) views.new.items) }
     {
-        match self.answer(command, files, views, steps) {
+        let answer = self.answer(command, files, views, steps);
+        self.reads_right();
+        match answer {
             Ok(reply) => reply,
             Err(cause) => Reply::Refused(cause),
         }
+    }
+
+    /// Between two commands the marks are right.
+    fn reads_right(&self)
+        ensures { MarksAreRight self.now }
+    {
+        meanings_are_right::<Recover<Pool>>();
+        let _marks = &self.marks;
     }
 
     /// What the part of the editor that carries out the command answers.
@@ -150,10 +174,11 @@ impl Session {
         steps: &mut Steps<L>,
     ) -> Result<Reply, Refusal>
         requires { HasUtf8Texts command.now }
-        ensures step { Step (world self.old (files_state (F.told files.old) (F.faults files.old))
+        ensures step { Step (world self.old.editor (files_state (F.told files.old) (F.faults files.old))
             (map (λ b. state b) views.old.items) steps.old) command.now
-            (reply_of result) (world self.new (files_state (F.told files.new) (F.faults files.new))
+            (reply_of result) (world self.new.editor (files_state (F.told files.new) (F.faults files.new))
             (map (λ b. state b) views.new.items) steps.new) }
+        ensures marks { MarksStep self.old command.now (reply_of result) self.new }
         ensures text { ViewsAreText (map (λ b. state b) views.old.items) → ReplyIsText (reply_of result) }
         ensures views { ViewsAreText (map (λ b. state b) views.old.items) → ViewsAreText (map (λ b. state b) views.new.items) }
     {

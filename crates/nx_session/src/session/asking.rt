@@ -1,5 +1,6 @@
 //! The command that asks what may stand at a place.
 
+ghost use Rattle.std.specs.Prelude.{◌≡◌};
 ghost use Rattle.nx_script.specs.Replies.{reply_of, ReplyIsText};
 ghost use Rattle.nx_session.specs.Asking.{CompleteStep};
 
@@ -16,7 +17,8 @@ impl Session {
         at: u64,
         steps: &mut Steps<L>,
     ) -> Result<Reply, Refusal>
-        ensures step { CompleteStep at self.old (reply_of result) self.new }
+        ensures step { CompleteStep at self.old.editor (reply_of result) self.new.editor }
+        ensures marks { self.new.marks ≡ self.old.marks }
         ensures text { ReplyIsText (reply_of result) }
     {
         let place = at as usize;

@@ -1,22 +1,27 @@
 //! Commands on files.
 
-ghost use Rattle.std.specs.Prelude.{◌≡◌, map, IsAscii, IsUtf8, IfOk, string_bytes};
+ghost use Rattle.std.specs.Prelude.{◌≡◌, length, map, IsAscii, IsUtf8, IfOk, string_bytes};
 ghost use Rattle.nx_script.specs.Replies.{reply_of, ReplyIsText};
 ghost use Rattle.nx_session.specs.Editor.{files_state, opened};
 ghost use Rattle.nx_session.specs.Documents.{OpenStep, OpensBytes, SaveStep, MakeStep};
 ghost use Rattle.nx_session.specs.Viewing.{MovesViews, ViewsAreText, whole_edit};
+ghost use Rattle.nx_marks.specs.Editing.{edit_kept};
+ghost use Rattle.nx_session.specs.Marks.{EditsMarks};
 ghost use Rattle.nx_session.specs.LargeDocuments.{large_document};
 ghost use Rattle.nx_views.specs.States.{moved_view};
 
 use super::Session;
 use crate::document_uri::DocumentUri;
 use crate::large_document::large_document;
+use deriv_pool::pool::Pool;
 use nx_base::edit::Edit;
 use nx_base::memory::NoMemory;
 use nx_base::sequence::Bytes;
 use nx_host::files::Files;
 use nx_host::uri::{self, WORK_FOLDER};
 use nx_host::utf8::{text_front, text_of};
+use nx_marks::law::edits_look_at_no_state;
+use nx_recover::recover::Recover;
 use nx_script::reply::{Refusal, Reply};
 use nx_text::text::Text;
 use nx_views::shift::shift_all;
@@ -51,9 +56,10 @@ impl Session {
         views: &mut Vec<Box<dyn View>>,
     ) -> Result<Reply, Refusal>
         requires { IsUtf8 uri_text.now }
-        ensures step { OpenStep uri_text.now self.old (files_state (F.told files.old) (F.faults files.old)) (reply_of result)
-            self.new (files_state (F.told files.new) (F.faults files.new)) }
-        ensures views { MovesViews (whole_edit self.old self.new) (map (λ b. state b) views.old.items) (reply_of result)
+        ensures step { OpenStep uri_text.now self.old.editor (files_state (F.told files.old) (F.faults files.old)) (reply_of result)
+            self.new.editor (files_state (F.told files.new) (F.faults files.new)) }
+        ensures marks { EditsMarks (whole_edit self.old.editor self.new.editor) self.old (reply_of result) self.new }
+        ensures views { MovesViews (whole_edit self.old.editor self.new.editor) (map (λ b. state b) views.old.items) (reply_of result)
             (map (λ b. state b) views.new.items) }
         ensures views_text { ViewsAreText (map (λ b. state b) views.old.items) → ViewsAreText (map (λ b. state b) views.new.items) }
         ensures text { ReplyIsText (reply_of result) }
@@ -74,8 +80,9 @@ impl Session {
     ) -> Result<Reply, Refusal>
         requires utf8 { IsUtf8 uri }
         requires ascii { IsAscii uri }
-        ensures step { OpensBytes uri bytes.now self.old (reply_of result) self.new }
-        ensures views { MovesViews (whole_edit self.old self.new) (map (λ b. state b) views.old.items) (reply_of result)
+        ensures step { OpensBytes uri bytes.now self.old.editor (reply_of result) self.new.editor }
+        ensures marks { EditsMarks (whole_edit self.old.editor self.new.editor) self.old (reply_of result) self.new }
+        ensures views { MovesViews (whole_edit self.old.editor self.new.editor) (map (λ b. state b) views.old.items) (reply_of result)
             (map (λ b. state b) views.new.items) }
         ensures views_text { ViewsAreText (map (λ b. state b) views.old.items) → ViewsAreText (map (λ b. state b) views.new.items) }
         ensures text { ReplyIsText (reply_of result) }
@@ -96,8 +103,9 @@ impl Session {
         pieces: u64,
         views: &mut Vec<Box<dyn View>>,
     ) -> Result<Reply, Refusal>
-        ensures step { MakeStep seed pieces self.old (reply_of result) self.new }
-        ensures views { MovesViews (whole_edit self.old self.new) (map (λ b. state b) views.old.items) (reply_of result)
+        ensures step { MakeStep seed pieces self.old.editor (reply_of result) self.new.editor }
+        ensures marks { EditsMarks (whole_edit self.old.editor self.new.editor) self.old (reply_of result) self.new }
+        ensures views { MovesViews (whole_edit self.old.editor self.new.editor) (map (λ b. state b) views.old.items) (reply_of result)
             (map (λ b. state b) views.new.items) }
         ensures views_text { ViewsAreText (map (λ b. state b) views.old.items) → ViewsAreText (map (λ b. state b) views.new.items) }
         ensures text { ReplyIsText (reply_of result) }
@@ -109,8 +117,9 @@ impl Session {
 
     /// Replaces the whole text.
     fn show(&mut self, text: Text, views: &mut Vec<Box<dyn View>>)
-        ensures editor { self.new ≡ opened self.old self.old.document text }
-        ensures views { (map (λ b. state b) views.new.items) ≡ map (moved_view (whole_edit self.old self.new))
+        ensures editor { self.new.editor ≡ opened self.old.editor self.old.editor.document text }
+        ensures marks { self.new.marks ≡ edit_kept 0 (length self.old.editor.text) (length text) self.old.marks }
+        ensures views { (map (λ b. state b) views.new.items) ≡ map (moved_view (whole_edit self.old.editor self.new.editor))
             (map (λ b. state b) views.old.items) }
     {
         let edit = Edit {
@@ -118,6 +127,7 @@ impl Session {
             to: self.text.len(),
             added: text.len(),
         };
+        edits_look_at_no_state::<Recover<Pool>>();
         self.marks.edit(&edit);
         self.text = text;
         self.caret = 0;
@@ -127,8 +137,8 @@ impl Session {
     /// Stores the text under the URI.
     pub(super) fn save<F: Files>(&self, uri_text: &Bytes, files: &mut F) -> Result<Reply, Refusal>
         requires { IsUtf8 uri_text.now }
-        ensures step { SaveStep uri_text.now self.now (files_state (F.told files.old) (F.faults files.old)) (reply_of result)
-            self.now (files_state (F.told files.new) (F.faults files.new)) }
+        ensures step { SaveStep uri_text.now self.now.editor (files_state (F.told files.old) (F.faults files.old)) (reply_of result)
+            self.now.editor (files_state (F.told files.new) (F.faults files.new)) }
         ensures text { ReplyIsText (reply_of result) }
     {
         let uri = uri::join(self.alloc, WORK_FOLDER, text_of(uri_text))?;

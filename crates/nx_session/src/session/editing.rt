@@ -4,6 +4,7 @@ ghost use Rattle.std.specs.Prelude.{◌≡◌, [], map, IsUtf8, IfOk};
 ghost use Rattle.nx_script.specs.Replies.{reply_of, ReplyIsText};
 ghost use Rattle.nx_session.specs.Editor.{caret_after, edit_of};
 ghost use Rattle.nx_session.specs.Editing.{InsertStep, DeleteStep, PrintStep};
+ghost use Rattle.nx_session.specs.Marks.{EditsMarks};
 ghost use Rattle.nx_session.specs.Viewing.{MovesViews, ViewsAreText};
 
 use super::Session;
@@ -12,7 +13,7 @@ use nx_base::edit::{Edit, edited_keeps_rest, moved};
 use nx_base::memory::NoMemory;
 use nx_base::sequence::Bytes;
 use nx_host::utf8::text_of;
-use nx_marks::law::frontier_is_border;
+use nx_marks::law::{edits_look_at_no_state, frontier_is_border};
 use nx_recover::recover::Recover;
 use nx_script::reply::{Refusal, Reply};
 use nx_text::text::TextFault;
@@ -39,7 +40,8 @@ impl Session {
         views: &mut Vec<Box<dyn View>>,
     ) -> Result<Reply, Refusal>
         requires { IsUtf8 added.now }
-        ensures step { InsertStep at added.now self.old (reply_of result) self.new }
+        ensures step { InsertStep at added.now self.old.editor (reply_of result) self.new.editor }
+        ensures marks { EditsMarks (edit_of at at added.now) self.old (reply_of result) self.new }
         ensures views { MovesViews (edit_of at at added.now) (map (λ b. state b) views.old.items) (reply_of result)
             (map (λ b. state b) views.new.items) }
         ensures views_text { ViewsAreText (map (λ b. state b) views.old.items) → ViewsAreText (map (λ b. state b) views.new.items) }
@@ -57,6 +59,7 @@ impl Session {
                 let _new_len = self.text.len();
                 edited_keeps_rest();
                 frontier_is_border::<Recover<Pool>>();
+                edits_look_at_no_state::<Recover<Pool>>();
                 self.marks.edit(&edit);
                 self.caret = moved_caret(self.caret, &edit);
                 shift_all(views, &edit);
@@ -74,7 +77,8 @@ impl Session {
         to: u64,
         views: &mut Vec<Box<dyn View>>,
     ) -> Result<Reply, Refusal>
-        ensures step { DeleteStep from to self.old (reply_of result) self.new }
+        ensures step { DeleteStep from to self.old.editor (reply_of result) self.new.editor }
+        ensures marks { EditsMarks (edit_of from to []) self.old (reply_of result) self.new }
         ensures views { MovesViews (edit_of from to []) (map (λ b. state b) views.old.items) (reply_of result)
             (map (λ b. state b) views.new.items) }
         ensures views_text { ViewsAreText (map (λ b. state b) views.old.items) → ViewsAreText (map (λ b. state b) views.new.items) }
@@ -88,6 +92,7 @@ impl Session {
                 let _new_len = self.text.len();
                 edited_keeps_rest();
                 frontier_is_border::<Recover<Pool>>();
+                edits_look_at_no_state::<Recover<Pool>>();
                 self.marks.edit(&edit);
                 self.caret = moved_caret(self.caret, &edit);
                 shift_all(views, &edit);
@@ -103,7 +108,7 @@ impl Session {
 
     /// A copy of the whole text.
     pub(super) fn whole_text(&self) -> Result<Bytes, NoMemory>
-        ensures bytes { IfOk result (λ text. text ≡ self.now.text) }
+        ensures bytes { IfOk result (λ text. text ≡ self.now.editor.text) }
         ensures text { IfOk result IsUtf8 }
     {
         self.text.copy_range(0, self.text.len())
@@ -111,7 +116,7 @@ impl Session {
 
     /// The text.
     pub(super) fn print(&self) -> Result<Reply, Refusal>
-        ensures step { PrintStep self.now (reply_of result) self.now }
+        ensures step { PrintStep self.now.editor (reply_of result) self.now.editor }
         ensures text { ReplyIsText (reply_of result) }
     {
         Ok(Reply::Printed(self.whole_text()?))

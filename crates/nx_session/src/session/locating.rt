@@ -3,6 +3,7 @@
 ghost use Rattle.std.specs.Prelude.{◌≡◌, IsUtf8, IfOk, IfErr, IfSome};
 ghost use Rattle.nx_script.specs.Replies.{reply_of, LocatedIsText, RefusalIsText, ReplyIsText};
 ghost use Rattle.nx_session.specs.Editor.{files_state};
+ghost use Rattle.nx_session.specs.Marks.{BeginsMarks};
 ghost use Rattle.nx_session.specs.Locating.{RulesAre, LacksRules, LocatingAnswers, SchemaAutoStep};
 
 use super::Session;
@@ -23,8 +24,9 @@ impl Session {
         files: &mut F,
         steps: &mut Steps<L>,
     ) -> Result<Reply, Refusal>
-        ensures step { SchemaAutoStep self.old (files_state (F.told files.old) (F.faults files.old)) (reply_of result)
-            self.new (files_state (F.told files.new) (F.faults files.new)) }
+        ensures step { SchemaAutoStep self.old.editor (files_state (F.told files.old) (F.faults files.old)) (reply_of result)
+            self.new.editor (files_state (F.told files.new) (F.faults files.new)) }
+        ensures marks { BeginsMarks self.old (reply_of result) self.new }
         ensures text { ReplyIsText (reply_of result) }
     {
         match self.located(files, steps)? {
@@ -45,7 +47,7 @@ impl Session {
         files: &mut F,
         steps: &mut Steps<L>,
     ) -> Result<Option<Bytes>, Refusal>
-        ensures located { LocatingAnswers self.now (files_state (F.told files.old) (F.faults files.old)) (F.faults files.new) result }
+        ensures located { LocatingAnswers self.now.editor (files_state (F.told files.old) (F.faults files.old)) (F.faults files.new) result }
         ensures map { F.told files.new ≡ F.told files.old }
         ensures found { IfOk result LocatedIsText }
         ensures text { IfErr result RefusalIsText }
@@ -62,9 +64,9 @@ impl Session {
 
     /// The URI of the rules that were given, if any were.
     fn rules_uri(&self) -> Result<Option<Bytes>, Refusal>
-        ensures given { IfOk result (RulesAre self.now.rules) }
+        ensures given { IfOk result (RulesAre self.now.editor.rules) }
         ensures utf8 { IfOk result (λ found. IfSome found IsUtf8) }
-        ensures lacks { IfErr result (LacksRules self.now.rules) }
+        ensures lacks { IfErr result (LacksRules self.now.editor.rules) }
     {
         let Some(given) = &self.rules else {
             return Ok(None);

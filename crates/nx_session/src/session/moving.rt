@@ -1,5 +1,6 @@
 //! Commands on the caret alone.
 
+ghost use Rattle.std.specs.Prelude.{◌≡◌};
 ghost use Rattle.nx_script.specs.Replies.{reply_of, ReplyIsText};
 ghost use Rattle.nx_session.specs.Moving.{GotoStep, NextStep, PreviousStep, PositionStep, MoveStep};
 
@@ -13,7 +14,8 @@ use std::sync::ledger::Ledger;
 impl Session {
     /// Puts the caret at the byte offset.
     pub(super) fn go_to(&mut self, at: u64) -> Result<Reply, Refusal>
-        ensures step { GotoStep at self.old (reply_of result) self.new }
+        ensures step { GotoStep at self.old.editor (reply_of result) self.new.editor }
+        ensures marks { self.new.marks ≡ self.old.marks }
         ensures text { ReplyIsText (reply_of result) }
     {
         let place = at as usize;
@@ -27,7 +29,8 @@ impl Session {
 
     /// Takes the caret over the grapheme cluster behind it.
     pub(super) fn next(&mut self) -> Result<Reply, Refusal>
-        ensures step { NextStep self.old (reply_of result) self.new }
+        ensures step { NextStep self.old.editor (reply_of result) self.new.editor }
+        ensures marks { self.new.marks ≡ self.old.marks }
         ensures text { ReplyIsText (reply_of result) }
     {
         match self.text.next_grapheme(self.caret) {
@@ -41,7 +44,8 @@ impl Session {
 
     /// Takes the caret over the grapheme cluster before it.
     pub(super) fn previous(&mut self) -> Result<Reply, Refusal>
-        ensures step { PreviousStep self.old (reply_of result) self.new }
+        ensures step { PreviousStep self.old.editor (reply_of result) self.new.editor }
+        ensures marks { self.new.marks ≡ self.old.marks }
         ensures text { ReplyIsText (reply_of result) }
     {
         match self.text.prev_grapheme(self.caret) {
@@ -55,7 +59,8 @@ impl Session {
 
     /// The caret's line and column.
     pub(super) fn position(&mut self) -> Result<Reply, Refusal>
-        ensures step { PositionStep self.old (reply_of result) self.new }
+        ensures step { PositionStep self.old.editor (reply_of result) self.new.editor }
+        ensures marks { self.new.marks ≡ self.old.marks }
         ensures text { ReplyIsText (reply_of result) }
     {
         let line = self.text.line_of(self.caret);
@@ -69,7 +74,8 @@ impl Session {
         way: Way,
         steps: &mut Steps<L>,
     ) -> Result<Reply, Refusal>
-        ensures step { MoveStep way self.old (reply_of result) self.new }
+        ensures step { MoveStep way self.old.editor (reply_of result) self.new.editor }
+        ensures marks { self.new.marks ≡ self.old.marks }
         ensures text { ReplyIsText (reply_of result) }
     {
         let _len = self.text.len();

@@ -1,15 +1,19 @@
 //! The text, read by the machine, and what is kept of that. The machine holds the schema, and reading leaves it.
 
-ghost use Rattle.std.specs.Prelude.{◌≡◌, ◌⊎◌, ℕ, ◌+◌, ◌≤◌, List, length, option_map, IsUtf8, IfOk, IfSome, OnOk};
+ghost use Rattle.std.specs.Prelude.{◌≡◌, ◌⊎◌, ℕ, ◌+◌, ◌≤◌, List, [], length, option_map, IsUtf8, IfOk, IfSome, OnOk};
 ghost use Rattle.std.specs.List.{AllByRecursion};
 ghost use Rattle.nx_base.specs.Text.{IsPlace};
 ghost use Rattle.nx_base.specs.declared.fault.Fault.{Fault};
+ghost use Rattle.nx_marks.specs.Bound.{WillJoin};
 ghost use Rattle.nx_marks.specs.Chain.{frontier_of};
 ghost use Rattle.nx_marks.specs.Frontier.{IsBorder, MovesOver};
+ghost use Rattle.nx_marks.specs.Keeping.{KeepsMarks};
+ghost use Rattle.nx_marks.specs.Meant.{itself};
+ghost use Rattle.nx_marks.specs.Starting.{started};
 ghost use Rattle.nx_recover.specs.Faults.{AreFaultsOf};
 ghost use Rattle.nx_script.specs.Replies.{OffersAreText};
 ghost use Rattle.nx_session.specs.Asking.{AreOffersAt};
-ghost use Rattle.nx_session.specs.Reading.{grammar_of, followed, IsWellKept};
+ghost use Rattle.nx_session.specs.Reading.{grammar_of, followed, meant, rules_for, IsWellKept};
 ghost use Rattle.rng_core.specs.Meaning.{language_of};
 ghost use Rattle.rng_core.specs.Soundness.{IsSound};
 ghost use Rattle.rng_kept.specs.Live.{IsLive};
@@ -21,7 +25,10 @@ use nx_base::offer::Offers;
 use nx_base::steps::Steps;
 use nx_complete::law::offers_are_exact;
 use nx_complete::place::offers;
-use nx_marks::law::{frontier_is_border, later_machines_keep_it_right};
+use nx_marks::law::{
+    frontier_is_border, later_machines_keep_it_right, later_machines_mean_the_same,
+    meanings_join_as_states, reading_on_keeps_meanings,
+};
 use nx_marks::marks::Marks;
 use nx_recover::recover::Recover;
 use nx_text::text::Text;
@@ -39,6 +46,7 @@ pub(super) fn begun(
     ensures grammar { grammar_of machine.new.matcher ≡ grammar_of machine.old.matcher }
     ensures frontier { IfOk result (λ marks. frontier_of marks.kept ≡ 0) }
     ensures taken { IfOk result (λ marks. marks.taken ≡ 0) }
+    ensures marks { IfOk result (λ marks. meant machine.new.matcher marks.kept ≡ started (rules_for (grammar_of machine.old.matcher)).first) }
 {
     let marks = Marks::new(alloc, machine)?;
     Ok(marks)
@@ -59,8 +67,15 @@ pub(super) fn caught_up<L: Ledger>(
     ensures on { OnOk result (MovesOver text.now (frontier_of marks.old.kept) marks.new.taken (frontier_of marks.new.kept)) }
     ensures all { OnOk result (frontier_of marks.new.kept ≡ length text.now) }
     ensures border { IsBorder text.now (frontier_of marks.new.kept) }
+    ensures marks { KeepsMarks itself (rules_for (grammar_of machine.old.matcher)) text.now (meant machine.old.matcher marks.old.kept)
+        (meant machine.new.matcher marks.new.kept) }
+    ensures aside { OnOk result (frontier_of marks.new.kept ≡ length text.now → marks.new.kept.aside ≡ []) }
+    ensures few { OnOk result ((count : ℕ) → WillJoin itself (rules_for (grammar_of machine.old.matcher)) text.now count
+        (meant machine.old.matcher marks.old.kept) → marks.new.taken ≤ count) }
 {
     frontier_is_border::<Recover<Pool>>();
+    reading_on_keeps_meanings::<Recover<Pool>>();
+    meanings_join_as_states::<Recover<Pool>>();
     let _len = text.len();
     marks.catch_up(machine, text, steps)
 }
@@ -82,8 +97,15 @@ pub(super) fn sliced<L: Ledger>(
     ensures on { OnOk result (MovesOver text.now (frontier_of marks.old.kept) marks.new.taken (frontier_of marks.new.kept)) }
     ensures enough { OnOk result ((marks.new.taken ≡ count) ⊎ (frontier_of marks.new.kept ≡ length text.now)) }
     ensures border { IsBorder text.now (frontier_of marks.new.kept) }
+    ensures marks { KeepsMarks itself (rules_for (grammar_of machine.old.matcher)) text.now (meant machine.old.matcher marks.old.kept)
+        (meant machine.new.matcher marks.new.kept) }
+    ensures aside { OnOk result (frontier_of marks.new.kept ≡ length text.now → marks.new.kept.aside ≡ []) }
+    ensures few { OnOk result ((count : ℕ) → WillJoin itself (rules_for (grammar_of machine.old.matcher)) text.now count
+        (meant machine.old.matcher marks.old.kept) → marks.new.taken ≤ count) }
 {
     frontier_is_border::<Recover<Pool>>();
+    reading_on_keeps_meanings::<Recover<Pool>>();
+    meanings_join_as_states::<Recover<Pool>>();
     let _len = text.len();
     marks.slice(machine, text, count, steps)
 }
@@ -97,11 +119,13 @@ pub(super) fn found(
     requires well { IsWellKept text.now machine.old.matcher marks.now.kept }
     requires all { frontier_of marks.now.kept ≡ length text.now }
     ensures well { IsWellKept text.now machine.new.matcher marks.now.kept }
+    ensures marks { meant machine.new.matcher marks.now.kept ≡ meant machine.old.matcher marks.now.kept }
     ensures grammar { grammar_of machine.new.matcher ≡ grammar_of machine.old.matcher }
     ensures faults { IfOk result (AreFaultsOf (option_map language_of (grammar_of machine.old.matcher)) text.now) }
     ensures text { IfOk result (AllByRecursion (λ (fault : Fault). IsUtf8 fault.detail)) }
 {
     later_machines_keep_it_right::<Recover<Pool>>();
+    later_machines_mean_the_same::<Recover<Pool>>();
     let len = text.len();
     let faults = marks.faults(machine, len)?;
     Ok(faults)
@@ -119,11 +143,13 @@ pub(super) fn offered<L: Ledger>(
     requires well { IsWellKept text.now machine.old.matcher marks.now.kept }
     requires place { IsPlace text.now at }
     ensures well { IsWellKept text.now machine.new.matcher marks.now.kept }
+    ensures marks { meant machine.new.matcher marks.now.kept ≡ meant machine.old.matcher marks.now.kept }
     ensures grammar { grammar_of machine.new.matcher ≡ grammar_of machine.old.matcher }
     ensures offers { IfOk result (AreOffersAt (option_map language_of (grammar_of machine.old.matcher)) text.now at) }
     ensures text { IfOk result OffersAreText }
 {
     later_machines_keep_it_right::<Recover<Pool>>();
+    later_machines_mean_the_same::<Recover<Pool>>();
     offers_are_exact();
     let _len = text.len();
     let (from, state) = marks.mark_before(machine, at.saturating_sub(1))?;

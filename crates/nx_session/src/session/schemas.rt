@@ -4,7 +4,9 @@ ghost use Rattle.std.specs.Prelude.{◌≡◌, ℕ, List, Option, None, Ok, Err,
 ghost use Rattle.nx_host.specs.Files.{FileMap};
 ghost use Rattle.nx_script.specs.Replies.{reply_of, RefusalIsText, ReplyIsText};
 ghost use Rattle.nx_session.specs.Editor.{files_state, with_schema};
-ghost use Rattle.nx_session.specs.Reading.{grammar_of, followed};
+ghost use Rattle.nx_marks.specs.Starting.{started};
+ghost use Rattle.nx_session.specs.Marks.{BeginsMarks};
+ghost use Rattle.nx_session.specs.Reading.{grammar_of, followed, rules_for};
 ghost use Rattle.nx_session.specs.Schemas.{UsesGrammar, IsRefusedFor, SchemaAnswers, HoldsFile, SchemaFileStep, HoldStep};
 ghost use Rattle.rng_core.specs.Soundness.{IsSound};
 ghost use Rattle.rng_core.specs.declared.grammar.Grammar.{Grammar};
@@ -109,8 +111,9 @@ impl Session {
         files: &mut F,
     ) -> Result<Reply, Refusal>
         requires { IsUtf8 uri_text.now }
-        ensures step { SchemaFileStep uri_text.now self.old (files_state (F.told files.old) (F.faults files.old)) (reply_of result)
-            self.new (files_state (F.told files.new) (F.faults files.new)) }
+        ensures step { SchemaFileStep uri_text.now self.old.editor (files_state (F.told files.old) (F.faults files.old)) (reply_of result)
+            self.new.editor (files_state (F.told files.new) (F.faults files.new)) }
+        ensures marks { BeginsMarks self.old (reply_of result) self.new }
         ensures text { ReplyIsText (reply_of result) }
     {
         let uri = uri::join(self.alloc, WORK_FOLDER, text_of(uri_text))?;
@@ -120,7 +123,8 @@ impl Session {
 
     /// Holds the document against no schema from now on.
     pub(super) fn hold_none(&mut self) -> Result<Reply, Refusal>
-        ensures step { HoldStep None self.old (reply_of result) self.new }
+        ensures step { HoldStep None self.old.editor (reply_of result) self.new.editor }
+        ensures marks { BeginsMarks self.old (reply_of result) self.new }
         ensures text { ReplyIsText (reply_of result) }
     {
         self.hold_schema(None)?;
@@ -129,8 +133,9 @@ impl Session {
 
     /// Holds the document against the schema of the file under the URI from now on.
     pub(super) fn hold_file<F: Files>(&mut self, uri: &str, files: &mut F) -> Result<(), Refusal>
-        ensures held { OnOk result (HoldsFile uri.now self.old (files_state (F.told files.old) (F.faults files.old))
-            self.new (files_state (F.told files.new) (F.faults files.new))) }
+        ensures held { OnOk result (HoldsFile uri.now self.old.editor (files_state (F.told files.old) (F.faults files.old))
+            self.new.editor (files_state (F.told files.new) (F.faults files.new))) }
+        ensures marks { OnOk result (self.new.marks ≡ started (rules_for self.new.editor.schema).first) }
         ensures refused { IfErr result (IsRefusedFor (F.told files.old) uri.now (F.faults files.old) (F.faults files.new)) }
         ensures stays { OnErr result (self.new ≡ self.old) }
         ensures map { F.told files.new ≡ F.told files.old }
@@ -146,7 +151,8 @@ impl Session {
     pub(super) fn hold_schema(&mut self, matcher: Option<Pool>) -> Result<(), NoMemory>
         requires live { IfSome (followed matcher) IsLive }
         requires sound { IfSome (grammar_of matcher) IsSound }
-        ensures held { OnOk result (self.new ≡ with_schema self.old (grammar_of matcher)) }
+        ensures held { OnOk result (self.new.editor ≡ with_schema self.old.editor (grammar_of matcher)) }
+        ensures marks { OnOk result (self.new.marks ≡ started (rules_for self.new.editor.schema).first) }
         ensures stays { OnErr result (self.new ≡ self.old) }
     {
         let _len = self.text.len();

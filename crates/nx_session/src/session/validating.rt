@@ -2,6 +2,7 @@
 
 ghost use Rattle.std.specs.Prelude.{map};
 ghost use Rattle.nx_script.specs.Replies.{reply_of, ReplyIsText};
+ghost use Rattle.nx_session.specs.Marks.{ReadsMarks};
 ghost use Rattle.nx_session.specs.Validating.{ErrorsStep, SliceStep};
 ghost use Rattle.nx_session.specs.Viewing.{ShowsViews, ViewsAreText};
 
@@ -20,8 +21,9 @@ impl Session {
         views: &mut Vec<Box<dyn View>>,
         steps: &mut Steps<L>,
     ) -> Result<Reply, Refusal>
-        ensures step { ErrorsStep self.old steps.old (reply_of result) self.new steps.new }
-        ensures views { ShowsViews self.old (map (λ b. state b) views.old.items) (reply_of result) (map (λ b. state b) views.new.items) }
+        ensures step { ErrorsStep self.old.editor steps.old (reply_of result) self.new.editor steps.new }
+        ensures marks { ReadsMarks self.old (reply_of result) self.new }
+        ensures views { ShowsViews self.old.editor (map (λ b. state b) views.old.items) (reply_of result) (map (λ b. state b) views.new.items) }
         ensures text { ReplyIsText (reply_of result) }
         ensures views_text { ViewsAreText (map (λ b. state b) views.old.items) → ViewsAreText (map (λ b. state b) views.new.items) }
     {
@@ -37,7 +39,8 @@ impl Session {
         count: u64,
         steps: &mut Steps<L>,
     ) -> Result<Reply, Refusal>
-        ensures step { SliceStep count self.old steps.old (reply_of result) self.new steps.new }
+        ensures step { SliceStep count self.old.editor steps.old (reply_of result) self.new.editor steps.new }
+        ensures marks { ReadsMarks self.old (reply_of result) self.new }
         ensures text { ReplyIsText (reply_of result) }
     {
         sliced(&mut self.machine, &mut self.marks, &self.text, count, steps)?;

@@ -6,7 +6,7 @@ use Rattle.nx_run.proofs.Playing.{play-begun, play-more, play-done, play-stopped
 use Rattle.nx_run.proofs.play.play.Goals as goal
 
 pub loop-number-init : goal.loop-number-init
-loop-number-init g c = play-begun (call_line c.args.call.now) _ _ _ _ _ _ _ c.in-Ok.ensures c.in-Ok-new.ensures c.new-turns.ensures.turns c.new-turns.ensures.number
+loop-number-init g c = play-begun (call_line c.args.call.now) _ _ _ _ _ _ _ c.in-Ok.ensures c.in-Ok-new.ensures.editor c.new-turns.ensures.turns c.new-turns.ensures.number
 
 pub returns-in-Err : goal.returns-in-Err
 returns-in-Err g c =

@@ -14,7 +14,7 @@ invariant-loop-number g l =
     IsPlaying (call_line l.call) l.script (surroundings (files_state (f.told l.fn.files) (f.faults l.fn.files)) (map (λ b. (goal.View-dyn g (b.vtable, b.value)).state b.value) l.fn.views.items) l.fn.steps)
     (surroundings (files_state (f.told l.files) (f.faults l.files)) (map (λ b. (goal.View-dyn g (b.vtable, b.value)).state b.value) l.views.items) l.steps)
     (out_state (o.told l.fn.out) (o.faults l.fn.out)) (out_state (o.told l.out) (o.faults l.out))
-    l.session (turns_left l.turns) (next_number l.turns) l.tally.memory l.tally.refusal
+    l.session.editor (turns_left l.turns) (next_number l.turns) l.tally.memory l.tally.refusal
 
 abbrev pub decreases-loop-number : goal.decreases-loop-number
 decreases-loop-number g l = length (turns_left l.turns)

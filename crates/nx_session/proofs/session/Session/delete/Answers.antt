@@ -1,7 +1,7 @@
-use Rattle.std.proofs.Common.{◌≡◌, List, ℕ, [], length, ap, refl, sym, subst, arith}
+use Rattle.std.proofs.Common.{◌≡◌, List, ℕ, [], length, ap, refl, sym, subst, ◌∙◌, arith}
 use Rattle.std.proofs.lemmas.Str.{IsUtf8-nil}
 use Rattle.nx_marks.specs.Chain.{frontier_of}
-use Rattle.nx_session.specs.Reading.{IsReadRight}
+use Rattle.nx_session.specs.Reading.{IsReadRight, meant}
 use Rattle.nx_session.proofs.Carets.{caret_stands}
 use Rattle.nx_session.proofs.Edited.{shown_is_edited}
 use Rattle.nx_session.proofs.Sessions.{seen}
@@ -38,3 +38,10 @@ returns-in-Ok-clause-step g c =
 
 pub returns-in-Ok-clause-views_text : goal.returns-in-Ok-clause-views_text
 returns-in-Ok-clause-views_text g c = moved_views _ _ _ c.shift_all.ensures
+
+pub returns-in-Ok-clause-marks : goal.returns-in-Ok-clause-marks
+returns-in-Ok-clause-marks g c =
+    let done = c.in-Ok.ensures in
+    let kept = c.self.inside.marks.kept in
+    let told = c.edit.ensures.told c.self.inside.machine c.self.inside.text [] c.len-len.ensures.utf8 IsUtf8-nil done.0.start done.0.end done.0.ordered refl (omega (arith, c.len-len.ensures.bytes)) (omega (arith, ap (λ (t : List ℕ). length t) done.1, c.len-new_len.ensures.bytes)) c.self.invariant.well.read in
+    rw (← c.self.view_is) (ap (meant c.self.inside.machine.matcher) told ∙ c.edits_look_at_no_state.ensures c.self.inside.machine c.args.from c.args.to 0 kept)

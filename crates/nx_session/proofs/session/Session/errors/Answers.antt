@@ -1,7 +1,12 @@
-use Rattle.std.proofs.Common.{◌≡◌, ◌∙◌, Option, option_map, subst}
-use Rattle.nx_marks.specs.Chain.{frontier_of}
+use Rattle.std.proofs.Common.{◌≡◌, ◌∙◌, Option, option_map, subst, sym, ap}
+use Rattle.nx_marks.specs.Chain.{frontier_of, Kept}
+use Rattle.nx_marks.specs.Keeping.{KeepsMarks}
+use Rattle.nx_marks.specs.Meant.{itself, marks_by}
 use Rattle.nx_recover.specs.Faults.{AreFaultsOf}
-use Rattle.nx_session.specs.Reading.{grammar_of}
+use Rattle.deriv_pool.specs.Later.{meaning_of}
+use Rattle.nx_recover.specs.Machine.{means_by}
+use Rattle.nx_recover.specs.RecoverRules.{Recovered}
+use Rattle.nx_session.specs.Reading.{grammar_of, meant, rules_for}
 use Rattle.nx_session.proofs.Holding.{reads_on}
 use Rattle.nx_session.proofs.Views.{refreshed_text, starved_text}
 use Rattle.nx_session.proofs.session.Session.errors.Goals as goal
@@ -25,3 +30,9 @@ returns-clause-views_text g c = λ h. refreshed_text c.in_ok-faults.faults _ _ c
 
 pub returns-in_err-refresh-clause-views_text : goal.returns-in_err-refresh-clause-views_text
 returns-in_err-refresh-clause-views_text g c = λ h. starved_text c.in_ok-faults.faults _ _ c.in_err-refresh.ensures.err c.in_ok-faults.ensures.text h
+
+pub returns-clause-marks : goal.returns-clause-marks
+returns-clause-marks g c =
+    let matcher = c.self.inside.machine.matcher in
+    let K : Kept Recovered → Type 0 = λ k. KeepsMarks itself (rules_for (grammar_of matcher)) c.self.inside.text (meant matcher c.self.inside.marks.kept) k in
+    rw (← c.self.view_is) (subst K (sym c.found.ensures.marks) c.caught_up.ensures.marks, c.in_ok-caught_up.ensures.few, λ all. ap (marks_by (means_by meaning_of c.found.new.machine.matcher)) (c.in_ok-caught_up.ensures.aside all))

@@ -1,6 +1,9 @@
-use Rattle.std.proofs.Common.{◌∙◌, ap}
-use Rattle.nx_marks.specs.Chain.{frontier_of}
-use Rattle.nx_session.specs.Reading.{grammar_of}
+use Rattle.std.proofs.Common.{◌∙◌, ap, sym, Option}
+use Rattle.nx_marks.specs.Chain.{frontier_of, Kept}
+use Rattle.nx_marks.specs.Starting.{started}
+use Rattle.nx_recover.specs.RecoverRules.{Recovered}
+use Rattle.rng_core.specs.declared.grammar.Grammar.{Grammar}
+use Rattle.nx_session.specs.Reading.{grammar_of, rules_for}
 use Rattle.nx_session.proofs.Holding.{begun_anew}
 use Rattle.nx_session.proofs.Sessions.{seen}
 use Rattle.nx_session.proofs.session.Session.hold_schema.Goals as goal
@@ -12,3 +15,8 @@ pub returns-clause-held : goal.returns-clause-held
 returns-clause-held c =
     rw (← c.self.view_is) (begun_anew (seen c.self.inside.text c.self.inside.caret c.self.inside.document c.self.inside.machine.matcher c.self.inside.rules (frontier_of c.self.inside.marks.kept) c.self.inside.marks.taken) (grammar_of c.begun.new.machine.matcher) (grammar_of c.args.matcher) (frontier_of c.in_ok-marks.marks.kept) c.in_ok-marks.marks.taken
     (c.begun.ensures.grammar ∙ ap grammar_of c.new-machine.ensures) c.in_ok-marks.ensures.frontier c.in_ok-marks.ensures.taken)
+
+pub returns-clause-marks : goal.returns-clause-marks
+returns-clause-marks c =
+    let first : Option Grammar → Kept Recovered = λ schema. started (rules_for schema).first in
+    c.in_ok-marks.ensures.marks ∙ ap first (sym c.begun.ensures.grammar)

@@ -1,7 +1,8 @@
-use Rattle.std.proofs.Common.{◌≡◌, ◌≤◌, List, ℕ, length, ap, sym, subst, arith}
+use Rattle.std.proofs.Common.{◌≡◌, ◌≤◌, List, ℕ, length, ap, sym, subst, ◌∙◌, arith}
 use Rattle.nx_base.specs.Text.{edited}
 use Rattle.nx_marks.specs.Chain.{frontier_of}
-use Rattle.nx_session.specs.Reading.{IsReadRight}
+use Rattle.nx_marks.specs.Editing.{edit_kept}
+use Rattle.nx_session.specs.Reading.{IsReadRight, meant}
 use Rattle.nx_session.proofs.Carets.{caret_stands}
 use Rattle.nx_session.proofs.Edited.{shown_is_edited}
 use Rattle.nx_session.proofs.Sessions.{seen}
@@ -40,3 +41,13 @@ returns-in-Ok-clause-step g c =
 
 pub returns-in-Ok-clause-views_text : goal.returns-in-Ok-clause-views_text
 returns-in-Ok-clause-views_text g c = moved_views _ _ _ c.shift_all.ensures
+
+pub returns-in-Ok-clause-marks : goal.returns-in-Ok-clause-marks
+returns-in-Ok-clause-marks g c =
+    let done = c.in-Ok.ensures in
+    let matcher = c.self.inside.machine.matcher in
+    let kept = c.self.inside.marks.kept in
+    let is : c.insert.new.self ≡ edited c.self.inside.text c.args.at c.args.at c.args.added.now = rw (← c.text_of.ensures) done.1 in
+    let told = c.edit.ensures.told c.self.inside.machine c.self.inside.text c.args.added.now c.len-len.ensures.utf8 c.requires done.0 done.0 (omega arith) c.len.ensures (omega (arith, c.len-len.ensures.bytes)) (omega (arith, ap (λ (t : List ℕ). length t) is, c.len-new_len.ensures.bytes)) c.self.invariant.well.read in
+    rw (← c.self.view_is) (ap (meant matcher) told ∙ c.edits_look_at_no_state.ensures c.self.inside.machine c.args.at c.args.at c.len.result kept
+    ∙ ap (λ n. edit_kept c.args.at c.args.at n (meant matcher kept)) c.len.ensures)

@@ -1,4 +1,4 @@
-use Rattle.nx_session.proofs.Reading.{later_grammar, later_live, later_sound}
+use Rattle.nx_session.proofs.Reading.{begun_marks, later_grammar, later_live, later_sound}
 use Rattle.nx_session.proofs.session.reading.begun.Goals as goal
 
 pub returns-clause-well : goal.returns-clause-well
@@ -13,3 +13,6 @@ returns-clause-grammar c = later_grammar c.args.machine.now.matcher c.new.new.ma
 
 pub returns-in_err-marks-clause-grammar : goal.returns-in_err-marks-clause-grammar
 returns-in_err-marks-clause-grammar c = later_grammar c.args.machine.now.matcher c.new.new.machine.matcher c.new.ensures.later
+
+pub returns-clause-marks : goal.returns-clause-marks
+returns-clause-marks c = begun_marks c.args.machine.now.matcher c.new.new.machine.matcher _ c.new.ensures.later c.in_ok-marks.ensures.meant

@@ -1,4 +1,5 @@
-use Rattle.nx_session.proofs.Reading.{later_grammar, later_live, later_sound}
+use Rattle.nx_session.specs.Reading.{meant}
+use Rattle.nx_session.proofs.Reading.{later_grammar, later_live, later_sound, on_ok, reads_marks, will_join}
 use Rattle.nx_session.proofs.session.reading.caught_up.Goals as goal
 
 pub returns-clause-well : goal.returns-clause-well
@@ -13,3 +14,21 @@ returns-clause-grammar g c = later_grammar c.args.machine.now.matcher c.catch_up
 
 pub returns-clause-border : goal.returns-clause-border
 returns-clause-border g c = c.frontier_is_border.ensures c.catch_up.new.machine c.args.text.now c.catch_up.new.self.kept c.len-len.ensures.utf8 c.catch_up.ensures.right
+
+pub returns-clause-marks : goal.returns-clause-marks
+returns-clause-marks g c =
+    let a = c.args.machine.now in
+    let b = c.catch_up.new.machine in
+    let k = c.args.marks.now.kept in
+    let j = c.catch_up.new.self.kept in
+    reads_marks a.matcher c.args.text.now (meant a.matcher k) (meant b.matcher j)
+    (c.reading_on_keeps_meanings.ensures a b c.args.text.now k j c.catch_up.ensures.later c.requires.read c.catch_up.ensures.keeps)
+
+pub returns-clause-few : goal.returns-clause-few
+returns-clause-few g c =
+    let a = c.args.machine.now in
+    let k = c.args.marks.now.kept in
+    on_ok c.catch_up.result (λ most count will. most count (c.meanings_join_as_states.ensures a c.args.text.now count k (will_join a.matcher c.args.text.now count (meant a.matcher k) will))) c.catch_up.ensures.few
+
+pub returns-clause-aside : goal.returns-clause-aside
+returns-clause-aside g c = on_ok c.catch_up.result (λ none all. none) c.catch_up.ensures.none_aside

@@ -29,3 +29,9 @@ returns-clause-faults c = are_faults c.args.text.now c.args.machine.now.matcher 
 pub returns-clause-text : goal.returns-clause-text
 returns-clause-text c = details_text c.args.text.now c.args.machine.now.matcher c.in_ok-faults.faults c.len-len.ensures.utf8 c.requires.well.live
     (c.in_ok-faults.ensures.faults c.args.text.now c.len-len.ensures.utf8 (sym c.len-len.ensures.bytes) c.requires.well.read)
+
+pub returns-clause-marks : goal.returns-clause-marks
+returns-clause-marks c = c.later_machines_mean_the_same.ensures c.args.machine.now c.faults.new.machine c.args.text.now c.args.marks.now.kept c.faults.ensures.later c.requires.well.read
+
+pub returns-in_err-faults-clause-marks : goal.returns-in_err-faults-clause-marks
+returns-in_err-faults-clause-marks c = c.later_machines_mean_the_same.ensures c.args.machine.now c.faults.new.machine c.args.text.now c.args.marks.now.kept c.faults.ensures.later c.requires.well.read

@@ -22,3 +22,6 @@ returns-clause-well g c = record {
 pub returns-clause-text : goal.returns-clause-text
 returns-clause-text g c =
     offers_print c.args.machine.now.matcher c.requires.well.live c.requires.well.sound c.args.text.now c.len-len.ensures.utf8 c.args.at c.offers.result c.offers.ensures.offers
+
+pub returns-clause-marks : goal.returns-clause-marks
+returns-clause-marks g c = c.later_machines_mean_the_same.ensures c.args.machine.now c.offers.new.machine c.args.text.now c.args.marks.now.kept c.offers.ensures.later c.requires.well.read

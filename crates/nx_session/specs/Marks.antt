@@ -1,0 +1,96 @@
+-- What a command does to the marks, which a session keeps from one command to the next.
+use Rattle.std.specs.Prelude.{◌≡◌, ℕ, ◌+◌, ◌<◌, ◌≤◌, List, [], length, IsUtf8}
+use Rattle.nx_base.specs.Rules.{Lexeme}
+use Rattle.nx_base.specs.Running.{CutsTo, after_all}
+use Rattle.nx_base.specs.Text.{IsPlace}
+use Rattle.nx_base.specs.declared.edit.Edit.{Edit}
+use Rattle.nx_base.specs.declared.fault.Fault.{Fault}
+use Rattle.nx_marks.specs.Bound.{WillJoin}
+use Rattle.nx_marks.specs.Chain.{FirstMeans, frontier_of}
+use Rattle.nx_marks.specs.Editing.{edit_kept}
+use Rattle.nx_marks.specs.Keeping.{KeepsMarks, next_of}
+use Rattle.nx_marks.specs.Meant.{is_any, itself}
+use Rattle.nx_marks.specs.Right.{IsRight}
+use Rattle.nx_marks.specs.Starting.{started}
+use Rattle.nx_script.specs.declared.command.Command.{Command}
+use Rattle.nx_script.specs.declared.command.Command.TheVariants.{Nothing, OpenFile, Save, Insert, Delete, Print, Errors, Slice, Stats}
+use Rattle.nx_script.specs.declared.command.Command.TheVariants.{SchemaFile, SchemaNone, SchemaAuto, Complete, Goto, Move, Next, Previous}
+use Rattle.nx_script.specs.declared.command.Command.TheVariants.{Position, View, Close, Make}
+use Rattle.nx_script.specs.declared.reply.Reply.{Reply}
+use Rattle.nx_script.specs.declared.reply.Reply.TheVariants.{Silent, Refused}
+use Rattle.nx_script.specs.declared.reply.Reply.TheVariants as reply
+use Rattle.nx_session.specs.Editing.{IsEdited}
+use Rattle.nx_session.specs.Editor.{SessionState, edit_of}
+use Rattle.nx_session.specs.Reading.{rules_for}
+use Rattle.nx_session.specs.Viewing.{whole_edit}
+
+-- the marks are right for the text and the schema, and the text is read as far as they tell
+pub record MarksAreRight (now : SessionState) : Type 0 where
+  pub right : IsRight is_any itself (rules_for now.editor.schema) now.editor.text now.marks
+  pub frontier : now.editor.frontier ≡ frontier_of now.marks
+
+abbrev pub SameMarks : SessionState → SessionState → Type 0
+SameMarks old new = new.marks ≡ old.marks
+
+-- one edit is told to the marks, where the command is done: those that it leaves stay, up to the frontier or aside
+abbrev pub EditsMarks : Edit → SessionState → Reply → SessionState → Type 0
+EditsMarks edit old (Refused cause) new = SameMarks old new
+EditsMarks edit old reply new = new.marks ≡ edit_kept edit.from edit.to edit.added old.marks
+
+-- reading goes on from the marks: those up to the frontier stay, those aside are joined where tokens lead to them, and none is
+-- saved where none is due
+abbrev pub ReadsMarksOn : SessionState → SessionState → Type 0
+ReadsMarksOn old new = KeepsMarks itself (rules_for old.editor.schema) old.editor.text old.marks new.marks
+
+-- where so many tokens lead to the first mark aside, and its row to the text's end, no more are taken
+abbrev pub TakesFew : SessionState → SessionState → Type 0
+TakesFew old new = (count : ℕ) → WillJoin itself (rules_for old.editor.schema) old.editor.text count old.marks → new.editor.taken ≤ count
+
+-- where the text is read to its end, nothing is left aside
+abbrev pub LeavesNone : SessionState → Type 0
+LeavesNone new = new.editor.frontier ≡ length new.editor.text → new.marks.aside ≡ []
+
+abbrev pub ReadsMarks : SessionState → Reply → SessionState → Type 0
+ReadsMarks old (Refused cause) new = ReadsMarksOn old new
+ReadsMarks old reply new = ReadsMarksOn old new × TakesFew old new × LeavesNone new
+
+-- with another schema all begins anew, where the command is done
+abbrev pub BeginsMarks : SessionState → Reply → SessionState → Type 0
+BeginsMarks old (Refused cause) new = SameMarks old new
+BeginsMarks old reply new = new.marks ≡ started (rules_for new.editor.schema).first
+
+-- what each command does to the marks
+abbrev pub MarksStep : SessionState → Command → Reply → SessionState → Type 0
+MarksStep old Nothing reply new = SameMarks old new
+MarksStep old (OpenFile uri) reply new = EditsMarks (whole_edit old.editor new.editor) old reply new
+MarksStep old (Save uri) reply new = SameMarks old new
+MarksStep old (Insert at added) reply new = EditsMarks (edit_of at at added) old reply new
+MarksStep old (Delete from to) reply new = EditsMarks (edit_of from to []) old reply new
+MarksStep old Print reply new = SameMarks old new
+MarksStep old Errors reply new = ReadsMarks old reply new
+MarksStep old (Slice count) reply new = ReadsMarks old reply new
+MarksStep old Stats reply new = SameMarks old new
+MarksStep old (SchemaFile uri) reply new = BeginsMarks old reply new
+MarksStep old SchemaNone reply new = BeginsMarks old reply new
+MarksStep old SchemaAuto reply new = BeginsMarks old reply new
+MarksStep old (Complete at) reply new = SameMarks old new
+MarksStep old (Goto at) reply new = SameMarks old new
+MarksStep old (Move way) reply new = SameMarks old new
+MarksStep old Next reply new = SameMarks old new
+MarksStep old Previous reply new = SameMarks old new
+MarksStep old Position reply new = SameMarks old new
+MarksStep old (View index) reply new = SameMarks old new
+MarksStep old (Close index) reply new = SameMarks old new
+MarksStep old (Make seed pieces) reply new = EditsMarks (whole_edit old.editor new.editor) old reply new
+
+-- the text is read to its end; one edit, which ends before the text's end, is told; then all is read. So many tokens of the new text
+-- lead from the last mark before the edit, or from the start, to the first mark behind it, and to what its state means. No more are taken
+abbrev pub OneEditTakesFew : Type 0
+OneEditTakesFew = (before edited after : SessionState) (from to : ℕ) (added : List ℕ) (faults : List Fault) (left : List Lexeme) →
+    IsUtf8 before.editor.text → IsUtf8 added → IsPlace before.editor.text from → IsPlace before.editor.text to → from ≤ to →
+    to < length before.editor.text → MarksAreRight before → before.editor.frontier ≡ length before.editor.text → before.marks.aside ≡ [] →
+    IsEdited from to added before.editor edited.editor → EditsMarks (edit_of from to added) before Silent edited →
+    ReadsMarks edited (reply.Errors faults) after →
+    CutsTo edited.editor.text (frontier_of edited.marks) left (next_of edited.marks) →
+    FirstMeans itself (after_all (rules_for edited.editor.schema) edited.marks.here.state left) edited.marks.aside →
+    after.editor.taken ≤ length left
