@@ -10,7 +10,7 @@ returns-clause-held g c =
     let f = g.F.Files in
     let before = files_state (f.told c.args.files.now) (f.faults c.args.files.now) in
     let after = files_state (f.told c.schema_at.new.files) (f.faults c.schema_at.new.files) in
-    let P : Option Grammar → Type 0 = λ schema. c.hold_schema.new.self ≡ with_schema c.args.self.now schema in (
+    let P : Option Grammar → Type 0 = λ schema. c.hold_schema.new.self.editor ≡ with_schema c.args.self.now.editor schema in (
       c.in_ok-schema.schema.grammar,
       c.in_ok-schema.ensures.answers.0,
       subst P (ap (λ schema. Some schema.grammar) c.in_ok-matcher.ensures) c.in_ok-hold_schema.ensures.held,

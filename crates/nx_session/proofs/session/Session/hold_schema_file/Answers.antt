@@ -1,6 +1,6 @@
 use Rattle.std.proofs.Common.{Err, refl, ap, inr}
 use Rattle.std.proofs.lemmas.Result.{err_from_is_err_and}
-use Rattle.nx_session.specs.Editor.{files_state}
+use Rattle.nx_session.specs.Editor.{SessionState, files_state}
 use Rattle.nx_session.proofs.Using.{unjoined}
 use Rattle.nx_session.proofs.session.Session.hold_schema_file.Goals as goal
 
@@ -20,7 +20,7 @@ pub returns-in_err-hold_file-clause-step : goal.returns-in_err-hold_file-clause-
 returns-in_err-hold_file-clause-step g c =
     let refusal = err_from_is_err_and c.from_residual-in_err-hold_file.result c.from_residual-in_err-hold_file.ensures.1 in
     rw (refusal.1, refusal.2) (
-      c.in_err-hold_file.ensures.stays,
+      ap (λ (s : SessionState). s.editor) c.in_err-hold_file.ensures.stays,
       c.in_err-hold_file.ensures.map,
       inr (inr (c.in_ok-uri.uri, rw c.text_of.ensures at c.in_ok-uri.ensures.joined, rw c.text_of-2.ensures at c.in_err-hold_file.ensures.refused)),
     )

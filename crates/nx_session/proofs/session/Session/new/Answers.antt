@@ -4,8 +4,8 @@ use Rattle.std.specs.Str.{IsAscii, IsUtf8}
 use Rattle.nx_session.proofs.Locating.{plain_ascii}
 use Rattle.nx_session.proofs.session.Session.new.Goals as goal
 
-pub invariant_of-result : goal.invariant_of-result
-invariant_of-result c =
+pub invariant_of-session : goal.invariant_of-session
+invariant_of-session c =
     let utf8 : IsUtf8 c.new.result = subst IsUtf8 (sym c.new.ensures) IsUtf8-nil in
     record { well = c.in_ok-marks.ensures.well c.new.result utf8; place = IsCharBoundary-start c.new.result utf8 }
 
