@@ -10,6 +10,7 @@ ghost use Rattle.nx_base.specs.Text.{IsPlace};
 ghost use Rattle.std.specs.Str.{IsUtf8};
 
 use crate::gap_buffer::GapBuffer;
+use memchr::memchr;
 
 /// How many of the line feeds stand in front of an offset.
 fn feeds_below(feeds: &[usize], at: usize) -> usize
@@ -105,11 +106,9 @@ pub(crate) fn push_feeds(feeds: &mut GapBuffer<usize>, at: usize, added: &[u8])
     ensures back { feeds.new.back ≡ feeds.old.back }
 {
     let mut left = added;
-    while let Some((byte, rest)) = left.split_first() {
-        if *byte == b'\n' {
-            feeds.push(at + (added.len() - left.len()));
-        }
-        left = rest;
+    while let Some(before) = memchr(b'\n', left) {
+        feeds.push(at + (added.len() - left.len()) + before);
+        left = &left[before + 1..];
     }
 }
 
