@@ -1,5 +1,6 @@
 -- What may still follow a part of a tag.
-use Rattle.std.specs.Prelude.{◌≡◌, ℕ, ◌+◌, ◌-◌, ◌≤◌, false, List, drop}
+use Rattle.std.specs.Prelude.{◌≡◌, ℕ, ◌+◌, ◌-◌, ◌<◌, ◌≤◌, nat_lt, Bool, false, not, ◌&&◌, ◌==◌, List, drop}
+use Rattle.nx_base.specs.Characters.{is_name_char}
 use Rattle.nx_base.specs.Form.{Form, name_char, only, one, seq, alt, many, never, nothing, after, may_end}
 use Rattle.nx_base.specs.Tags.{name_form, spaces, quoted_rest, attribute_value, attribute_rest, attribute, tag_rest}
 use Rattle.nx_base.specs.Text.{IsPlace}
@@ -66,3 +67,15 @@ pub record IsReadTo (text : List ℕ) (at place : ℕ) (read : TagState) : Type 
   pub behind : at ≤ place
   pub part : IsPart (left_of read)
   pub so_far : tag tags (drop at text) ≡ later (place - at) (tag (left_of read) (drop place text))
+
+-- a character of one byte behind which the same may follow as in front of it
+pub record Stays (read : TagState) (byte : ℕ) : Type 0 where
+  pub low : byte < 128
+  pub same : left_of read ≡ left_after (left_of read) byte
+
+-- a character of one byte of a name, and of a value in such quotes
+abbrev pub is_name_byte : ℕ → Bool
+is_name_byte byte = nat_lt byte 128 && is_name_char byte
+
+abbrev pub is_value_byte : ℕ → ℕ → Bool
+is_value_byte quote byte = nat_lt byte 128 && (not (byte == quote) && not (byte == 60))

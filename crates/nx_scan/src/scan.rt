@@ -162,8 +162,8 @@ fn tag_end(text: &Text, at: usize) -> End
     bad_end(text, part.place)
 }
 
-/// A token that begins with `<`, which stands at `at`.
-fn markup_end(text: &Text, at: usize) -> End
+/// A token that begins with `<`, which stands at `at`, by its mark.
+fn marked_end(text: &Text, at: usize) -> End
     requires utf8 { IsUtf8 text.now }
     requires within { at < length text.now }
     requires fits { at + 1 < 2 ^ 64 }
@@ -178,6 +178,23 @@ fn markup_end(text: &Text, at: usize) -> End
         declared_type_end(text, at)
     } else if stands_at(text, at, b"<?") {
         instruction_end(text, at)
+    } else {
+        tag_end(text, at)
+    }
+}
+
+/// A token that begins with `<`, which stands at `at`. Most are tags, where no byte of another mark follows.
+fn markup_end(text: &Text, at: usize) -> End
+    requires utf8 { IsUtf8 text.now }
+    requires within { at < length text.now }
+    requires fits { at + 1 < 2 ^ 64 }
+    requires open { slice_index text.now at ≡ 60 }
+    ensures { EndsAt text.now at (markup (drop at text.now)) result }
+{
+    if byte_is(text, at + 1, b'!') {
+        marked_end(text, at)
+    } else if byte_is(text, at + 1, b'?') {
+        marked_end(text, at)
     } else {
         tag_end(text, at)
     }

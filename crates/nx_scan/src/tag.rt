@@ -85,7 +85,7 @@ fn is_name_start(c: char) -> bool
 
 /// Whether the character may stand in a name.
 #[tactic(auto, unfolding(nx_base::specs::Characters::is_name_char, nx_base::specs::Characters::is_name_start))]
-fn is_name_char(c: char) -> bool
+pub(crate) fn is_name_char(c: char) -> bool
     ensures { result ≡ is_name_char c }
 {
     if c.is_ascii_lowercase() {
