@@ -70,7 +70,7 @@ impl TagState {
     }
 }
 
-// Most characters of names are small letters, which are asked for first.
+// Most characters of names are small letters, and most names end with one of three characters: these are asked for first.
 
 /// Whether a name may begin with the character.
 #[tactic(auto, unfolding(nx_base::specs::Characters::is_name_start))]
@@ -91,7 +91,12 @@ pub(crate) fn is_name_char(c: char) -> bool
     if c.is_ascii_lowercase() {
         return true;
     }
-    character::is_name_char(c)
+    match c {
+        '>' => false,
+        ' ' => false,
+        '=' => false,
+        _ => character::is_name_char(c),
+    }
 }
 
 #[tactic(auto, using(crate::proofs::Reading::open_rules))]
