@@ -2,13 +2,15 @@
 use Rattle.std.proofs.Common.{◌≡◌, ◌∙◌, ℕ, zero, suc, ◌+◌, ◌-◌, ◌<◌, ◌≤◌, Bool, true, false, cond, List, [], ◌∷◌, ◌++◌, length}
 use Rattle.std.proofs.Common.{take, drop, refl, sym, ap, ap₂, arith, append-nil, take_all}
 use Rattle.std.specs.Prelude.{◌==◌}
-use Rattle.std.proofs.lemmas.List.{length-drop, append_assoc, drop-append-le}
+use Rattle.std.proofs.lemmas.List.{length-drop, append_assoc, drop-append-le, take-append-drop, length-take-le}
 use Rattle.std.proofs.Math.Seq.{drop-append-add}
 use Rattle.memchr.specs.Find.{Passes, Nowhere, NoneBefore, is_byte}
 use Rattle.nx_base.specs.Tokens.{bytes_up_to}
 use Rattle.nx_text.specs.Feeds.{feeds_from}
+use Rattle.nx_text.specs.Places.{is_line_feed}
 use Rattle.nx_text.specs.Reading.{StandFrom}
-use Rattle.nx_text.proofs.Feeds.{feed_count}
+use Rattle.std.specs.List.{count_by}
+use Rattle.nx_text.proofs.Feeds.{feed_count, counted, count_of_both}
 
 -- the byte stands at a place, and at none before it
 abbrev pub IsFirstAt : ℕ → List ℕ → ℕ → Type 0
@@ -175,3 +177,29 @@ pub fewer_left : (n : ℕ) (left rest : List ℕ) → IsFirstAt 10 left n → re
 fewer_left n left rest is part =
     let one : suc n ≡ n + 1 = omega arith in
     count_found left n is ∙ ap (λ k. 1 + feed_count (drop k left)) one ∙ ap (λ t. 1 + feed_count t) (sym (part ∙ rest_of left (n + 1)))
+
+-- so many bytes more are counted
+fewer : (b : Bool) (count len : ℕ) → count ≤ len → cond b (1 + count) count ≤ suc len
+fewer true count len h = omega arith
+fewer false count len h = omega arith
+
+few_feeds : (xs : List ℕ) → feed_count xs ≤ length xs
+few_feeds [] = omega arith
+few_feeds (x ∷ xs) = fewer (is_line_feed x) (feed_count xs) (length xs) (few_feeds xs)
+
+pub counted_on : (n count few : ℕ) (left rest text : List ℕ) → n ≤ length left → few ≡ count_by is_line_feed (take n left)
+    → rest ≡ take (length left - n) (drop n left) → count + feed_count left ≡ feed_count text → count + few + feed_count rest ≡ feed_count text
+counted_on n count few left rest text short is part so_far =
+    let here = counted (take n left) in
+    let both : feed_count (take n left ++ drop n left) ≡ feed_count (take n left) + feed_count (drop n left) = count_of_both (take n left) (drop n left) in
+    let whole : feed_count (take n left ++ drop n left) ≡ feed_count left = ap feed_count (take-append-drop n left) in
+    let there : feed_count rest ≡ feed_count (drop n left) = ap feed_count (part ∙ rest_of left n) in
+    omega (arith, here, is, both, whole, there, so_far)
+
+pub fits_on : (n count few : ℕ) (left rest text : List ℕ) → n ≤ length left → few ≡ count_by is_line_feed (take n left)
+    → rest ≡ take (length left - n) (drop n left) → count + length left ≤ length text → count + few + length rest ≤ length text
+fits_on n count few left rest text short is part so_far =
+    let here = counted (take n left) in let most = few_feeds (take n left) in
+    let len = length-take-le n left short in
+    let there : length rest ≡ length left - n = ap length (part ∙ rest_of left n) ∙ length-drop n left in
+    omega (arith, here, is, most, len, there, so_far)

@@ -91,11 +91,34 @@ pub(crate) fn move_gaps(bytes: &mut GapBuffer<u8>, feeds: &mut GapBuffer<usize>,
     bytes.move_gap(at);
 }
 
+/// How many bytes are counted in one byte.
+const CHUNK: usize = 192;
+
+/// How many line feeds a few bytes have. So many are counted at once as fit into a register's bytes.
+fn count_few(bytes: &[u8]) -> u8
+    requires { length bytes.now ≤ 192 }
+    ensures { result ≡ count_by is_line_feed bytes.now }
+{
+    let mut count: u8 = 0;
+    for (i, byte) in bytes.iter().enumerate() {
+        if *byte == b'\n' {
+            count += 1;
+        }
+    }
+    count
+}
+
 /// How many line feeds a text has.
 pub(crate) fn count_feeds(text: &[u8]) -> usize
     ensures { result ≡ count_by is_line_feed text.now }
 {
-    text.iter().filter(|byte| **byte == b'\n').count()
+    let mut count: usize = 0;
+    let mut left = text;
+    while left.len() > CHUNK {
+        count += usize::from(count_few(&left[..CHUNK]));
+        left = &left[CHUNK..];
+    }
+    count + usize::from(count_few(left))
 }
 
 /// Puts the line feeds of what was put in at an offset in at the index's gap.
