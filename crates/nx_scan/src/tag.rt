@@ -47,6 +47,7 @@ pub(crate) enum TagState {
 
 impl TagState {
     /// What was read with one more character.
+    #[inline(always)]
     #[tactic(auto, using(crate::proofs::Reading::whole_lost))]
     pub(crate) fn then(self, c: char) -> TagState
         ensures { left_of result ≡ left_after (left_of self) c }

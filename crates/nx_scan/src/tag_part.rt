@@ -66,7 +66,7 @@ fn stay_len(seen: TagState, piece: &[u8], from: usize) -> usize
     }
 }
 
-/// The tag read on from a place, up to a character that has more bytes, with which it is whole or lost, or that lies in
+/// The tag read on from a place, up to a `>`, or a character that has more bytes, with which it is lost, or that lies in
 /// another piece.
 pub(crate) fn read_on(text: &Text, place: usize, seen: TagState) -> TagPart
     requires utf8 { IsUtf8 text.now }
@@ -79,6 +79,10 @@ pub(crate) fn read_on(text: &Text, place: usize, seen: TagState) -> TagPart
     let mut n = 0;
     while n < piece.len() {
         if piece[n] >= 128 {
+            break;
+        }
+        // which mostly ends the tag
+        if piece[n] == b'>' {
             break;
         }
         let next = so_far.then(char::from(piece[n]));
