@@ -19,6 +19,7 @@
 //! few (`takes`).
 #![tactic(auto)]
 
+mod boxes;
 mod condition;
 pub mod depth;
 pub mod fault;
