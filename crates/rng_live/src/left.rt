@@ -1,14 +1,16 @@
 //! What is left of a pattern that lives.
 //!
 //! A walk goes down a pattern along the numbers of its conditions, so that each node is met once. It calls itself for each node of
-//! a path, so what it calls keeps no stack of its own in it.
+//! a path, so it holds boxes alone, and what holds patterns is called for one node.
 
 ghost use Rattle.std.specs.Prelude.{◌≡◌, length, slice_get, IfOk};
 ghost use Rattle.rng_core.specs.Meaning.{pattern_of};
 ghost use Rattle.rng_live.specs.Left.{first_of, second_of, LeavesTo};
 
-use crate::boxes::{boxed_attribute, boxed_choice, boxed_copy, boxed_group, boxed_interleave};
-use crate::boxes::{boxed_list, boxed_one_or_more, boxed_ref};
+use crate::boxes::{
+    boxed_attribute, boxed_choice, boxed_copy, boxed_group, boxed_interleave, boxed_list,
+    boxed_one_or_more, boxed_ref,
+};
 use crate::condition::{Condition, is_marked_at};
 use crate::kept::Kept;
 use nx_base::memory::NoMemory;
