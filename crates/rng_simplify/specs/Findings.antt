@@ -28,7 +28,8 @@ use Rattle.rng_simplify.specs.CellMeanings.{IsCell}
 use Rattle.rng_simplify.specs.Forms.{combine_of}
 use Rattle.rng_simplify.specs.NameTables.{kept_named, kept_for}
 use Rattle.rng_simplify.specs.NodePlaces.{bodies_of, inner_nodes, Stands, IsStanding}
-use Rattle.rng_simplify.specs.ResolvedNodes.{combined_number, element_number, IsToDefinitions, IsToElement, clauses_of, combines_of, IsCombined, IsCombinedIn, IsCombinedOutside, IsOfGrammar}
+use Rattle.rng_simplify.specs.ResolvedNodes.{combined_number, element_number, IsToDefinitions, IsToElement}
+use Rattle.rng_simplify.specs.ResolvedNodes.{clauses_of, combines_of, IsCombined, IsCombinedIn, IsCombinedOutside, IsOfGrammar}
 
 -- ---- combined definitions
 

@@ -129,7 +129,8 @@ impl Forms {
         node: &Node,
     ) -> Result<ShapeNumber, SchemaFault>
         requires linked { IsLinkedAs (cell_of node.now) link }
-        requires known { (j : ℕ) → Contains (cell_leads count (combined_number link) (cell_of node.now)) j → IsKnown self.old.shapes self.old.of.items j }
+        requires known { (j : ℕ) → Contains (cell_leads count (combined_number link) (cell_of node.now)) j
+            → IsKnown self.old.shapes self.old.of.items j }
         ensures made { MakesCell self.old.shapes self.new.shapes self.old.of.items count i link (cell_of node.now) result }
         ensures of_stays { self.new.of ≡ self.old.of }
     {
