@@ -84,6 +84,30 @@ cut_there {S = S} from to added k d place len o le fits h long =
     ∙ ap (λ (x : Mark S). kept_at d.front x k.marked len d.aside) (sym h.here)
     ∙ ap (λ b. kept_at d.front d.here b len d.aside) (sym h.marked))
 
+-- with what was added all places are numbers of the machine
+pub cut_fits : {S : Type 0} (from to added : ℕ) (k d : Kept S) (place : ℕ) → Fits from to added k → DropsBetween (frontier_of k + k.here.len) to k d place → from + added + (place - to) + reach d.aside < 2 ^ 64
+cut_fits from to added k d place fits h =
+    by h.there
+  where
+    by : (d.aside ≡ []) ⊎ (to < place) → from + added + (place - to) + reach d.aside < 2 ^ 64
+    by (inl none) =
+        let all = reach-append k.front (k.here ∷ k.aside) in
+        let old = fits.old in
+        let new = fits.new in
+        let gone = reach-append h.gone d.aside in
+        let aside = ap reach h.aside in
+        let far = h.far (omega arith) in
+        let n = ap reach none in
+        omega arith
+    by (inr lt) =
+        let all = reach-append k.front (k.here ∷ k.aside) in
+        let old = fits.old in
+        let new = fits.new in
+        let gone = reach-append h.gone d.aside in
+        let aside = ap reach h.aside in
+        let far = h.far (omega arith) in
+        omega arith
+
 -- nothing lies behind
 pub cut_nothing : {S : Type 0} (from to added : ℕ) (k : Kept S) → frontier_of k + k.here.len < from → k ≡ cut_off from to added k
 cut_nothing from to added k lt = rw (is_below (frontier_of k + k.here.len) from lt) refl
@@ -231,7 +255,7 @@ edited_behind {S = S} from to added k g d m o lt w ends b is mark back =
     ∙ sym whole
 
 -- where the frontier lies, whatever was kept
-front-same : {S : Type 0} (xs us ys vs : List (Mark S)) → length xs ≡ length us → xs ++ ys ≡ us ++ vs → xs ≡ us
+pub front-same : {S : Type 0} (xs us ys vs : List (Mark S)) → length xs ≡ length us → xs ++ ys ≡ us ++ vs → xs ≡ us
 front-same [] [] ys vs n e = refl
 front-same [] (u ∷ us) ys vs n e = absurd (omega arith)
 front-same (x ∷ xs) [] ys vs n e = absurd (omega arith)

@@ -15,6 +15,10 @@ pub mod Ends
 pub mod Starting
 pub mod Refused
 pub mod Walking
+pub mod Stacks
+pub mod Holding
+pub mod Finding
+pub mod Seen
 pub mod Cutting
 pub mod Passing
 pub mod Stepping

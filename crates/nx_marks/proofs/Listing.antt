@@ -25,7 +25,7 @@ all-placed : (d m n : ℕ) (xs : List Fault) → d + m ≤ n → AllByRecursion 
 all-placed d m n [] le a = tt
 all-placed d m n (x ∷ xs) le a = (record { ordered = (let e = a.0.ordered in omega arith); inside = (let e = a.0.inside in omega arith) }, all-placed d m n xs le a.1)
 
-all-wider : (m n : ℕ) (xs : List Fault) → m ≤ n → AllByRecursion (IsWithin m) xs → AllByRecursion (IsWithin n) xs
+pub all-wider : (m n : ℕ) (xs : List Fault) → m ≤ n → AllByRecursion (IsWithin m) xs → AllByRecursion (IsWithin n) xs
 all-wider m n [] le a = tt
 all-wider m n (x ∷ xs) le a = (record { ordered = a.0.ordered; inside = (let e = a.0.inside in omega arith) }, all-wider m n xs le a.1)
 
@@ -80,11 +80,11 @@ shifted-is place (f ∷ fs) lt a =
 
 -- ---- one after another
 
-faults-append : {S : Type 0} (p q : ℕ) (xs ys : List (Mark S)) → p + reach xs ≡ q → faults_in p (xs ++ ys) ≡ faults_in p xs ++ faults_in q ys
+pub faults-append : {S : Type 0} (p q : ℕ) (xs ys : List (Mark S)) → p + reach xs ≡ q → faults_in p (xs ++ ys) ≡ faults_in p xs ++ faults_in q ys
 faults-append p q [] ys e = ap (λ n. faults_in n ys) (omega arith)
 faults-append p q (x ∷ xs) ys e = ap (λ fs. placed p x.faults ++ fs) (faults-append (p + x.len) q xs ys (omega arith)) ∙ sym (append_assoc (placed p x.faults) (faults_in (p + x.len) xs) (faults_in q ys))
 
-none : (fs : List Fault) → fs ++ [] ≡ fs
+pub none : (fs : List Fault) → fs ++ [] ≡ fs
 none [] = refl
 none (f ∷ fs) = ap (λ l. f ∷ l) (none fs)
 

@@ -139,6 +139,13 @@ module _ {S M : Type 0} (is_state : S → Type 0) (means : S → M) (r : Rules M
     pub far : length token.bytes ≤ j.here.len
     pub waits : (n end : ℕ) → WillReach means r t n end k → 0 < k.here.len → j ≡ k
 
+  pub token_fits : (k : Kept S) (token : Token) → IsRight is_state means r t k → token ≡ cut t (frontier_of k) → frontier_of k < length t → frontier_of k + length token.bytes ≤ length t
+  token_fits k token h is rest =
+      let place = frontier_place is_state means r t laws utf8 k h in
+      let here = next t (frontier_of k) (lexeme_of token) utf8 place rest (ap lexeme_of is) in
+      let fits = here.fits in
+      omega arith
+
   pub passed : (k j : Kept S) (n : ℕ) (token : Token) → IsRight is_state means r t k → token ≡ cut t (frontier_of k) → frontier_of k < length t → n ≡ length token.bytes → j ≡ gone_from n k → Passed k j token
   passed k j n token h is rest count gone_is =
       let place = frontier_place is_state means r t laws utf8 k h in

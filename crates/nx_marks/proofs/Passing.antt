@@ -17,7 +17,6 @@ gone_from n k = let_go n k.here k.front k.marked k.aside
 
 pub record LettingGo {S : Type 0} (n : ℕ) (old now : Kept S) : Type 0 where
   pub same : gone_from n now ≡ gone_from n old
-  pub small : now.here.len + reach now.aside < 2 ^ 64
 
 not_within : (n m : ℕ) → m < n → nat_le n m ≡ false
 not_within n m h = grind (arith, nat_tests)
@@ -35,13 +34,20 @@ go_one n here front marked y ys lt = by (nat_le n here.len) (not_within n here.l
 pub go_more : {S : Type 0} (n : ℕ) (old k j : Kept S) → LettingGo n old k → k.here.len < n → PassesNext k j → LettingGo n old j
 go_more {S = S} n old k j g lt s =
     let P : Kept S → Type 0 = λ i. gone_from n i ≡ gone_from n k in
-    let Q : Kept S → Type 0 = λ i. i.here.len + reach i.aside < 2 ^ 64 in
-    let a = ap reach s.are in
-    let small = g.small in
-    record {
-      same = subst P (sym s.is) (sym (ap (let_go n k.here k.front k.marked) s.are ∙ go_one n k.here k.front k.marked s.mark s.behind lt)) ∙ g.same;
-      small = subst Q (sym s.is) (omega arith);
-    }
+    record { same = subst P (sym s.is) (sym (ap (let_go n k.here k.front k.marked) s.are ∙ go_one n k.here k.front k.marked s.mark s.behind lt)) ∙ g.same }
+
+go_front : {S : Type 0} (n : ℕ) (here : Mark S) (front : List (Mark S)) (marked : Bool) (aside : List (Mark S)) → (let_go n here front marked aside).front ≡ front
+go_front n here front marked [] = refl
+go_front n here front marked (y ∷ ys) = by (nat_le n here.len) (go_front n (farther here y.len) front marked ys)
+  where
+    by : (b : Bool) → (let_go n (farther here y.len) front marked ys).front ≡ front → (if b then record { front = front; here = here; marked = marked; aside = y ∷ ys } else let_go n (farther here y.len) front marked ys).front ≡ front
+    by true e = refl
+    by false e = e
+
+-- the front stays
+pub passed_front : {S : Type 0} (n : ℕ) (old now : Kept S) → PassesUpTo n old now → now.front ≡ old.front
+passed_front {S = S} n old now p =
+    sym (go_front n now.here now.front now.marked now.aside) ∙ ap (λ (k : Kept S). k.front) p.same ∙ go_front n old.here old.front old.marked old.aside
 
 pub pass_fewer : {S : Type 0} (k j : Kept S) → PassesNext k j → length j.aside < length k.aside
 pass_fewer k j s = let a = ap length s.are in let c = ap (λ (i : Kept _). length i.aside) s.is in omega arith

@@ -17,9 +17,11 @@
 
 pub mod kept;
 pub mod law;
+mod line;
 pub mod mark;
 pub mod marks;
 mod rows;
+mod stack;
 pub mod stored;
 
 pub use marks::Marks;

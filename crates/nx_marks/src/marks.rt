@@ -15,7 +15,8 @@ ghost use Rattle.nx_marks.specs.Before.{IsMarkBefore};
 ghost use Rattle.nx_marks.specs.Starting.{started};
 ghost use Rattle.nx_marks.specs.Walking.{Fits};
 
-use crate::kept::{Kept, begin_here, step};
+use crate::kept::Kept;
+use crate::line::{Line, begin_here, step};
 use crate::rows::rejoin;
 use crate::stored::{Stored, copied};
 use nx_base::edit::Edit;
@@ -41,6 +42,34 @@ pub struct Marks<A: Machine> {
     buffer: Vec<u8>,
 }
 
+/// Takes the token at the frontier, where the line is parted, and gives its memory back. Marks aside that it passes are dropped.
+fn take_here<A: Machine>(
+    alloc: Global,
+    machine: &mut A,
+    text: &Text,
+    line: &mut Line<A::State>,
+    token: Token,
+) -> Result<Vec<u8>, NoMemory>
+    requires right { IsRight (A.is_state machine.old) (A.means machine.old) (A.rules machine.old) text.now line.old }
+    requires rest { frontier_of line.old < length text.now }
+    requires token { token ≡ cut text.now (frontier_of line.old) }
+    requires settled { (0 < line.old.here.len) ⊎ (line.old.aside ≡ []) }
+    ensures later { A.later machine.old machine.new }
+    ensures right { IsRight (A.is_state machine.new) (A.means machine.new) (A.rules machine.new) text.now line.new }
+    ensures on { OnOk result (frontier_of line.new ≡ frontier_of line.old + length token.bytes) }
+    ensures near { OnOk result ((n end : ℕ) → WillReach (A.means machine.old) (A.rules machine.old) text.now n end line.old
+        → 0 < line.old.here.len → (0 < n) × WillReach (A.means machine.new) (A.rules machine.new) text.now (n - 1) end line.new) }
+    ensures off { OnErr result (frontier_of line.new ≡ frontier_of line.old) }
+    ensures keeps { KeepsMarks (A.means machine.old) (A.rules machine.old) text.now line.old line.new }
+{
+    let _len = text.len();
+    begin_here(alloc, machine, text, line)?;
+    let count = token.bytes.len();
+    line.let_go(count);
+    let buffer = step(alloc, machine, text, line, token)?;
+    Ok(buffer)
+}
+
 /// Takes the token at the frontier, and gives its memory back. Marks aside that it passes are dropped.
 fn take<A: Machine>(
     alloc: Global,
@@ -61,12 +90,9 @@ fn take<A: Machine>(
     ensures off { OnErr result (frontier_of kept.new ≡ frontier_of kept.old) }
     ensures keeps { KeepsMarks (A.means machine.old) (A.rules machine.old) text.now kept.old kept.new }
 {
-    let _len = text.len();
-    begin_here(alloc, machine, text, kept)?;
-    let count = token.bytes.len();
-    kept.let_go(count);
-    let buffer = step(alloc, machine, text, kept, token)?;
-    Ok(buffer)
+    kept.line.arrive(kept.joined);
+    kept.joined = false;
+    take_here(alloc, machine, text, &mut kept.line, token)
 }
 
 impl<A: Machine> Marks<A> {

@@ -1,124 +1,51 @@
-use Rattle.std.proofs.Common.{◌≡◌, ◌+◌, ◌<◌, length, ap, subst, sym, ◌∙◌, arith}
+use Rattle.std.proofs.Common.{◌≡◌, ◌⊎◌, ℕ, ◌+◌, ◌-◌, ◌<◌, [], length, OnOk, OnErr, ap, subst, sym, ◌∙◌, arith}
 use Rattle.nx_base.specs.Tokens.{cut}
 use Rattle.nx_marks.specs.Bound.{WillReach}
 use Rattle.nx_marks.specs.Chain.{Kept, frontier_of}
-use Rattle.nx_marks.proofs.Moving.{passed, on_err}
-use Rattle.nx_marks.proofs.Keeping.{keeps_on, keeps_passing, still_settled}
-use Rattle.nx_marks.proofs.Stepping.{all_within}
+use Rattle.nx_marks.specs.Keeping.{KeepsMarks}
+use Rattle.nx_marks.specs.Right.{IsRight}
 use Rattle.nx_marks.proofs.marks.take.Goals as goal
 
-pub let_go-requires : goal.let_go-requires
-let_go-requires g c =
-    let m = g.A.Machine in
-    let a = c.args.machine.now in
-    let e = all_within (m.is_state a) (m.means a) (m.rules a) c.args.text.now c.begin_here.new.kept c.begin_here.ensures.right in
-    omega (arith, c.len-len.ensures.bytes)
+pub take_here-requires-clause-right : goal.take_here-requires-clause-right
+take_here-requires-clause-right g c =
+    let e = c.arrive.ensures ∙ c.kept.view_is in
+    let P : Kept _ → Type 0 = λ k. IsRight (g.A.Machine.is_state c.args.machine.now) (g.A.Machine.means c.args.machine.now) (g.A.Machine.rules c.args.machine.now) c.args.text.now k in
+    subst P (sym e) c.requires.right
 
-pub step-requires-clause-right : goal.step-requires-clause-right
-step-requires-clause-right g c =
-    let m = g.A.Machine in
-    let a = c.args.machine.now in
-    let k = c.begin_here.new.kept in
-    let is : c.args.token ≡ cut c.args.text.now (frontier_of k) = c.requires.token ∙ ap (cut c.args.text.now) (sym c.begin_here.ensures.frontier) in
-    let p = passed (m.is_state a) (m.means a) (m.rules a) (g.met.A.Machine.rule_laws a) c.args.text.now c.len-len.ensures.utf8 k c.let_go.new.self c.len-count.result c.args.token c.begin_here.ensures.right is
-    (omega (arith, c.requires.rest, c.begin_here.ensures.frontier)) c.len-count.ensures c.let_go.ensures in
-    p.right
+pub take_here-requires-clause-rest : goal.take_here-requires-clause-rest
+take_here-requires-clause-rest g c =
+    let e = c.arrive.ensures ∙ c.kept.view_is in
+    let n = ap (λ (k : Kept _). frontier_of k) e in omega (arith, c.requires.rest)
 
-pub step-requires-clause-unmarked : goal.step-requires-clause-unmarked
-step-requires-clause-unmarked g c =
-    let m = g.A.Machine in
-    let a = c.args.machine.now in
-    let k = c.begin_here.new.kept in
-    let is : c.args.token ≡ cut c.args.text.now (frontier_of k) = c.requires.token ∙ ap (cut c.args.text.now) (sym c.begin_here.ensures.frontier) in
-    let p = passed (m.is_state a) (m.means a) (m.rules a) (g.met.A.Machine.rule_laws a) c.args.text.now c.len-len.ensures.utf8 k c.let_go.new.self c.len-count.result c.args.token c.begin_here.ensures.right is
-    (omega (arith, c.requires.rest, c.begin_here.ensures.frontier)) c.len-count.ensures c.let_go.ensures in
-    p.marked ∙ c.in_ok-begin_here.ensures.unmarked
+pub take_here-requires-clause-token : goal.take_here-requires-clause-token
+take_here-requires-clause-token g c =
+    let e = c.arrive.ensures ∙ c.kept.view_is in
+    c.requires.token ∙ ap (λ (k : Kept _). cut c.args.text.now (frontier_of k)) (sym e)
 
-pub step-requires-clause-rest : goal.step-requires-clause-rest
-step-requires-clause-rest g c =
-    let m = g.A.Machine in
-    let a = c.args.machine.now in
-    let k = c.begin_here.new.kept in
-    let is : c.args.token ≡ cut c.args.text.now (frontier_of k) = c.requires.token ∙ ap (cut c.args.text.now) (sym c.begin_here.ensures.frontier) in
-    let p = passed (m.is_state a) (m.means a) (m.rules a) (g.met.A.Machine.rule_laws a) c.args.text.now c.len-len.ensures.utf8 k c.let_go.new.self c.len-count.result c.args.token c.begin_here.ensures.right is
-    (omega (arith, c.requires.rest, c.begin_here.ensures.frontier)) c.len-count.ensures c.let_go.ensures in
-    (let e = p.at in omega (arith, c.requires.rest, c.begin_here.ensures.frontier))
-
-pub step-requires-clause-token : goal.step-requires-clause-token
-step-requires-clause-token g c =
-    let m = g.A.Machine in
-    let a = c.args.machine.now in
-    let k = c.begin_here.new.kept in
-    let is : c.args.token ≡ cut c.args.text.now (frontier_of k) = c.requires.token ∙ ap (cut c.args.text.now) (sym c.begin_here.ensures.frontier) in
-    let p = passed (m.is_state a) (m.means a) (m.rules a) (g.met.A.Machine.rule_laws a) c.args.text.now c.len-len.ensures.utf8 k c.let_go.new.self c.len-count.result c.args.token c.begin_here.ensures.right is
-    (omega (arith, c.requires.rest, c.begin_here.ensures.frontier)) c.len-count.ensures c.let_go.ensures in
-    is ∙ ap (cut c.args.text.now) (sym p.at)
-
-pub step-requires-clause-far : goal.step-requires-clause-far
-step-requires-clause-far g c =
-    let m = g.A.Machine in
-    let a = c.args.machine.now in
-    let k = c.begin_here.new.kept in
-    let is : c.args.token ≡ cut c.args.text.now (frontier_of k) = c.requires.token ∙ ap (cut c.args.text.now) (sym c.begin_here.ensures.frontier) in
-    let p = passed (m.is_state a) (m.means a) (m.rules a) (g.met.A.Machine.rule_laws a) c.args.text.now c.len-len.ensures.utf8 k c.let_go.new.self c.len-count.result c.args.token c.begin_here.ensures.right is
-    (omega (arith, c.requires.rest, c.begin_here.ensures.frontier)) c.len-count.ensures c.let_go.ensures in
-    p.far
+pub take_here-requires-clause-settled : goal.take_here-requires-clause-settled
+take_here-requires-clause-settled g c =
+    let e = c.arrive.ensures ∙ c.kept.view_is in
+    let P : Kept _ → Type 0 = λ k. (0 < k.here.len) ⊎ (k.aside ≡ []) in subst P (sym e) c.requires.settled
 
 pub returns-clause-on : goal.returns-clause-on
 returns-clause-on g c =
-    let m = g.A.Machine in
-    let a = c.args.machine.now in
-    let k = c.begin_here.new.kept in
-    let is : c.args.token ≡ cut c.args.text.now (frontier_of k) = c.requires.token ∙ ap (cut c.args.text.now) (sym c.begin_here.ensures.frontier) in
-    let p = passed (m.is_state a) (m.means a) (m.rules a) (g.met.A.Machine.rule_laws a) c.args.text.now c.len-len.ensures.utf8 k c.let_go.new.self c.len-count.result c.args.token c.begin_here.ensures.right is
-    (omega (arith, c.requires.rest, c.begin_here.ensures.frontier)) c.len-count.ensures c.let_go.ensures in
-    c.in_ok-buffer.ensures.on ∙ ap (λ n. n + length c.args.token.bytes) (p.at ∙ c.begin_here.ensures.frontier)
+    let e = c.arrive.ensures ∙ c.kept.view_is in
+    let P : Kept _ → Type 0 = λ k. OnOk c.take_here.result (frontier_of c.take_here.new.line ≡ frontier_of k + length c.args.token.bytes) in subst P e c.take_here.ensures.on
 
 pub returns-clause-near : goal.returns-clause-near
-returns-clause-near g c = λ n end w some.
-    (let W : Kept _ → Type 0 = λ i. WillReach (g.A.Machine.means c.args.machine.now) (g.A.Machine.rules c.args.machine.now) c.args.text.now n end i in
-    let m = g.A.Machine in
-    let a = c.args.machine.now in
-    let k = c.begin_here.new.kept in
-    let is : c.args.token ≡ cut c.args.text.now (frontier_of k) = c.requires.token ∙ ap (cut c.args.text.now) (sym c.begin_here.ensures.frontier) in
-    let p = passed (m.is_state a) (m.means a) (m.rules a) (g.met.A.Machine.rule_laws a) c.args.text.now c.len-len.ensures.utf8 k c.let_go.new.self c.len-count.result c.args.token c.begin_here.ensures.right is
-    (omega (arith, c.requires.rest, c.begin_here.ensures.frontier)) c.len-count.ensures c.let_go.ensures in
-    let first = c.begin_here.ensures.near n end w in
-    let gap : 0 < k.here.len = omega (arith, some, c.begin_here.ensures.gap) in
-    let same = p.waits n end first gap in
-    let far : 0 < c.let_go.new.self.here.len = (let e = ap (λ (i : Kept _). i.here.len) same in omega arith) in
-    c.in_ok-buffer.ensures.near n end (subst W (sym same) first) far)
+returns-clause-near g c =
+    let e = c.arrive.ensures ∙ c.kept.view_is in
+    let b = c.take_here.new.machine in
+    let P : Kept _ → Type 0 = λ k. OnOk c.take_here.result ((n end : ℕ) → WillReach (g.A.Machine.means c.args.machine.now) (g.A.Machine.rules c.args.machine.now) c.args.text.now n end k → 0 < k.here.len
+    → (0 < n) × WillReach (g.A.Machine.means b) (g.A.Machine.rules b) c.args.text.now (n - 1) end c.take_here.new.line) in
+    subst P e c.take_here.ensures.near
 
-pub returns-in_err-buffer-clause-off : goal.returns-in_err-buffer-clause-off
-returns-in_err-buffer-clause-off g c =
-    let m = g.A.Machine in
-    let a = c.args.machine.now in
-    let k = c.begin_here.new.kept in
-    let is : c.args.token ≡ cut c.args.text.now (frontier_of k) = c.requires.token ∙ ap (cut c.args.text.now) (sym c.begin_here.ensures.frontier) in
-    let p = passed (m.is_state a) (m.means a) (m.rules a) (g.met.A.Machine.rule_laws a) c.args.text.now c.len-len.ensures.utf8 k c.let_go.new.self c.len-count.result c.args.token c.begin_here.ensures.right is
-    (omega (arith, c.requires.rest, c.begin_here.ensures.frontier)) c.len-count.ensures c.let_go.ensures in
-    on_err _ (c.in_err-buffer.ensures.off ∙ p.at ∙ c.begin_here.ensures.frontier)
+pub returns-clause-off : goal.returns-clause-off
+returns-clause-off g c =
+    let e = c.arrive.ensures ∙ c.kept.view_is in
+    let P : Kept _ → Type 0 = λ k. OnErr c.take_here.result (frontier_of c.take_here.new.line ≡ frontier_of k) in subst P e c.take_here.ensures.off
 
 pub returns-clause-keeps : goal.returns-clause-keeps
 returns-clause-keeps g c =
-    let m = g.A.Machine in
-    let a = c.args.machine.now in
-    let k = c.begin_here.new.kept in
-    let is : c.args.token ≡ cut c.args.text.now (frontier_of k) = c.requires.token ∙ ap (cut c.args.text.now) (sym c.begin_here.ensures.frontier) in
-    let first = c.begin_here.ensures.keeps in
-    let settled = still_settled c.args.kept.now k first.gone first.aside c.begin_here.ensures.gap c.requires.settled in
-    let second = keeps_passing (m.is_state a) (m.means a) (m.rules a) c.args.text.now (g.met.A.Machine.rule_laws a) k c.let_go.new.self c.len-count.result c.args.token c.len-len.ensures.utf8 c.begin_here.ensures.right is c.len-count.ensures settled c.let_go.ensures in
-    let both = keeps_on (m.means a) (m.rules a) c.args.text.now c.args.kept.now k c.let_go.new.self first second in
-    keeps_on (m.means a) (m.rules a) c.args.text.now c.args.kept.now c.let_go.new.self c.step.new.kept both c.step.ensures.keeps
-
-pub returns-in_err-buffer-clause-keeps : goal.returns-in_err-buffer-clause-keeps
-returns-in_err-buffer-clause-keeps g c =
-    let m = g.A.Machine in
-    let a = c.args.machine.now in
-    let k = c.begin_here.new.kept in
-    let is : c.args.token ≡ cut c.args.text.now (frontier_of k) = c.requires.token ∙ ap (cut c.args.text.now) (sym c.begin_here.ensures.frontier) in
-    let first = c.begin_here.ensures.keeps in
-    let settled = still_settled c.args.kept.now k first.gone first.aside c.begin_here.ensures.gap c.requires.settled in
-    let second = keeps_passing (m.is_state a) (m.means a) (m.rules a) c.args.text.now (g.met.A.Machine.rule_laws a) k c.let_go.new.self c.len-count.result c.args.token c.len-len.ensures.utf8 c.begin_here.ensures.right is c.len-count.ensures settled c.let_go.ensures in
-    let both = keeps_on (m.means a) (m.rules a) c.args.text.now c.args.kept.now k c.let_go.new.self first second in
-    keeps_on (m.means a) (m.rules a) c.args.text.now c.args.kept.now c.let_go.new.self c.step.new.kept both c.step.ensures.keeps
+    let e = c.arrive.ensures ∙ c.kept.view_is in
+    let P : Kept _ → Type 0 = λ k. KeepsMarks (g.A.Machine.means c.args.machine.now) (g.A.Machine.rules c.args.machine.now) c.args.text.now k c.take_here.new.line in subst P e c.take_here.ensures.keeps

@@ -1,28 +1,53 @@
-use Rattle.std.proofs.Common.{◌≡◌, inl, inr, length, reverse, ap, arith}
-use Rattle.std.proofs.lemmas.List.{length-reverse}
+use Rattle.std.proofs.Common.{◌≡◌, ◌⊎◌, ◌<◌, inl, inr, Bool, [], length, refl, ap, subst, sym, arith}
 use Rattle.nx_marks.specs.Chain.{Kept}
-use Rattle.nx_marks.proofs.Rejoining.{rejoin_more, rejoin_ended, nothing}
+use Rattle.nx_marks.specs.Joined.{seen}
+use Rattle.nx_marks.specs.Right.{IsRightForSome}
+use Rattle.nx_marks.specs.Rejoining.{RejoinsOne}
+use Rattle.nx_marks.proofs.Rejoining.{Rejoining, rejoin_began, rejoin_more, rejoin_some, rejoin_ended}
+use Rattle.nx_marks.proofs.Seen.{nothing-joined}
 use Rattle.nx_marks.proofs.rows.rejoin.Goals as goal
+
+pub loop-kept-init : goal.loop-kept-init
+loop-kept-init g c =
+    let m = g.A.Machine in
+    let a = c.args.machine.now in
+    let P : Kept _ → Type 0 = λ j. Rejoining (m.is_state a) (m.means a) (m.rules a) c.args.kept.now j in
+    subst P (sym c.kept.view_is) (rejoin_began (m.is_state a) (m.means a) (m.rules a) (g.met.A.Machine.rule_laws a) c.args.kept.now)
+
+pub rejoin_one-kept-inside-requires-clause-right : goal.rejoin_one-kept-inside-requires-clause-right
+rejoin_one-kept-inside-requires-clause-right g c =
+    let m = g.A.Machine in
+    let a = c.args.machine.now in
+    let P : Bool → Type 0 = λ b. IsRightForSome (m.is_state a) (m.means a) (m.rules a) (seen b c.loop-kept.kept-inside.line) in
+    subst P c.loop-kept-test.true (rejoin_some (m.is_state a) (m.means a) (m.rules a) (g.met.A.Machine.rule_laws a) c.args.kept.now (seen c.loop-kept.kept-inside.joined c.loop-kept.kept-inside.line) c.loop-kept.invariant c.requires)
 
 pub loop-kept-preserved : goal.loop-kept-preserved
 loop-kept-preserved g c =
     let m = g.A.Machine in
     let a = c.args.machine.now in
-    let far = ap (λ (k : Kept _). k.here.len) c.kept.view_is in
-    rejoin_more (m.is_state a) (m.means a) (m.rules a) (g.met.A.Machine.rule_laws a) c.args.kept.now c.loop-kept.kept c.rejoin_one.new.kept c.loop-kept.invariant (grind (arith, far, c.loop-kept-test.true)) c.rejoin_one.ensures
+    let line = c.loop-kept.kept-inside.line in
+    let P : Bool → Type 0 = λ b. Rejoining (m.is_state a) (m.means a) (m.rules a) c.args.kept.now (seen b line) in
+    rejoin_more (m.is_state a) (m.means a) (m.rules a) (g.met.A.Machine.rule_laws a) c.args.kept.now line (seen c.rejoin_one-kept-inside.result c.rejoin_one-kept-inside.new.line) (subst P c.loop-kept-test.true c.loop-kept.invariant)
+    (c.if-is_at_next.ensures.there refl).0 c.rejoin_one-kept-inside.ensures
 
-pub returns-else-not-is_empty : goal.returns-else-not-is_empty
-returns-else-not-is_empty g c =
+pub loop-kept-smaller : goal.loop-kept-smaller
+loop-kept-smaller g c =
+    let line = c.loop-kept.kept-inside.line in
+    let P : Bool → Type 0 = λ b. length (seen c.rejoin_one-kept-inside.result c.rejoin_one-kept-inside.new.line).aside < length (seen b line).aside in
+    subst P (sym c.loop-kept-test.true) c.rejoin_one-kept-inside.ensures.fewer
+
+pub returns-else-is_at_next : goal.returns-else-is_at_next
+returns-else-is_at_next g c =
     let m = g.A.Machine in
     let a = c.args.machine.now in
-    let n : length (reverse c.kept.inside.aside.items) ≡ length c.loop-kept.kept.aside = ap (λ (k : Kept _). length k.aside) c.kept.view_is in
-    let l = length-reverse c.kept.inside.aside.items in
-    let none = nothing c.loop-kept.kept.aside (grind (arith, n, l, c.if-not-is_empty.false, c.is_empty.ensures)) in
-    rejoin_ended (m.is_state a) (m.means a) (m.rules a) (g.met.A.Machine.rule_laws a) c.args.kept.now c.loop-kept.kept c.loop-kept.invariant (inr none)
+    let line = c.loop-kept.kept-inside.line in
+    let D : Bool → Type 0 = λ b. (0 < (seen b line).here.len) ⊎ ((seen b line).aside ≡ []) in
+    rejoin_ended (m.is_state a) (m.means a) (m.rules a) (g.met.A.Machine.rule_laws a) c.args.kept.now (seen c.loop-kept.kept-inside.joined line) c.loop-kept.invariant
+    (subst D (sym c.loop-kept-test.true) (c.if-is_at_next.ensures.not refl))
 
 pub returns-after-loop-kept : goal.returns-after-loop-kept
 returns-after-loop-kept g c =
     let m = g.A.Machine in
     let a = c.args.machine.now in
-    let far = ap (λ (k : Kept _). k.here.len) c.kept.view_is in
-    rejoin_ended (m.is_state a) (m.means a) (m.rules a) (g.met.A.Machine.rule_laws a) c.args.kept.now c.loop-kept.kept c.loop-kept.invariant (inl (grind (arith, far, c.loop-kept-test.false)))
+    let line = c.loop-kept.kept-inside.line in
+    rejoin_ended (m.is_state a) (m.means a) (m.rules a) (g.met.A.Machine.rule_laws a) c.args.kept.now (seen c.loop-kept.kept-inside.joined line) c.loop-kept.invariant (inr (nothing-joined c.loop-kept.kept-inside.joined line c.loop-kept-test.false))

@@ -1,32 +1,24 @@
-use Rattle.std.proofs.Common.{◌≡◌, ◌+◌, ◌<◌, ◌^◌, List, [], ◌∷◌, ◌++◌, take, ap, subst, sym, ◌∙◌, arith}
-use Rattle.std.proofs.lemmas.List.{take_more}
-use Rattle.nx_marks.specs.Chain.{Kept, FaultsFit, faults_in, reach}
-use Rattle.nx_marks.specs.declared.mark.Mark.{Mark}
-use Rattle.nx_marks.proofs.Listing.{fits_wider, reach_at, one-more-listed, one-more-reached}
+use Rattle.std.proofs.Common.{◌≡◌, ◌++◌, ap, subst, sym, ◌∙◌}
+use Rattle.nx_marks.specs.Chain.{FaultsFit, Kept, faults_in, frontier_of}
+use Rattle.nx_marks.specs.Joined.{but_last}
+use Rattle.nx_marks.proofs.Finding.{front-fits, behind-fits, faults-seen, seen-plain}
 use Rattle.nx_marks.proofs.kept.Kept.faults.Goals as goal
+use Rattle.nx_marks.proofs.kept.Kept.faults.Goals.{then-self+in_ok-add_faults_behind, else-self}
 
-pub add_faults-requires : goal.add_faults-requires
-add_faults-requires g c =
-    let items = c.deref-mark-items.result.now in
-    let same : items ≡ c.args.self.now.front = c.deref-mark-items.ensures.value ∙ ap (λ (k : Kept _). k.front) c.self.view_is in
-    let P : List (Mark _) → Type 0 = λ l. FaultsFit l in
-    let small : reach items < 2 ^ 64 = (let e = ap reach same in omega (arith, c.requires.small)) in
-    fits_wider items c.loop-mark.mark-index c.loop-mark.place c.mark-item.result (subst P (sym same) c.requires.fit) small (omega (arith, c.loop-mark-test.true)) c.mark-item.is c.loop-mark.invariant.1
+pub faults-requires : goal.faults-requires
+faults-requires g c =
+    let P : Kept _ → Type 0 = λ k. FaultsFit k.front in
+    front-fits c.self.inside.joined c.self.inside.line (subst P (sym c.self.view_is) c.requires)
 
-pub overflow_add-place : goal.overflow_add-place
-overflow_add-place g c =
-    let items = c.deref-mark-items.result.now in
-    let same : items ≡ c.args.self.now.front = c.deref-mark-items.ensures.value ∙ ap (λ (k : Kept _). k.front) c.self.view_is in
-    let e = ap reach same in
-    let n = reach_at items c.loop-mark.mark-index c.mark-item.result (omega (arith, c.loop-mark-test.true)) c.mark-item.is in
-    omega (arith, c.requires.small, c.loop-mark.invariant.1)
+pub add_faults_behind-requires : goal.add_faults_behind-requires
+add_faults_behind-requires g c =
+    let P : Kept _ → Type 0 = λ k. FaultsFit k.front in
+    behind-fits c.self.inside.joined c.self.inside.line c.if-self.true (subst P (sym c.self.view_is) c.requires)
 
-pub loop-mark-preserved : goal.loop-mark-preserved
-loop-mark-preserved g c =
-    let items = c.deref-mark-items.result.now in
-    let i = c.loop-mark.mark-index in
-    let x = c.mark-item.result in
-    let list : take (i + 1) items ≡ take i items ++ x ∷ [] = take_more items i x (omega (arith, c.loop-mark-test.true)) ∙ ap (λ y. take i items ++ y ∷ []) (sym c.mark-item.is) in (
-      one-more-listed (take i items) x c.loop-mark.faults c.add_faults.new.faults c.loop-mark.place c.loop-mark.invariant.0 c.loop-mark.invariant.1 c.in_ok-add_faults.ensures ∙ ap (faults_in 0) (sym list),
-      one-more-reached (take i items) x c.loop-mark.place c.loop-mark.invariant.1 ∙ ap reach (sym list),
-    )
+pub returns : goal.returns
+returns g c =
+    let P : Kept _ → Type 0 = λ k. c.if-self.faults ≡ faults_in 0 k.front in
+    subst P c.self.view_is (elim c.if-self.branch [
+      | then-self+in_ok-add_faults_behind w ↦ w.faults-is ∙ w.in_ok-add_faults_behind.ensures ∙ ap (λ l. l ++ faults_in (frontier_of c.self.inside.line) (but_last c.self.inside.line.here c.self.inside.line.aside)) c.in_ok-faults.ensures ∙ sym (faults-seen c.self.inside.joined c.self.inside.line w.if-self.true)
+      | else-self w ↦ w.faults-is ∙ c.in_ok-faults.ensures ∙ sym (seen-plain c.self.inside.joined c.self.inside.line w.if-self.false)
+    ])

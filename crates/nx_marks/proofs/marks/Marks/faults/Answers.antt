@@ -6,8 +6,8 @@ use Rattle.nx_marks.proofs.Reading.{all_faults}
 use Rattle.nx_marks.proofs.Stepping.{own_states, back_within}
 use Rattle.nx_marks.proofs.marks.Marks.faults.Goals as goal
 
-pub faults-requires-clause-fit : goal.faults-requires-clause-fit
-faults-requires-clause-fit g c =
+pub faults-requires : goal.faults-requires
+faults-requires g c =
     let m = g.A.Machine in
     let a = c.args.machine.now in
     faults_fit (m.is_state a) (m.means a) (m.rules a) c.requires.right.text (g.met.A.Machine.rule_laws a) c.args.self.now.kept c.requires.right.right

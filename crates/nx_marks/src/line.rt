@@ -1,0 +1,657 @@
+//! Marks in a line, parted at a place.
+
+ghost use Rattle.std.specs.Prelude.{◌≡◌, ◌⊎◌, ℕ, ◌+◌, ◌-◌, ◌<◌, ◌≤◌, ◌^◌, [], ◌∷◌, length, true, false, reverse, IsTrue, ◌↔◌, ◌++◌, ◌∷◌, IfOk, OnOk, OnErr};
+ghost use Rattle.std.specs.List.{AllByRecursion};
+ghost use Rattle.nx_base.specs.Rules.{IsWithin};
+ghost use Rattle.nx_base.specs.Shifting.{placed};
+ghost use Rattle.nx_marks.specs.Chain.{AreWhole, FirstMeans, FaultsFit, OwnStates, all_of, faults_in, frontier_of, reach};
+ghost use Rattle.nx_marks.specs.Editing.{edit_noted, noted};
+ghost use Rattle.nx_marks.specs.Frontier.{FrontierAfterEdit};
+ghost use Rattle.nx_marks.specs.Right.{IsRight, tags_behind};
+ghost use Rattle.nx_marks.specs.Before.{IsLast, LiesInFront, marks_with};
+ghost use Rattle.nx_marks.specs.Joined.{but_last, last, seen};
+ghost use Rattle.nx_marks.specs.Bound.{WillReach};
+ghost use Rattle.nx_marks.specs.Keeping.{KeepsMarks};
+ghost use Rattle.nx_marks.specs.Ruling.{is_due};
+ghost use Rattle.nx_marks.specs.Tags.{tag_of};
+ghost use Rattle.nx_base.specs.Tokens.{cut};
+ghost use Rattle.nx_marks.specs.Starting.{started};
+ghost use Rattle.nx_marks.specs.Taking.{begun, let_go};
+ghost use Rattle.nx_marks.specs.Walking.{StepsBack, StepsOn, DropsNext, DropsBetween, PassesNext, PassesUpTo, TakesNext};
+ghost use Rattle.nx_marks.specs.Walking.{GoesBack, GoesOn, ComesBack, Follows, Fits, cut_off};
+
+use crate::mark::Mark;
+use crate::stack::Stack;
+use crate::stored::{Stored, copied, step_stored};
+use nx_base::edit::Edit;
+use nx_base::fault::Faults;
+use nx_base::machine::Machine;
+use nx_base::memory::NoMemory;
+use nx_base::sequence::TryCopy;
+use nx_base::token::{Token, TokenKind};
+use nx_text::text::Text;
+use std::alloc::Global;
+use std::marker::Model;
+use std::mem;
+
+/// The marks up to a place, the one there, and the marks behind it, which are aside. `front` has room for all that is aside and
+/// `aside` for all of the front, so that marks move from one to the other without memory.
+#[derive(Drop)]
+pub struct Line<S> {
+    pub(crate) front: Stack<S>,
+    pub(crate) here: Mark<S>,
+    /// Whether a mark stands at the frontier.
+    pub(crate) marked: bool,
+    /// The lowest of them is the last, so that the next one is at hand.
+    pub(crate) aside: Stack<S>,
+}
+
+impl<S> Model for Line<S> {
+    ghost use Rattle.std.specs.Prelude.{reverse};
+    ghost use Rattle.nx_marks.specs.Chain.{Kept};
+    ghost use Rattle.nx_marks.specs.Room.{Held};
+
+    ghost Value = { Kept S };
+
+    ghost view = { λ k. record { front = k.front.marks; here = k.here; marked = k.marked; aside = reverse k.aside.marks } };
+
+    ghost invariant = { λ k. Held k.front.marks k.here k.aside.marks k.front.room k.aside.room };
+}
+
+/// Drops all faults.
+fn clear(faults: &mut Faults)
+    ensures { faults.new ≡ [] }
+{
+    let count = faults.len();
+    faults.cut(0, count);
+}
+
+/// Adds faults whose places are counted from a place.
+fn add_faults(faults: &mut Faults, more: &Faults, place: usize) -> Result<(), NoMemory>
+    requires { AllByRecursion (IsWithin (2 ^ 64 - 1 - place)) more.now }
+    ensures { OnOk result (faults.new ≡ faults.old ++ placed place more.now) }
+{
+    if more.is_empty() {
+        return Ok(());
+    }
+    let mut moved = more.copy()?;
+    moved.shift(&Edit {
+        from: 0,
+        to: 0,
+        added: place,
+    });
+    faults.append(moved)?;
+    Ok(())
+}
+
+impl<S: Drop> Line<S> {
+    /// Nothing is taken yet.
+    pub(crate) fn start(alloc: Global, state: Stored<S>) -> Line<S>
+        ensures { result ≡ started state }
+    {
+        Line {
+            front: Stack::new(alloc),
+            here: Mark {
+                state,
+                len: 0,
+                tags: 0,
+                faults: Faults::new(alloc),
+                whole: false,
+                saved: false,
+            },
+            marked: true,
+            aside: Stack::new(alloc),
+        }
+    }
+
+    /// Goes one mark back.
+    pub(crate) fn step_back(&mut self)
+        requires { 0 < length self.old.front }
+        ensures { StepsBack self.old self.new }
+    {
+        let mark = self.front.pop();
+        let behind = mem::replace(&mut self.here, mark);
+        self.aside.push(behind);
+    }
+
+    /// Goes one mark on.
+    pub(crate) fn step_on(&mut self)
+        requires { 0 < length self.old.aside }
+        ensures { StepsOn self.old self.new }
+    {
+        let mark = self.aside.pop();
+        let before = mem::replace(&mut self.here, mark);
+        self.front.push(before);
+    }
+
+    /// Drops the first mark aside. How far on the next one is.
+    pub(crate) fn drop_next(&mut self) -> usize
+        requires { 0 < length self.old.aside }
+        ensures { DropsNext self.old self.new result }
+    {
+        let mark = self.aside.pop();
+        mark.len
+    }
+
+    /// Where the next mark lies, if there is one.
+    fn next(&self) -> usize
+        ensures { result ≡ frontier_of self.now + self.now.here.len }
+    {
+        self.front.reach() + self.here.len
+    }
+
+    /// Whether the next mark is at the same place.
+    pub(crate) fn is_at_next(&self) -> bool
+        ensures there { IsTrue result → (self.now.here.len ≡ 0) × (0 < length self.now.aside) }
+        ensures not { result ≡ false → (0 < self.now.here.len) ⊎ (self.now.aside ≡ []) }
+    {
+        self.here.len == 0 && !self.aside.is_empty()
+    }
+
+    /// Goes back to the last mark before a place, or to the start.
+    fn go_back(&mut self, from: usize)
+        requires { from ≤ frontier_of self.old }
+        ensures { GoesBack from self.old self.new }
+    {
+        while self.front.reach() >= from && !self.front.is_empty() {
+            self.step_back();
+        }
+    }
+
+    /// Goes on to the last mark before a place.
+    fn go_on(&mut self, from: usize)
+        requires { frontier_of self.old < from }
+        ensures { GoesOn from self.old self.new }
+    {
+        while !self.aside.is_empty() && self.next() < from {
+            self.step_on();
+        }
+    }
+
+    /// Has the last mark of all say that it is no mark, unless it is whole.
+    pub(crate) fn note_last(&mut self)
+        ensures { seen true self.new ≡ noted (seen true self.old) }
+    {
+        if self.aside.is_empty() {
+            self.here.saved = false;
+        } else {
+            self.aside.unsave_lowest();
+        }
+    }
+
+    /// Goes back until so many marks are in front.
+    fn come_back(&mut self, len: usize)
+        requires { len ≤ length self.old.front }
+        ensures { ComesBack len self.old self.new }
+    {
+        while self.front.len() > len {
+            self.step_back();
+        }
+    }
+
+    /// Lets the marks go that lie in an edit, and what was known of the tokens in front of it. The mark at hand is the last
+    /// before the edit, or the start.
+    fn cut_off(&mut self, edit: &Edit)
+        requires before { (frontier_of self.old < edit.now.from) ⊎ (frontier_of self.old ≡ 0) }
+        requires there { (self.old.aside ≡ []) ⊎ (edit.now.from ≤ frontier_of self.old + self.old.here.len) }
+        ensures cut { edit.now.from ≤ edit.now.to → Fits edit.now.from edit.now.to edit.now.added self.old
+            → self.new ≡ cut_off edit.now.from edit.now.to edit.now.added self.old }
+        ensures front { self.new.front ≡ self.old.front }
+        ensures marked { self.new.marked ≡ self.old.marked }
+    {
+        let next = self.next();
+        if next < edit.from {
+            return;
+        }
+        let kept = self.drop_between(next, edit.to);
+        let moved = edit
+            .from
+            .saturating_add(edit.added)
+            .saturating_add(kept.saturating_sub(edit.to));
+        let at = self.front.reach();
+        let room = usize::MAX - at - self.aside.reach();
+        self.here.len = moved.saturating_sub(at).min(room);
+        self.here.tags = 0;
+        self.here.saved = self.here.is_mark();
+        self.here.whole = false;
+        clear(&mut self.here.faults);
+    }
+
+    /// Drops the marks aside up to a place; the first of them lies at `next`. Where the first that stays lies.
+    fn drop_between(&mut self, next: usize, to: usize) -> usize
+        ensures { DropsBetween next to self.old self.new result }
+    {
+        let mut place = next;
+        while !self.aside.is_empty() && place <= to {
+            let len = self.drop_next();
+            place = place.saturating_add(len);
+        }
+        place
+    }
+
+    /// Has the state at the frontier say that it is no mark, since an edit may put it aside, where a row ends with it.
+    pub(crate) fn note(&mut self)
+        ensures { self.new ≡ noted self.old }
+    {
+        self.here.saved = false;
+    }
+
+    /// An edit behind the frontier, which is at the place: marks aside from the edit on are dropped.
+    pub(crate) fn edit_behind(&mut self, edit: &Edit)
+        requires { frontier_of self.old < edit.now.from }
+        ensures frontier { FrontierAfterEdit edit.now.from (frontier_of self.old) (frontier_of self.new) }
+        ensures edited { edit.now.from ≤ edit.now.to → Fits edit.now.from edit.now.to edit.now.added self.old
+            → AreWhole self.old.front → self.old.here.whole ≡ false
+            → self.new ≡ edit_noted edit.now.from edit.now.to edit.now.added self.old }
+    {
+        let len = self.front.len();
+        self.go_on(edit.from);
+        self.cut_off(edit);
+        self.come_back(len);
+    }
+
+    /// An edit at or before the frontier: it goes back before the edit, and the marks from there on are dropped or aside.
+    pub(crate) fn edit_at(&mut self, joined: bool, edit: &Edit)
+        requires { edit.now.from ≤ frontier_of (seen joined self.old) }
+        ensures frontier { FrontierAfterEdit edit.now.from (frontier_of (seen joined self.old)) (frontier_of self.new) }
+        ensures edited { edit.now.from ≤ edit.now.to → Fits edit.now.from edit.now.to edit.now.added (seen joined self.old)
+            → AreWhole (seen joined self.old).front → (seen joined self.old).here.whole ≡ false
+            → self.new ≡ edit_noted edit.now.from edit.now.to edit.now.added (seen joined self.old) }
+    {
+        self.go_before(joined, edit.from);
+        self.cut_off(edit);
+        self.marked = true;
+    }
+
+    /// Goes to the last mark before a place that isn't behind the frontier, or to the start.
+    fn go_before(&mut self, joined: bool, from: usize)
+        requires { from ≤ frontier_of (seen joined self.old) }
+        ensures { GoesBack from (seen joined self.old) self.new }
+    {
+        if joined && self.front.reach() < from {
+            self.go_on(from);
+        } else {
+            self.go_back(from);
+        }
+    }
+
+    /// Goes on to the frontier.
+    pub(crate) fn arrive(&mut self, joined: bool)
+        ensures { self.new ≡ seen joined self.old }
+    {
+        while joined && !self.aside.is_empty() {
+            self.step_on();
+        }
+    }
+
+    /// Drops the first mark aside, since the frontier is there or goes past it.
+    pub(crate) fn pass_next(&mut self)
+        requires { 0 < length self.old.aside }
+        ensures { PassesNext self.old self.new }
+    {
+        let mark = self.aside.pop();
+        self.here.len += mark.len;
+    }
+
+    /// Drops the marks aside until the next one is so many bytes behind the frontier, or none is left.
+    fn pass_up_to(&mut self, count: usize)
+        ensures { PassesUpTo count self.old self.new }
+    {
+        while !self.aside.is_empty() && self.here.len < count {
+            self.pass_next();
+        }
+    }
+
+    /// Drops the marks aside that so many bytes behind the frontier pass.
+    pub(crate) fn let_go(&mut self, count: usize)
+        requires { frontier_of self.old + count < 2 ^ 64 }
+        ensures { self.new ≡ let_go count self.old.here self.old.front self.old.marked self.old.aside }
+    {
+        self.pass_up_to(count);
+        if !self.aside.is_empty() {
+            return;
+        }
+        self.here.len = count;
+    }
+
+    /// Goes on to the end of the row that begins with the mark at hand.
+    pub(crate) fn follow(&mut self)
+        ensures { Follows self.old self.new }
+    {
+        while self.here.whole && !self.aside.is_empty() {
+            self.step_on();
+        }
+    }
+
+    /// Puts the first mark aside in the place of the one at hand.
+    pub(crate) fn take_next(&mut self)
+        requires { 0 < length self.old.aside }
+        ensures { TakesNext self.old self.new }
+    {
+        let mark = self.aside.pop();
+        self.here = mark;
+    }
+
+    /// How many marks are in front.
+    pub(crate) fn front_len(&self) -> usize
+        ensures { result ≡ length self.now.front }
+    {
+        self.front.len()
+    }
+
+    /// How many tags lie behind the last mark of the front.
+    pub(crate) fn last_tags(&self) -> usize
+        ensures { result ≡ tags_behind self.now.front }
+    {
+        match self.front.as_slice().last() {
+            Some(mark) => mark.tags,
+            None => 0,
+        }
+    }
+
+    /// Whether the mark at hand and all that is aside are one row, with a segment at the least.
+    pub(crate) fn is_row(&self) -> bool
+        ensures some { IsTrue result → 0 < length self.now.aside }
+        ensures row { IsTrue result → Follows self.now (seen true self.now) }
+    {
+        self.here.whole && self.aside.is_row()
+    }
+
+    /// The state at the frontier.
+    pub(crate) fn state(&self, joined: bool) -> &S
+        ensures { result.now ≡ (seen joined self.now).here.state }
+    {
+        if joined {
+            self.last().state.get()
+        } else {
+            self.here.state.get()
+        }
+    }
+
+    /// The last mark of all.
+    pub(crate) fn last(&self) -> &Mark<S>
+        ensures { result.now ≡ last self.now.here self.now.aside }
+    {
+        match self.aside.as_slice().first() {
+            Some(mark) => mark,
+            None => &self.here,
+        }
+    }
+
+    /// How many tags lie in front of the last mark of all, behind the one before it.
+    pub(crate) fn tags_before_last(&self) -> usize
+        requires { 0 < length self.now.aside }
+        ensures { result ≡ tags_behind (seen true self.now).front }
+    {
+        match self.aside.as_slice().get(1) {
+            Some(mark) => mark.tags,
+            None => self.here.tags,
+        }
+    }
+
+    /// Where the last mark of all lies.
+    fn end(&self) -> usize
+        ensures { result ≡ frontier_of (seen true self.now) }
+    {
+        match self.aside.as_slice().first() {
+            Some(last) => self.front.reach() + self.here.len + self.aside.reach() - last.len,
+            None => self.front.reach(),
+        }
+    }
+
+    /// The frontier as a byte offset.
+    pub(crate) fn frontier(&self, joined: bool) -> usize
+        ensures { result ≡ frontier_of (seen joined self.now) }
+    {
+        if joined {
+            self.end()
+        } else {
+            self.front.reach()
+        }
+    }
+
+    /// The last mark of the front at or before a place: how many are in front of it, and its byte offset.
+    fn find_in_front(&self, at: usize) -> (usize, usize)
+        requires { 0 < length self.now.front }
+        ensures { LiesInFront at self.now.front result.0 result.1 }
+    {
+        let marks = self.front.as_slice();
+        let mut index = marks.len();
+        let mut place = self.front.reach();
+        while index > 0 {
+            index -= 1;
+            place -= marks[index].len;
+            if place <= at {
+                return (index, place);
+            }
+        }
+        unreachable!()
+    }
+
+    /// The marks behind the one at hand up to the frontier, the lowest first.
+    fn marks_aside(&self) -> &[Mark<S>]
+        requires { 0 < length self.now.aside }
+        ensures { marks_with (but_last self.now.here self.now.aside) (last self.now.here self.now.aside) self.now.marked
+            ≡ self.now.here ∷ reverse result.now }
+    {
+        let marks = self.aside.as_slice();
+        if self.marked { marks } else { &marks[1..] }
+    }
+
+    /// The last mark aside up to the frontier that is at or before a place, or the one at hand, with its byte offset.
+    fn find_aside(&self, at: usize) -> (usize, &Mark<S>)
+        requires some { 0 < length self.now.aside }
+        requires there { frontier_of self.now ≤ at }
+        ensures { IsLast at result.0 (seen true self.now) result.1.now }
+    {
+        let mut left = self.marks_aside();
+        let mut place = self.front.reach();
+        let mut mark = &self.here;
+        while let Some((next, rest)) = left.split_last() {
+            if place + mark.len > at {
+                return (place, mark);
+            }
+            place += mark.len;
+            mark = next;
+            left = rest;
+        }
+        (place, mark)
+    }
+
+    /// The last mark at or before both a place and the one at hand, or the start, with its byte offset.
+    fn mark_up_to_here(&self, at: usize) -> (usize, &Mark<S>)
+        requires { self.now.marked ≡ false → 0 < length self.now.front }
+        ensures { IsLast at result.0 self.now result.1.now }
+    {
+        let here = self.front.reach();
+        if self.front.is_empty() {
+            return (here, &self.here);
+        }
+        if self.marked && here <= at {
+            return (here, &self.here);
+        }
+        let (index, place) = self.find_in_front(at);
+        let marks = self.front.as_slice();
+        (place, &marks[index])
+    }
+
+    /// The last mark at or before both a place and the frontier, or the start, with its byte offset.
+    pub(crate) fn mark_before(&self, joined: bool, at: usize) -> (usize, &Mark<S>)
+        requires { (seen joined self.now).marked ≡ false → 0 < length (seen joined self.now).front }
+        ensures { IsLast at result.0 (seen joined self.now) result.1.now }
+    {
+        if !joined || self.aside.is_empty() {
+            return self.mark_up_to_here(at);
+        }
+        if self.front.reach() <= at {
+            return self.find_aside(at);
+        }
+        let (index, place) = self.find_in_front(at);
+        let marks = self.front.as_slice();
+        (place, &marks[index])
+    }
+
+    /// The faults of the segments in front, in their places.
+    pub(crate) fn faults(&self, alloc: Global) -> Result<Faults, NoMemory>
+        requires { FaultsFit self.now.front }
+        ensures { IfOk result (λ faults. faults ≡ faults_in 0 self.now.front) }
+    {
+        let mut faults = Faults::new(alloc);
+        if self.front.has_no_faults() {
+            return Ok(faults);
+        }
+        let mut place = 0;
+        for mark in self.front.as_slice().iter() {
+            add_faults(&mut faults, &mark.faults, place)?;
+            place += mark.len;
+        }
+        Ok(faults)
+    }
+
+    /// Adds the faults of the segments from the mark at hand on, in their places.
+    pub(crate) fn add_faults_behind(&self, faults: &mut Faults) -> Result<(), NoMemory>
+        requires { FaultsFit (but_last self.now.here self.now.aside) }
+        ensures { OnOk result (faults.new ≡ faults.old ++ faults_in (frontier_of self.now) (but_last self.now.here self.now.aside)) }
+    {
+        if self.here.faults.is_empty() && self.aside.has_no_faults() {
+            return Ok(());
+        }
+        let mut place = self.front.reach();
+        let mut mark = &self.here;
+        let mut left = self.aside.as_slice();
+        while let Some((next, rest)) = left.split_last() {
+            add_faults(faults, &mark.faults, place)?;
+            place += mark.len;
+            mark = next;
+            left = rest;
+        }
+        Ok(())
+    }
+
+    /// Saves the state at the frontier as a mark, and goes on from there with a state that means the same.
+    pub(crate) fn begin(&mut self, alloc: Global, state: S) -> Result<(), NoMemory>
+        ensures ok { OnOk result (self.new ≡ begun self.old state) }
+        ensures err { OnErr result (self.new ≡ self.old) }
+    {
+        let fresh = Stored::new(alloc, state)?;
+        self.front.reserve(self.aside.len() + 1)?;
+        self.aside.reserve(self.front.len() + 1)?;
+        let mark = mem::replace(&mut self.here.state, fresh);
+        self.front.push(Mark {
+            state: mark,
+            len: 0,
+            tags: 0,
+            faults: Faults::new(alloc),
+            whole: true,
+            saved: true,
+        });
+        self.marked = false;
+        Ok(())
+    }
+}
+
+/// Whether the first mark aside is a state that means what the one at the frontier does.
+pub(crate) fn next_is_same<A: Machine>(machine: &A, line: &Line<A::State>) -> bool
+    requires { OwnStates (A.is_state machine.now) line.now }
+    ensures { IsTrue result ↔ FirstMeans (A.means machine.now) (A.means machine.now line.now.here.state) line.now.aside }
+{
+    match line.aside.as_slice().last() {
+        Some(mark) => machine.same(mark.state.get(), line.here.state.get()),
+        None => false,
+    }
+}
+
+/// Whether a mark is saved behind a token: no text run is pending, and as many tags lie since the last mark as elements are open,
+/// and 16 at the least.
+pub(crate) fn is_due<A: Machine>(machine: &A, state: &Stored<A::State>, tags: usize) -> bool
+    requires { A.is_state machine.now state.now }
+    ensures { result ≡ is_due (A.rules machine.now) (A.means machine.now state.now) tags }
+{
+    let state = state.get();
+    machine.may_mark(state) && machine.depth(state).max(16) <= tags
+}
+
+/// Saves the state at the frontier where a mark stands there, and goes on with a copy.
+pub(crate) fn begin_here<A: Machine>(
+    alloc: Global,
+    machine: &A,
+    text: &Text,
+    line: &mut Line<A::State>,
+) -> Result<(), NoMemory>
+    requires { IsRight (A.is_state machine.now) (A.means machine.now) (A.rules machine.now) text.now line.old }
+    ensures right { IsRight (A.is_state machine.now) (A.means machine.now) (A.rules machine.now) text.now line.new }
+    ensures unmarked { OnOk result (line.new.marked ≡ false) }
+    ensures frontier { frontier_of line.new ≡ frontier_of line.old }
+    ensures near { (n end : ℕ) → WillReach (A.means machine.now) (A.rules machine.now) text.now n end line.old
+        → WillReach (A.means machine.now) (A.rules machine.now) text.now n end line.new }
+    ensures gap { line.new.here.len ≡ line.old.here.len }
+    ensures keeps { KeepsMarks (A.means machine.now) (A.rules machine.now) text.now line.old line.new }
+{
+    let _len = text.len();
+    if !line.marked {
+        return Ok(());
+    }
+    let state = copied(alloc, machine, &line.here.state)?;
+    line.begin(alloc, state)?;
+    Ok(())
+}
+
+/// How many tags a token of a kind is.
+fn tags_of(kind: TokenKind) -> usize
+    ensures { result ≡ tag_of kind }
+{
+    match kind {
+        TokenKind::Start | TokenKind::Empty | TokenKind::End => 1,
+        _ => 0,
+    }
+}
+
+/// Steps over the token at the frontier, which no mark aside lies in, and gives its memory back. A mark stands behind it where
+/// one is due.
+pub(crate) fn step<A: Machine>(
+    alloc: Global,
+    machine: &mut A,
+    text: &Text,
+    line: &mut Line<A::State>,
+    token: Token,
+) -> Result<Vec<u8>, NoMemory>
+    requires right { IsRight (A.is_state machine.old) (A.means machine.old) (A.rules machine.old) text.now line.old }
+    requires unmarked { line.old.marked ≡ false }
+    requires rest { frontier_of line.old < length text.now }
+    requires token { token ≡ cut text.now (frontier_of line.old) }
+    requires far { length token.bytes ≤ line.old.here.len }
+    ensures later { A.later machine.old machine.new }
+    ensures right { IsRight (A.is_state machine.new) (A.means machine.new) (A.rules machine.new) text.now line.new }
+    ensures on { OnOk result (frontier_of line.new ≡ frontier_of line.old + length token.bytes) }
+    ensures near { OnOk result ((n end : ℕ) → WillReach (A.means machine.old) (A.rules machine.old) text.now n end line.old
+        → 0 < line.old.here.len → (0 < n) × WillReach (A.means machine.new) (A.rules machine.new) text.now (n - 1) end line.new) }
+    ensures off { OnErr result (frontier_of line.new ≡ frontier_of line.old) }
+    ensures keeps { KeepsMarks (A.means machine.old) (A.rules machine.old) text.now line.old line.new }
+{
+    let _len = text.len();
+    let mut token = token;
+    let mut last = line.front.pop();
+    // The faults of a segment are counted from its mark.
+    token.from = last.len;
+    match step_stored(
+        alloc,
+        machine,
+        &mut line.here.state,
+        &token,
+        &mut last.faults,
+    ) {
+        Ok(()) => {
+            let len = token.bytes.len();
+            last.len += len;
+            last.tags += tags_of(token.kind);
+            line.here.len -= len;
+            line.marked = is_due(machine, &line.here.state, last.tags);
+            line.front.push(last);
+            Ok(token.bytes.into_vec())
+        }
+        Err(error) => {
+            line.front.push(last);
+            Err(error)
+        }
+    }
+}
