@@ -68,6 +68,10 @@ asks_stays old new before after (calls.Enter s ns local) x told later grown asks
     )
 asks_stays old new before after (calls.TagEnd s) x told later grown asks = (number_stays old new s x later asks.0, asks.1)
 asks_stays old new before after (calls.Leave s) x told later grown asks = (number_stays old new s x later asks.0, asks.1)
+asks_stays old new before after (calls.Blank s) x told later grown asks = absurd asks
+asks_stays old new before after (calls.Solid s) x told later grown asks = absurd asks
+asks_stays old new before after (calls.BlankValue s ns local) x told later grown asks = absurd asks
+asks_stays old new before after (calls.SolidValue s ns local) x told later grown asks = absurd asks
 
 keeps_same : (m : Remembered) → KeepsNoted m m
 keeps_same m = record { texts = record { grows = omega arith; stays = λ i here. refl }; calls = λ call some. some }

@@ -24,6 +24,6 @@ returns-clause-right c =
     let new = c.answer.new.states in
     let memory = c.args.memory.now in
     answers_noted g new memory c.note.new.self c.args.call c.as_number.result c.in_ok-note.ensures.made
-    (answer_is g old new memory.texts c.args.call c.args.state.number _ c.as_number.result c.in_ok-found.found c.answer.ensures.later c.requires.asked c.requires.of
+    (answer_is g old new memory.texts c.args.call c.args.state.number _ c.as_number.result c.in_ok-found.found c.answer.ensures.later c.requires.asked c.requires.alike c.requires.of
     c.requires.state (c.requires.behind (means_in old c.args.state)) c.as_number.ensures c.in_ok-found.ensures.gives)
     (answers_on g old new memory c.answer.ensures.later c.requires.right)
