@@ -1,8 +1,8 @@
 -- Answers that are kept stay right while states come, and are found again.
-use Rattle.std.specs.Prelude.{◌≡◌, ℕ, ◌<◌, List, [], length, slice_index_or, Bool, true, false, is_some, Option, None, Some, IfSome, option_map, ◌⊎◌}
+use Rattle.std.specs.Prelude.{◌≡◌, ℕ, ◌<◌, List, [], length, Bool, true, false, is_some, Option, None, Some, IfSome}
 use Rattle.std.specs.Map.{lookup}
 use Rattle.std.specs.Coded.{coded_option, le_prop, Coded-set}
-use Rattle.std.proofs.Common.{refl, sym, ap, subst, ◌∙◌, ⊎_elim, arith, zero, suc}
+use Rattle.std.proofs.Common.{refl, sym, ap, subst, ◌∙◌, ⊎_elim, arith}
 use Rattle.std.proofs.lemmas.Bool.{false≢true}
 use Rattle.std.proofs.Math.Bool.{Bool-set}
 use Rattle.std.proofs.Math.Logic.{∥∥₁_elim, ∥∥₁_map}
@@ -16,12 +16,12 @@ use Rattle.rng_live.specs.Calls.{Answers, Call, call_enter, call_tag_end, call_l
 use Rattle.deriv_states.specs.Places.{Places, LaterPlaces, state_in, IsState as IsNumber}
 use Rattle.deriv_states.specs.Codes.{residual_code}
 use Rattle.deriv_states.specs.Tables.{AreApart}
-use Rattle.deriv_states.specs.Telling.{tells_texts, tells_values_of}
+use Rattle.deriv_states.specs.Telling.{tells_values_of}
 use Rattle.deriv_memory.specs.declared.asked.Asked.{Asked}
 use Rattle.deriv_memory.specs.declared.asked.Asked.TheVariants as calls
 use Rattle.deriv_memory.specs.Calls.{state_of, same_asked, calls_decided}
-use Rattle.deriv_memory.specs.Remembered.{Remembered, noted, IsText, IsName, AreOnce, TextsGrow, LaterMemory, IsNoted}
-use Rattle.deriv_memory.proofs.Laws.{name_stays, one_name, noted_from}
+use Rattle.deriv_memory.specs.Remembered.{Remembered, noted, IsName, AreOnce, TextsGrow, LaterMemory, IsNoted}
+use Rattle.deriv_memory.proofs.Laws.{one_name, noted_from}
 use Rattle.deriv_pool.specs.Meaning.{IsState, means_in}
 use Rattle.deriv_pool.specs.declared.state.PoolState.{PoolState}
 use Rattle.deriv_pool.specs.Remembering.{name_in, a_blank, a_solid, behind, IsAlike, IsAsked, as_states, IsAnswer, AreAnswers, Asks, Remembers, KeepsNoted}

@@ -1,5 +1,5 @@
 -- Calls whose answers are kept.
-use Rattle.std.specs.Prelude.{◌≡◌, ℕ, ◌<◌, List, [], length, slice_index_or, Bool, true, false, is_some, Option, None, Some, option_map, codes}
+use Rattle.std.specs.Prelude.{◌≡◌, ℕ, ◌<◌, List, [], length, slice_index_or, true, false, is_some, Option, Some, option_map, codes}
 use Rattle.nx_base.specs.declared.name.Name.{Name}
 use Rattle.rng_core.specs.Patterns.{Definition}
 use Rattle.rng_kept.specs.Residuals.{Residual}

@@ -155,9 +155,19 @@ pub(crate) fn recalled_attribute(
 {
     let (ns, local) = memory.number_of_name(name)?;
     if is_blank(value.as_slice()) {
-        return recalled(states, memory, defs, Asked::BlankValue(state.number, ns, local));
+        return recalled(
+            states,
+            memory,
+            defs,
+            Asked::BlankValue(state.number, ns, local),
+        );
     }
-    recalled(states, memory, defs, Asked::SolidValue(state.number, ns, local))
+    recalled(
+        states,
+        memory,
+        defs,
+        Asked::SolidValue(state.number, ns, local),
+    )
 }
 
 /// What a call answers; the answer is noted.

@@ -1,7 +1,6 @@
 use Rattle.std.proofs.Common.{map, sym, subst}
 use Rattle.rng_core.specs.Meaning.{definition_of}
 use Rattle.deriv_memory.specs.Remembered.{Remembered}
-use Rattle.deriv_states.specs.Places.{state_in}
 use Rattle.deriv_pool.specs.Meaning.{means_in}
 use Rattle.deriv_pool.specs.Remembering.{AreAnswers}
 use Rattle.deriv_pool.proofs.Remembering.{answers_on, answer_is, answers_noted}
