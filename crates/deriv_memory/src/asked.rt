@@ -7,7 +7,8 @@ ghost use Rattle.deriv_memory.specs.Calls.{form_of, state_of, ns_of, local_of, s
 
 use std::hash::{Hash, Hasher};
 
-/// A call on a state, by the state's number. A name is two numbers: that of its namespace and that of its local part.
+/// A call on a state, by the state's number. A name is two numbers: that of its namespace and that of its local part. Strings stand
+/// here by whether they are blank alone: such a call is noted where all strings of its kind have one answer.
 #[derive(Clone, Copy, Debug)]
 pub enum Asked {
     /// Behind the start of an element of this name.
@@ -16,6 +17,14 @@ pub enum Asked {
     TagEnd(usize),
     /// Behind the end of an element.
     Leave(usize),
+    /// Behind a blank string.
+    Blank(usize),
+    /// Behind a string that isn't blank.
+    Solid(usize),
+    /// Behind an attribute of this name whose value is blank.
+    BlankValue(usize, usize, usize),
+    /// Behind an attribute of this name whose value isn't blank.
+    SolidValue(usize, usize, usize),
 }
 
 impl Asked {
@@ -27,6 +36,10 @@ impl Asked {
             Asked::Enter(_, _, _) => 0,
             Asked::TagEnd(_) => 1,
             Asked::Leave(_) => 2,
+            Asked::Blank(_) => 3,
+            Asked::Solid(_) => 4,
+            Asked::BlankValue(_, _, _) => 5,
+            Asked::SolidValue(_, _, _) => 6,
         }
     }
 
@@ -38,6 +51,10 @@ impl Asked {
             Asked::Enter(state, _, _) => *state,
             Asked::TagEnd(state) => *state,
             Asked::Leave(state) => *state,
+            Asked::Blank(state) => *state,
+            Asked::Solid(state) => *state,
+            Asked::BlankValue(state, _, _) => *state,
+            Asked::SolidValue(state, _, _) => *state,
         }
     }
 
@@ -47,6 +64,8 @@ impl Asked {
     {
         match self {
             Asked::Enter(_, ns, _) => *ns,
+            Asked::BlankValue(_, ns, _) => *ns,
+            Asked::SolidValue(_, ns, _) => *ns,
             _ => 0,
         }
     }
@@ -57,6 +76,8 @@ impl Asked {
     {
         match self {
             Asked::Enter(_, _, local) => *local,
+            Asked::BlankValue(_, _, local) => *local,
+            Asked::SolidValue(_, _, local) => *local,
             _ => 0,
         }
     }

@@ -3,3 +3,4 @@ pub mod Single
 pub mod IfOk
 pub mod Growing
 pub mod Opening
+pub mod Untold

@@ -5,3 +5,4 @@ pub mod Numbers
 pub mod Reading
 pub mod Seen
 pub mod Opened
+pub mod Telling

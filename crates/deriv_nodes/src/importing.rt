@@ -5,6 +5,7 @@ ghost use Rattle.rng_core.specs.Meaning.{class_of, pattern_of};
 ghost use Rattle.rng_core.specs.Patterns.{attribute};
 ghost use Rattle.deriv_pattern.specs.Leaves.{IsInOrder};
 ghost use Rattle.deriv_nodes.specs.Numbers.{at, Later, IsAt};
+ghost use Rattle.deriv_nodes.specs.Reading.{IsData};
 
 use crate::nodes::Nodes;
 use nx_base::memory::NoMemory;
@@ -14,6 +15,8 @@ use std::alloc::Global;
 
 impl Nodes {
     /// The number of an attribute.
+    // what is put in isn't inlined into the walk, whose frames are then small
+    #[inline(never)]
     fn attribute_of(
         &mut self,
         alloc: Global,
@@ -29,6 +32,17 @@ impl Nodes {
         self.put_attribute(Pat::Attribute(class, empty), body)
     }
 
+    /// The number of a type or a value.
+    #[inline(never)]
+    fn data_of(&mut self, alloc: Global, leaf: &Pat) -> Result<usize, NoMemory>
+        requires data { IsData (pattern_of leaf.now) }
+        requires order { IsInOrder (pattern_of leaf.now) }
+        ensures later { Later self.old self.new }
+        ensures made { IfOk result (IsAt self.new (pattern_of leaf.now)) }
+    {
+        self.put_data(leaf.copy(alloc)?)
+    }
+
     /// The number of a pattern's node.
     pub fn imported(&mut self, alloc: Global, pattern: &Pat) -> Result<usize, NoMemory>
         requires { IsInOrder (pattern_of pattern.now) }
@@ -39,8 +53,8 @@ impl Nodes {
             Pat::NotAllowed => self.not_allowed(),
             Pat::Empty => self.empty(),
             Pat::Text => self.text(),
-            Pat::Typed(_, _) => self.put_data(pattern.copy(alloc)?),
-            Pat::Value(_, _) => self.put_data(pattern.copy(alloc)?),
+            Pat::Typed(_, _) => self.data_of(alloc, pattern),
+            Pat::Value(_, _) => self.data_of(alloc, pattern),
             Pat::List(body) => {
                 let body = self.imported(alloc, body)?;
                 self.list(body)

@@ -21,4 +21,5 @@ pub mod small;
 pub mod solid;
 pub mod strings;
 pub mod table;
+pub mod telling;
 mod view;

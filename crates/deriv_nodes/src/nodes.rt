@@ -86,7 +86,8 @@ impl Nodes {
         p == q
     }
 
-    /// The number of what is put together so.
+    /// The number of what is put together so. It isn't inlined into the walks along nodes, whose frames are then small.
+    #[inline(never)]
     fn put(&mut self, shape: Shape) -> Result<usize, NoMemory>
         requires { IsInner (length self.old) shape }
         ensures later { Later self.old self.new }

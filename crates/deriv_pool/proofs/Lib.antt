@@ -3,3 +3,4 @@ pub mod Knowing
 pub mod Needing
 pub mod Remembering
 pub mod Single
+pub mod Strings

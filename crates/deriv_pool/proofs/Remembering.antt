@@ -1,27 +1,30 @@
 -- Answers that are kept stay right while states come, and are found again.
-use Rattle.std.specs.Prelude.{◌≡◌, ℕ, ◌<◌, List, [], length, slice_index_or, Bool, true, false, is_some, Option, None, Some, IfSome, option_map, ◌⊎◌}
+use Rattle.std.specs.Prelude.{◌≡◌, ℕ, ◌<◌, List, [], length, Bool, true, false, is_some, Option, None, Some, IfSome}
 use Rattle.std.specs.Map.{lookup}
 use Rattle.std.specs.Coded.{coded_option, le_prop, Coded-set}
-use Rattle.std.proofs.Common.{refl, sym, ap, subst, ◌∙◌, ⊎_elim, arith, zero, suc}
+use Rattle.std.proofs.Common.{refl, sym, ap, subst, ◌∙◌, ⊎_elim, arith}
 use Rattle.std.proofs.lemmas.Bool.{false≢true}
+use Rattle.std.proofs.Math.Bool.{Bool-set}
 use Rattle.std.proofs.Math.Logic.{∥∥₁_elim, ∥∥₁_map}
 use Rattle.nx_base.specs.declared.name.Name.{Name}
 use Rattle.rng_core.specs.Patterns.{Definition}
 use Rattle.rng_kept.specs.Residuals.{Residual}
 use Rattle.rng_kept.specs.Merging.{answered}
 use Rattle.rng_kept.specs.Entering.{enter}
+use Rattle.rng_kept.specs.Tags.{attribute_of}
 use Rattle.rng_live.specs.Calls.{Answers, Call, call_enter, call_tag_end, call_leave}
 use Rattle.deriv_states.specs.Places.{Places, LaterPlaces, state_in, IsState as IsNumber}
 use Rattle.deriv_states.specs.Codes.{residual_code}
 use Rattle.deriv_states.specs.Tables.{AreApart}
+use Rattle.deriv_states.specs.Telling.{tells_values_of}
 use Rattle.deriv_memory.specs.declared.asked.Asked.{Asked}
 use Rattle.deriv_memory.specs.declared.asked.Asked.TheVariants as calls
 use Rattle.deriv_memory.specs.Calls.{state_of, same_asked, calls_decided}
-use Rattle.deriv_memory.specs.Remembered.{Remembered, noted, IsText, IsName, AreOnce, TextsGrow, LaterMemory, IsNoted}
-use Rattle.deriv_memory.proofs.Laws.{name_stays, one_name, noted_from}
+use Rattle.deriv_memory.specs.Remembered.{Remembered, noted, IsName, AreOnce, TextsGrow, LaterMemory, IsNoted}
+use Rattle.deriv_memory.proofs.Laws.{one_name, noted_from}
 use Rattle.deriv_pool.specs.Meaning.{IsState, means_in}
 use Rattle.deriv_pool.specs.declared.state.PoolState.{PoolState}
-use Rattle.deriv_pool.specs.Remembering.{name_in, behind, IsAsked, as_states, IsAnswer, AreAnswers, Asks, Remembers, KeepsNoted}
+use Rattle.deriv_pool.specs.Remembering.{name_in, a_blank, a_solid, behind, IsAlike, IsAsked, as_states, IsAnswer, AreAnswers, Asks, Remembers, KeepsNoted}
 
 -- ---- answers stay
 
@@ -38,6 +41,10 @@ asked_of : (places : Places) (texts : List (List ℕ)) (call : Asked) → IsAske
 asked_of places texts (calls.Enter s ns local) asked = asked.0
 asked_of places texts (calls.TagEnd s) asked = asked
 asked_of places texts (calls.Leave s) asked = asked
+asked_of places texts (calls.Blank s) asked = asked
+asked_of places texts (calls.Solid s) asked = asked
+asked_of places texts (calls.BlankValue s ns local) asked = asked.0
+asked_of places texts (calls.SolidValue s ns local) asked = asked.0
 
 asked_stays : (old new : Places) (before after : List (List ℕ)) (call : Asked) → LaterPlaces old new → TextsGrow before after
     → IsAsked old before call → IsAsked new after call
@@ -45,17 +52,46 @@ asked_stays old new before after (calls.Enter s ns local) later grown asked =
     (omega (arith, asked.0, later.states.grows), (omega (arith, asked.1.0, grown.grows), omega (arith, asked.1.1, grown.grows)))
 asked_stays old new before after (calls.TagEnd s) later grown asked = omega (arith, asked, later.states.grows)
 asked_stays old new before after (calls.Leave s) later grown asked = omega (arith, asked, later.states.grows)
+asked_stays old new before after (calls.Blank s) later grown asked = omega (arith, asked, later.states.grows)
+asked_stays old new before after (calls.Solid s) later grown asked = omega (arith, asked, later.states.grows)
+asked_stays old new before after (calls.BlankValue s ns local) later grown asked =
+    (omega (arith, asked.0, later.states.grows), (omega (arith, asked.1.0, grown.grows), omega (arith, asked.1.1, grown.grows)))
+asked_stays old new before after (calls.SolidValue s ns local) later grown asked =
+    (omega (arith, asked.0, later.states.grows), (omega (arith, asked.1.0, grown.grows), omega (arith, asked.1.1, grown.grows)))
 
 -- the name of numbers that are there is the same later
+name_stays_at : (before after : List (List ℕ)) (ns local : ℕ) → TextsGrow before after → ns < length before → local < length before
+    → name_in before ns local ≡ name_in after ns local
+name_stays_at before after ns local grown one other =
+    let first = sym (grown.stays ns one) in
+    let second = sym (grown.stays local other) in
+    λ i. record { ns = first i; local = second i }
+
 behind_stays : (g : List Definition) (places : Places) (before after : List (List ℕ)) (call : Asked) (x : Residual) → TextsGrow before after
     → IsAsked places before call → behind g before call x ≡ behind g after call x
 behind_stays g places before after (calls.Enter s ns local) x grown asked =
-    let one = sym (grown.stays ns asked.1.0) in
-    let two = sym (grown.stays local asked.1.1) in
-    ap (λ (t : List ℕ). enter g (record { ns = t; local = slice_index_or before local [] }) x) one
-    ∙ ap (λ (t : List ℕ). enter g (record { ns = slice_index_or after ns []; local = t }) x) two
+    ap (λ (n : Name). enter g n x) (name_stays_at before after ns local grown asked.1.0 asked.1.1)
 behind_stays g places before after (calls.TagEnd s) x grown asked = refl
 behind_stays g places before after (calls.Leave s) x grown asked = refl
+behind_stays g places before after (calls.Blank s) x grown asked = refl
+behind_stays g places before after (calls.Solid s) x grown asked = refl
+behind_stays g places before after (calls.BlankValue s ns local) x grown asked =
+    ap (λ (n : Name). attribute_of n a_blank x) (name_stays_at before after ns local grown asked.1.0 asked.1.1)
+behind_stays g places before after (calls.SolidValue s ns local) x grown asked =
+    ap (λ (n : Name). attribute_of n a_solid x) (name_stays_at before after ns local grown asked.1.0 asked.1.1)
+
+-- and so is what the residual tells of it
+alike_stays : (places : Places) (before after : List (List ℕ)) (call : Asked) (x : Residual) → TextsGrow before after
+    → IsAsked places before call → IsAlike before call x → IsAlike after call x
+alike_stays places before after (calls.Enter s ns local) x grown asked alike = alike
+alike_stays places before after (calls.TagEnd s) x grown asked alike = alike
+alike_stays places before after (calls.Leave s) x grown asked alike = alike
+alike_stays places before after (calls.Blank s) x grown asked alike = alike
+alike_stays places before after (calls.Solid s) x grown asked alike = alike
+alike_stays places before after (calls.BlankValue s ns local) x grown asked alike =
+    ap (λ (n : Name). tells_values_of n x) (sym (name_stays_at before after ns local grown asked.1.0 asked.1.1)) ∙ alike
+alike_stays places before after (calls.SolidValue s ns local) x grown asked alike =
+    ap (λ (n : Name). tells_values_of n x) (sym (name_stays_at before after ns local grown asked.1.0 asked.1.1)) ∙ alike
 
 is_answer_later : (g : List Definition) (old new : Places) (before after : List (List ℕ)) (call : Asked) (answer : Option ℕ) → LaterPlaces old new
     → TextsGrow before after → IsAnswer g old before call answer → IsAnswer g new after call answer
@@ -63,8 +99,10 @@ is_answer_later g old new before after call answer later grown is =
     let s = state_of call in
     let at : state_in old.states s ≡ state_in new.states s = sym (later.states.stays s (asked_of old before call is.asked)) in
     let P : Residual → Type 0 = λ x. Answers (IsState new) (means_in new) (answered x) (as_states answer) in
+    let Q : Residual → Type 0 = λ x. IsAlike after call x in
     record {
       asked = asked_stays old new before after call later grown is.asked;
+      alike = subst Q at (alike_stays old before after call (state_in old.states s) grown is.asked is.alike);
       gives = subst P (behind_stays g old before after call (state_in old.states s) grown is.asked ∙ ap (λ x. behind g after call x) at)
           (answer_stays old new _ answer later is.gives);
     }
@@ -99,16 +137,19 @@ answers_on g old new memory later right = answers_later g old new memory memory 
 
 -- what was just answered may be kept
 pub answer_is : (g : List Definition) (old new : Places) (texts : List (List ℕ)) (call : Asked) (s : ℕ) (x : Residual) (answer : Option ℕ)
-    (found : Option PoolState) → LaterPlaces old new → IsAsked old texts call → state_of call ≡ s → s < length old.states
+    (found : Option PoolState) → LaterPlaces old new → IsAsked old texts call → IsAlike texts call (state_in old.states s) → state_of call ≡ s
+    → s < length old.states
     → x ≡ behind g texts call (state_in old.states s) → as_states answer ≡ found → Answers (IsState new) (means_in new) (answered x) found
     → IsAnswer g new texts call answer
-answer_is g old new texts call s x answer found later asked of here is number given =
+answer_is g old new texts call s x answer found later asked alike of here is number given =
     let at : state_in old.states s ≡ state_in new.states (state_of call) =
     sym (later.states.stays s here) ∙ ap (λ n. state_in new.states n) (sym of) in
     let P : Residual → Type 0 = λ y. Answers (IsState new) (means_in new) (answered y) (as_states answer) in
     let Q : Option PoolState → Type 0 = λ r. Answers (IsState new) (means_in new) (answered x) r in
+    let R : Residual → Type 0 = λ y. IsAlike texts call y in
     record {
       asked = asked_stays old new texts texts call later (texts_same texts) asked;
+      alike = subst R at alike;
       gives = subst P (is ∙ ap (λ y. behind g texts call y) at) (subst Q (sym number) given);
     }
 
@@ -133,6 +174,19 @@ found_answer g places memory call answer right is = record {
   state = found_state g places memory call answer right is;
   meaning = ∥∥₁_elim right (Coded-set (coded_option residual_code) _ _) (λ all. (all call answer is).gives.meaning);
 }
+
+-- and what was said of it when it was noted
+pub found_alike : (g : List Definition) (places : Places) (memory : Remembered) (call : Asked) (answer : Option ℕ) → ∥ AreAnswers g places memory ∥₁
+    → noted memory call ≡ Some answer → IsAlike memory.texts call (state_in places.states (state_of call))
+found_alike g places memory (calls.Enter s ns local) answer right is = tt
+found_alike g places memory (calls.TagEnd s) answer right is = tt
+found_alike g places memory (calls.Leave s) answer right is = tt
+found_alike g places memory (calls.Blank s) answer right is = ∥∥₁_elim right (Bool-set _ _) (λ all. (all (calls.Blank s) answer is).alike)
+found_alike g places memory (calls.Solid s) answer right is = ∥∥₁_elim right (Bool-set _ _) (λ all. (all (calls.Solid s) answer is).alike)
+found_alike g places memory (calls.BlankValue s ns local) answer right is =
+    ∥∥₁_elim right (Bool-set _ _) (λ all. (all (calls.BlankValue s ns local) answer is).alike)
+found_alike g places memory (calls.SolidValue s ns local) answer right is =
+    ∥∥₁_elim right (Bool-set _ _) (λ all. (all (calls.SolidValue s ns local) answer is).alike)
 
 -- the numbers of a name are of that name
 pub name_is : (texts : List (List ℕ)) (name : Name) (numbers : ℕ × ℕ) → IsName texts name numbers → name_in texts numbers.0 numbers.1 ≡ name
@@ -175,6 +229,10 @@ no_name places memory x name none kept = by kept.asked kept.asks
         none ns local (subst P (sym (is_enter name asks.1.0 asks.1.1.0)) asks.1.1.1)
     by (calls.TagEnd s) asks = absurd (let e : 0 ≡ 1 = ap is_kind asks.1 in omega (arith, e))
     by (calls.Leave s) asks = absurd (let e : 0 ≡ 2 = ap is_kind asks.1 in omega (arith, e))
+    by (calls.Blank s) asks = absurd asks
+    by (calls.Solid s) asks = absurd asks
+    by (calls.BlankValue s ns local) asks = absurd asks
+    by (calls.SolidValue s ns local) asks = absurd asks
 
 -- of a state and a name of which no start was noted none is remembered
 pub no_start : (places : Places) (memory : Remembered) (s ns local : ℕ) (name : Name) → AreApart [] places.states → AreOnce memory.texts
@@ -191,6 +249,10 @@ no_start places memory s ns local name apart once here is none kept = by kept.as
         (ap (λ k. calls.Enter k ms other) state ∙ ap (λ (p : ℕ × ℕ). calls.Enter s p.0 p.1) numbers) none some
     by (calls.TagEnd t) asks some = absurd (let e : 0 ≡ 1 = ap is_kind asks.1 in omega (arith, e))
     by (calls.Leave t) asks some = absurd (let e : 0 ≡ 2 = ap is_kind asks.1 in omega (arith, e))
+    by (calls.Blank t) asks some = absurd asks
+    by (calls.Solid t) asks some = absurd asks
+    by (calls.BlankValue t ms other) asks some = absurd asks
+    by (calls.SolidValue t ms other) asks some = absurd asks
 
 pub no_tag_end : (places : Places) (memory : Remembered) (s : ℕ) → AreApart [] places.states → s < length places.states
     → is_some (noted memory (calls.TagEnd s)) ≡ false → Remembers places memory (state_in places.states s) call_tag_end → ⊥
@@ -200,6 +262,10 @@ no_tag_end places memory s apart here none kept = by kept.asked kept.asks kept.k
     by (calls.Enter t ms other) asks some = absurd (let e : 1 ≡ 0 = ap is_kind asks.1.1.0 in omega (arith, e))
     by (calls.TagEnd t) asks some = none_kept memory (calls.TagEnd s) (calls.TagEnd t) (ap (λ k. calls.TagEnd k) (same_state places s t _ apart here refl asks.0)) none some
     by (calls.Leave t) asks some = absurd (let e : 1 ≡ 2 = ap is_kind asks.1 in omega (arith, e))
+    by (calls.Blank t) asks some = absurd asks
+    by (calls.Solid t) asks some = absurd asks
+    by (calls.BlankValue t ms other) asks some = absurd asks
+    by (calls.SolidValue t ms other) asks some = absurd asks
 
 pub no_leave : (places : Places) (memory : Remembered) (s : ℕ) → AreApart [] places.states → s < length places.states
     → is_some (noted memory (calls.Leave s)) ≡ false → Remembers places memory (state_in places.states s) call_leave → ⊥
@@ -209,6 +275,10 @@ no_leave places memory s apart here none kept = by kept.asked kept.asks kept.kep
     by (calls.Enter t ms other) asks some = absurd (let e : 2 ≡ 0 = ap is_kind asks.1.1.0 in omega (arith, e))
     by (calls.TagEnd t) asks some = absurd (let e : 2 ≡ 1 = ap is_kind asks.1 in omega (arith, e))
     by (calls.Leave t) asks some = none_kept memory (calls.Leave s) (calls.Leave t) (ap (λ k. calls.Leave k) (same_state places s t _ apart here refl asks.0)) none some
+    by (calls.Blank t) asks some = absurd asks
+    by (calls.Solid t) asks some = absurd asks
+    by (calls.BlankValue t ms other) asks some = absurd asks
+    by (calls.SolidValue t ms other) asks some = absurd asks
 
 -- ---- later
 

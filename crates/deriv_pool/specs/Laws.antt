@@ -1,5 +1,5 @@
 -- What later matchers keep.
-use Rattle.std.specs.Prelude.{◌≡◌, ℕ, ◌<◌, ◌≤◌, List, [], length}
+use Rattle.std.specs.Prelude.{ℕ, List, []}
 use Rattle.std.proofs.Common.{refl, ap, ◌∙◌, arith}
 use Rattle.nx_base.specs.Rules.{LaterLaws}
 use Rattle.rng_core.specs.Patterns.{not_allowed}
@@ -9,7 +9,6 @@ use Rattle.deriv_memory.specs.declared.asked.Asked.{Asked}
 use Rattle.deriv_memory.specs.declared.asked.Asked.TheVariants as calls
 use Rattle.deriv_memory.specs.Remembered.{Remembered, IsText, TextsGrow}
 use Rattle.rng_live.specs.Schemas.{schema_language}
-use Rattle.deriv_nodes.specs.Numbers.{Later}
 use Rattle.deriv_states.specs.Places.{Places, LaterPlaces, IsState as IsNumber}
 use Rattle.deriv_states.specs.Tables.{Grows}
 use Rattle.deriv_pool.specs.Later.{IsLater, IsStateOf, meaning_of, language_in, remembers_in}
@@ -68,6 +67,10 @@ asks_stays old new before after (calls.Enter s ns local) x told later grown asks
     )
 asks_stays old new before after (calls.TagEnd s) x told later grown asks = (number_stays old new s x later asks.0, asks.1)
 asks_stays old new before after (calls.Leave s) x told later grown asks = (number_stays old new s x later asks.0, asks.1)
+asks_stays old new before after (calls.Blank s) x told later grown asks = absurd asks
+asks_stays old new before after (calls.Solid s) x told later grown asks = absurd asks
+asks_stays old new before after (calls.BlankValue s ns local) x told later grown asks = absurd asks
+asks_stays old new before after (calls.SolidValue s ns local) x told later grown asks = absurd asks
 
 keeps_same : (m : Remembered) → KeepsNoted m m
 keeps_same m = record { texts = record { grows = omega arith; stays = λ i here. refl }; calls = λ call some. some }

@@ -9,10 +9,11 @@ ghost use Rattle.deriv_nodes.specs.Numbers.{IsAt};
 ghost use Rattle.deriv_states.specs.Places.{AreContents, LaterPlaces};
 
 use crate::recalling::{
-    entered, left, recalled_enter, recalled_leave, recalled_tag_end, tag_ended,
+    entered, left, read_attribute, read_chars, recalled_attribute, recalled_chars, recalled_enter,
+    recalled_leave, recalled_tag_end, tag_ended,
 };
 use crate::required::required_names;
-use crate::state::{PoolState, answer, begun, begun_known, behind_attribute, behind_chars, given};
+use crate::state::{PoolState, answer, begun, begun_known, given};
 use deriv_memory::memory::Memory;
 use deriv_pattern::law::sound_are_in_order;
 use deriv_states::states::States;
@@ -132,7 +133,19 @@ impl Matcher for Pool {
         name: &Name,
         value: &Bytes,
     ) -> Result<Option<PoolState>, NoMemory> {
-        behind_attribute(alloc, &mut self.states, *s, name, value)
+        let defs = self.schema.grammar().defs.as_slice();
+        match recalled_attribute(&self.states, &self.memory, defs, *s, name, value) {
+            Some(answer) => Ok(answer),
+            None => read_attribute(
+                alloc,
+                &mut self.states,
+                &mut self.memory,
+                defs,
+                *s,
+                name,
+                value,
+            ),
+        }
     }
 
     fn attribute_any(
@@ -166,7 +179,11 @@ impl Matcher for Pool {
         s: &PoolState,
         text: &Bytes,
     ) -> Result<Option<PoolState>, NoMemory> {
-        behind_chars(alloc, &mut self.states, *s, text)
+        let defs = self.schema.grammar().defs.as_slice();
+        match recalled_chars(&self.states, &self.memory, defs, *s, text) {
+            Some(answer) => Ok(answer),
+            None => read_chars(alloc, &mut self.states, &mut self.memory, defs, *s, text),
+        }
     }
 
     fn chars_any(&mut self, alloc: Global, s: &PoolState) -> Result<Option<PoolState>, NoMemory> {

@@ -12,16 +12,18 @@ ghost use Rattle.deriv_memory.specs.Remembered.{noted, IsName};
 ghost use Rattle.deriv_states.specs.Places.{AreContents, LaterPlaces, state_in};
 ghost use Rattle.deriv_states.specs.Steps.{HasContents, way_step};
 ghost use Rattle.deriv_pool.specs.Meaning.{IsState, means_in};
-ghost use Rattle.deriv_pool.specs.Remembering.{AreAnswers, IsAsked, KeepsNoted, Remembers, as_states, behind};
+ghost use Rattle.deriv_pool.specs.Remembering.{AreAnswers, IsAlike, IsAsked, KeepsNoted, Remembers, as_states, behind};
 ghost use Rattle.rng_kept.specs.Residuals.{Residual};
 
-use crate::state::{PoolState, answer};
+use crate::state::{PoolState, answer, behind_attribute, behind_chars};
 use deriv_memory::asked::Asked;
 use deriv_memory::memory::Memory;
+use deriv_pattern::leaves::is_blank;
 use deriv_states::states::States;
 use deriv_states::step::Step;
 use nx_base::memory::NoMemory;
 use nx_base::name::Name;
+use nx_base::sequence::Bytes;
 use rng_core::grammar::Def;
 use std::alloc::Global;
 
@@ -55,6 +57,7 @@ fn recalled(
     requires { ∥ AreAnswers (map definition_of defs.now) states.now memory.now ∥₁ }
     ensures found { IfSome result (Answers (IsState states.now) (means_in states.now)
         (merging.answered (behind (map definition_of defs.now) memory.now.texts call (state_in states.now.states (state_of call))))) }
+    ensures alike { IfSome result (λ answer. IsAlike memory.now.texts call (state_in states.now.states (state_of call))) }
     ensures kept { is_some result ≡ is_some (noted memory.now call) }
 {
     let kept = memory.recalled(call)?;
@@ -117,6 +120,56 @@ pub(crate) fn recalled_leave(
     recalled(states, memory, defs, Asked::Leave(state.number))
 }
 
+/// The answer that was noted of strings of this one's kind; none where nothing was noted.
+pub(crate) fn recalled_chars(
+    states: &States,
+    memory: &Memory,
+    defs: &[Def],
+    state: PoolState,
+    text: &Bytes,
+) -> Option<Option<PoolState>>
+    requires state { IsState states.now state }
+    requires right { ∥ AreAnswers (map definition_of defs.now) states.now memory.now ∥₁ }
+    ensures { IfSome result (Answers (IsState states.now) (means_in states.now)
+        (merging.answered (content.chars text.now (means_in states.now state)))) }
+{
+    if is_blank(text.as_slice()) {
+        return recalled(states, memory, defs, Asked::Blank(state.number));
+    }
+    recalled(states, memory, defs, Asked::Solid(state.number))
+}
+
+/// The answer that was noted of values of this one's kind; none where nothing was noted.
+pub(crate) fn recalled_attribute(
+    states: &States,
+    memory: &Memory,
+    defs: &[Def],
+    state: PoolState,
+    name: &Name,
+    value: &Bytes,
+) -> Option<Option<PoolState>>
+    requires state { IsState states.now state }
+    requires right { ∥ AreAnswers (map definition_of defs.now) states.now memory.now ∥₁ }
+    ensures { IfSome result (Answers (IsState states.now) (means_in states.now)
+        (merging.answered (tags.attribute_of name.now value.now (means_in states.now state)))) }
+{
+    let (ns, local) = memory.number_of_name(name)?;
+    if is_blank(value.as_slice()) {
+        return recalled(
+            states,
+            memory,
+            defs,
+            Asked::BlankValue(state.number, ns, local),
+        );
+    }
+    recalled(
+        states,
+        memory,
+        defs,
+        Asked::SolidValue(state.number, ns, local),
+    )
+}
+
 /// What a call answers; the answer is noted.
 pub(crate) fn noted_answer(
     alloc: Global,
@@ -132,6 +185,7 @@ pub(crate) fn noted_answer(
     requires right { ∥ AreAnswers (map definition_of defs.now) states.old memory.old ∥₁ }
     requires of { state_of call ≡ state.number }
     requires asked { IsAsked states.old memory.old.texts call }
+    requires alike { IsAlike memory.old.texts call (means_in states.old state) }
     requires behind { (x : Residual) → merging.stepped (way_step step.now) [] x ≡ behind (map definition_of defs.now) memory.old.texts call x }
     ensures later { LaterPlaces states.old states.new }
     ensures texts { memory.new.texts ≡ memory.old.texts }
@@ -231,4 +285,66 @@ pub(crate) fn left(
         &Step::Leave,
         state,
     )
+}
+
+/// Behind a string. Where strings of its kind are all alike, one of them is taken, and the answer is noted of them all.
+pub(crate) fn read_chars(
+    alloc: Global,
+    states: &mut States,
+    memory: &mut Memory,
+    defs: &[Def],
+    state: PoolState,
+    text: &Bytes,
+) -> Result<Option<PoolState>, NoMemory>
+    requires state { IsState states.old state }
+    requires right { ∥ AreAnswers (map definition_of defs.now) states.old memory.old ∥₁ }
+    ensures later { LaterPlaces states.old states.new }
+    ensures keeps { KeepsNoted memory.old memory.new }
+    ensures right { ∥ AreAnswers (map definition_of defs.now) states.new memory.new ∥₁ }
+    ensures gives { IfOk result (Answers (IsState states.new) (means_in states.new)
+        (merging.answered (content.chars text.now (means_in states.old state)))) }
+{
+    if states.tells_texts(state.number) {
+        return behind_chars(alloc, states, state, text);
+    }
+    let number = state.number;
+    if is_blank(text.as_slice()) {
+        let (call, step) = (Asked::Blank(number), Step::Chars(""));
+        return noted_answer(alloc, states, memory, defs, call, &step, state);
+    }
+    let (call, step) = (Asked::Solid(number), Step::Chars("x"));
+    noted_answer(alloc, states, memory, defs, call, &step, state)
+}
+
+/// Behind an attribute. Where values of its kind are all alike, one of them is taken, and the answer is noted of them all.
+pub(crate) fn read_attribute(
+    alloc: Global,
+    states: &mut States,
+    memory: &mut Memory,
+    defs: &[Def],
+    state: PoolState,
+    name: &Name,
+    value: &Bytes,
+) -> Result<Option<PoolState>, NoMemory>
+    requires state { IsState states.old state }
+    requires right { ∥ AreAnswers (map definition_of defs.now) states.old memory.old ∥₁ }
+    ensures later { LaterPlaces states.old states.new }
+    ensures keeps { KeepsNoted memory.old memory.new }
+    ensures right { ∥ AreAnswers (map definition_of defs.now) states.new memory.new ∥₁ }
+    ensures gives { IfOk result (Answers (IsState states.new) (means_in states.new)
+        (merging.answered (tags.attribute_of name.now value.now (means_in states.old state)))) }
+{
+    if states.tells_values_of(name, state.number) {
+        return behind_attribute(alloc, states, state, name, value);
+    }
+    let (ns, local) = memory.keep_name(alloc, name)?;
+    let number = state.number;
+    if is_blank(value.as_slice()) {
+        let call = Asked::BlankValue(number, ns, local);
+        let step = Step::Attribute(name, "");
+        return noted_answer(alloc, states, memory, defs, call, &step, state);
+    }
+    let call = Asked::SolidValue(number, ns, local);
+    let step = Step::Attribute(name, "x");
+    noted_answer(alloc, states, memory, defs, call, &step, state)
 }

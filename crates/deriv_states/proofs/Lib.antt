@@ -2,3 +2,4 @@ pub mod Table
 pub mod Alike
 pub mod Places
 pub mod Carried
+pub mod Untold

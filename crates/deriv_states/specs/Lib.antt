@@ -3,3 +3,4 @@ pub mod Places
 pub mod Parts
 pub mod Codes
 pub mod Steps
+pub mod Telling

@@ -15,3 +15,4 @@ mod merging;
 pub mod states;
 pub mod step;
 mod tags;
+pub mod telling;

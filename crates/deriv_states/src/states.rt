@@ -18,6 +18,7 @@ ghost use Rattle.rng_kept.specs.Residuals as residual;
 ghost use Rattle.deriv_pattern.specs.Leaves.{IsInOrder};
 ghost use Rattle.deriv_nodes.specs.Numbers.{at, IsAt};
 ghost use Rattle.deriv_nodes.specs.Opened.{openings_at, AreNodes, AreOpened};
+ghost use Rattle.deriv_nodes.specs.Telling as telling;
 ghost use Rattle.deriv_states.specs.Parts.{outer_made, state_made, ContentsAreInOrder, IsAroundBelow, IsRowBelow};
 ghost use Rattle.deriv_states.specs.Places.{AreContents, IsOuter, IsState, IsThere, LaterPlaces, outer_in, state_in, way_in};
 ghost use Rattle.deriv_states.specs.Tables.{AreApart};
@@ -251,6 +252,22 @@ impl States {
         ensures { result ≡ small.is_not_allowed (at self.now.patterns p) }
     {
         self.nodes.is_not_allowed(p)
+    }
+
+    /// Whether the text of a string can matter to the pattern, beside whether it is blank.
+    pub(crate) fn node_tells(&self, p: usize) -> bool
+        requires { p < length self.now.patterns }
+        ensures { result ≡ telling.tells_strings (at self.now.patterns p) }
+    {
+        self.nodes.tells_strings(p)
+    }
+
+    /// Whether that of a value can, of an attribute of the name.
+    pub(crate) fn node_tells_values(&self, name: &Name, p: usize) -> bool
+        requires { p < length self.now.patterns }
+        ensures { result ≡ telling.tells_values name.now (at self.now.patterns p) }
+    {
+        self.nodes.tells_values(name, p)
     }
 
     /// Whether no attributes and no children match.

@@ -1,7 +1,6 @@
 use Rattle.std.proofs.Common.{map, sym, subst}
 use Rattle.rng_core.specs.Meaning.{definition_of}
 use Rattle.deriv_memory.specs.Remembered.{Remembered}
-use Rattle.deriv_states.specs.Places.{state_in}
 use Rattle.deriv_pool.specs.Meaning.{means_in}
 use Rattle.deriv_pool.specs.Remembering.{AreAnswers}
 use Rattle.deriv_pool.proofs.Remembering.{answers_on, answer_is, answers_noted}
@@ -24,6 +23,6 @@ returns-clause-right c =
     let new = c.answer.new.states in
     let memory = c.args.memory.now in
     answers_noted g new memory c.note.new.self c.args.call c.as_number.result c.in_ok-note.ensures.made
-    (answer_is g old new memory.texts c.args.call c.args.state.number _ c.as_number.result c.in_ok-found.found c.answer.ensures.later c.requires.asked c.requires.of
+    (answer_is g old new memory.texts c.args.call c.args.state.number _ c.as_number.result c.in_ok-found.found c.answer.ensures.later c.requires.asked c.requires.alike c.requires.of
     c.requires.state (c.requires.behind (means_in old c.args.state)) c.as_number.ensures c.in_ok-found.ensures.gives)
     (answers_on g old new memory c.answer.ensures.later c.requires.right)

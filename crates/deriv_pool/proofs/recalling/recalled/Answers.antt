@@ -7,7 +7,7 @@ use Rattle.deriv_states.specs.Places.{state_in}
 use Rattle.deriv_pool.specs.Meaning.{IsState, means_in}
 use Rattle.deriv_pool.specs.Remembering.{behind}
 use Rattle.deriv_pool.specs.declared.state.PoolState.{PoolState}
-use Rattle.deriv_pool.proofs.Remembering.{found_answer}
+use Rattle.deriv_pool.proofs.Remembering.{found_answer, found_alike}
 use Rattle.deriv_pool.proofs.recalling.recalled.Goals as goal
 
 pub returns-clause-found : goal.returns-clause-found
@@ -18,3 +18,7 @@ returns-clause-found c =
     (answered (behind (map definition_of c.args.defs.now) memory.texts c.args.call (state_in places.states (state_of c.args.call)))) r in
     subst P (sym c.as_state.ensures)
     (found_answer (map definition_of c.args.defs.now) places memory c.args.call c.in_ok-kept.kept c.requires (sym c.in_ok-kept.ensures))
+
+pub returns-clause-alike : goal.returns-clause-alike
+returns-clause-alike c =
+    found_alike (map definition_of c.args.defs.now) c.args.states.now c.args.memory.now c.args.call c.in_ok-kept.kept c.requires (sym c.in_ok-kept.ensures)

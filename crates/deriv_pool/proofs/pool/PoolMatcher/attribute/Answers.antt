@@ -1,8 +1,21 @@
-use Rattle.rng_live.specs.Schemas.{schema_language}
-use Rattle.deriv_pool.proofs.Remembering.{answers_on}
+use Rattle.std.proofs.Common.{◌≡◌, List, map, sym, ap, subst, ◌∙◌}
+use Rattle.rng_core.specs.declared.grammar.Def.{Def}
+use Rattle.rng_core.specs.declared.grammar.Grammar.{Grammar}
+use Rattle.rng_core.specs.Meaning.{definition_of}
+use Rattle.deriv_pool.specs.Remembering.{AreAnswers}
 use Rattle.deriv_pool.proofs.pool.PoolMatcher.attribute.Goals as goal
 
-pub invariant_of-self-clause-right : goal.invariant_of-self-clause-right
-invariant_of-self-clause-right c =
-    let m = c.args.self.now in
-    answers_on (schema_language m.schema).definitions m.states c.behind_attribute.new.states m.memory c.behind_attribute.ensures.later m.right
+pub recalled_attribute-requires-clause-right : goal.recalled_attribute-requires-clause-right
+recalled_attribute-requires-clause-right c =
+    let is : c.as_slice-defs.result.now ≡ c.args.self.now.schema.grammar.defs = c.as_slice-defs.ensures ∙ ap (λ (g : Grammar). g.defs) c.grammar.ensures in
+    subst (λ (ds : List Def). ∥ AreAnswers (map definition_of ds) c.args.self.now.states c.args.self.now.memory ∥₁) (sym is) c.args.self.now.right
+
+pub read_attribute-requires-clause-right : goal.read_attribute-requires-clause-right
+read_attribute-requires-clause-right c =
+    let is : c.as_slice-defs.result.now ≡ c.args.self.now.schema.grammar.defs = c.as_slice-defs.ensures ∙ ap (λ (g : Grammar). g.defs) c.grammar.ensures in
+    subst (λ (ds : List Def). ∥ AreAnswers (map definition_of ds) c.args.self.now.states c.args.self.now.memory ∥₁) (sym is) c.args.self.now.right
+
+pub invariant_of-self-in-None-clause-right : goal.invariant_of-self-in-None-clause-right
+invariant_of-self-in-None-clause-right c =
+    let is : c.as_slice-defs.result.now ≡ c.args.self.now.schema.grammar.defs = c.as_slice-defs.ensures ∙ ap (λ (g : Grammar). g.defs) c.grammar.ensures in
+    subst (λ (ds : List Def). ∥ AreAnswers (map definition_of ds) c.read_attribute.new.states c.read_attribute.new.memory ∥₁) is c.read_attribute.ensures.right
