@@ -1,7 +1,11 @@
 //! The machine without a schema: the state of events alone, whose faults are those of markup, nesting and namespaces.
 
-ghost use Rattle.std.specs.Prelude.{◌≡◌, ◌++◌, OnOk, OnErr};
+ghost use Rattle.std.specs.Prelude.{◌≡◌, ◌+◌, ◌-◌, ◌<◌, ◌≤◌, ◌^◌, ◌++◌, length, OnOk, OnErr};
+ghost use Rattle.nx_base.specs.Rules.{lexeme_of};
+ghost use Rattle.nx_base.specs.Shifting.{placed};
 ghost use Rattle.nx_events.specs.Among.{fault_in, faults_among};
+ghost use Rattle.nx_events.specs.BareRules.{bare_rules};
+ghost use Rattle.nx_events.specs.Runs.{run_back};
 
 use crate::item::{Item, Items};
 use crate::state::EventState;
@@ -44,6 +48,37 @@ pub fn push_faults(faults: &mut Faults, items: &[Item]) -> Result<(), NoMemory>
     Ok(())
 }
 
+/// Takes one more token, as the machine does. The list of items is memory that whoever takes many tokens keeps: what it holds before is
+/// dropped.
+pub fn step_bare(
+    alloc: Global,
+    items: &mut Items,
+    state: &mut EventState,
+    token: &Token,
+    faults: &mut Faults,
+) -> Result<(), NoMemory>
+    requires place { run_back state.old.run ≤ token.now.from }
+    requires room { token.now.from + length token.now.bytes < 2 ^ 64 }
+    ensures after { OnOk result (state.new ≡ bare_rules.after state.old (lexeme_of token.now)) }
+    ensures faults { OnOk result (faults.new ≡ faults.old
+        ++ placed (token.now.from - run_back state.old.run) (bare_rules.gives state.old (lexeme_of token.now))) }
+    ensures unchanged { OnErr result (state.new ≡ state.old) }
+    ensures no_faults { OnErr result (faults.new ≡ faults.old) }
+{
+    items.clear();
+    let declared = reader::read(alloc, items, state, token)?;
+    let len = faults.len();
+    push_faults(faults, items.as_slice())?;
+    match reader::pass_token(alloc, state, token, &declared) {
+        Ok(()) => Ok(()),
+        Err(error) => {
+            let grown = faults.len();
+            faults.cut(len, grown);
+            Err(error)
+        }
+    }
+}
+
 impl Machine for Bare {
     type State = EventState;
 
@@ -76,18 +111,7 @@ impl Machine for Bare {
         token: &Token,
         faults: &mut Faults,
     ) -> Result<(), NoMemory> {
-        let mut items = Items::new(alloc);
-        let declared = reader::read(alloc, &mut items, state, token)?;
-        let len = faults.len();
-        push_faults(faults, items.as_slice())?;
-        match reader::pass_token(alloc, state, token, &declared) {
-            Ok(()) => Ok(()),
-            Err(error) => {
-                let grown = faults.len();
-                faults.cut(len, grown);
-                Err(error)
-            }
-        }
+        step_bare(alloc, &mut Items::new(alloc), state, token, faults)
     }
 
     fn at_end(

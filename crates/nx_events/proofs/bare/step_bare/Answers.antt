@@ -4,14 +4,14 @@ use Rattle.nx_events.specs.Among.{faults_among}
 use Rattle.nx_events.specs.Items.{items_of_token}
 use Rattle.nx_events.specs.declared.item.Item.{Item}
 use Rattle.nx_events.specs.BareLaws.{gives_placed, after_placed}
-use Rattle.nx_events.proofs.bare.BareMachine.step.Goals as goal
+use Rattle.nx_events.proofs.bare.step_bare.Goals as goal
 
 pub returns-in-Ok-clause-after : goal.returns-in-Ok-clause-after
 returns-in-Ok-clause-after c = c.in-Ok.ensures.state ∙ after_placed c.args.state.now c.args.token.now
 
 pub returns-in-Ok-clause-faults : goal.returns-in-Ok-clause-faults
 returns-in-Ok-clause-faults c =
-    let read = c.as_slice.ensures ∙ c.in_ok-declared.ensures.items ∙ ap (λ (ys : List Item). ys ++ items_of_token c.args.state.now c.args.token.now) c.new-items.ensures in
+    let read = c.as_slice.ensures ∙ c.in_ok-declared.ensures.items ∙ ap (λ (ys : List Item). ys ++ items_of_token c.args.state.now c.args.token.now) c.clear.ensures in
     c.in_ok-push_faults.ensures.ok
     ∙ ap (λ (ys : List Item). c.args.faults.now ++ faults_among ys) read
     ∙ ap (λ (fs : List Fault). c.args.faults.now ++ fs) (gives_placed c.args.state.now c.args.token.now c.requires.place)
