@@ -9,12 +9,12 @@ use Rattle.nx_base.specs.Text.{IsPlace}
 use Rattle.nx_base.specs.Tokens.{Cut, cut_as, begins_with, bytes_up_to, closed, doctype, instruction, tags, tag, markup, order_mark, first_token, cut}
 use Rattle.nx_base.specs.declared.token.TokenKind.TheVariants as kinds
 use Rattle.nx_scan.specs.Borders.{IsTokenOf}
-use Rattle.nx_scan.specs.Tag.{left_of}
+use Rattle.nx_scan.specs.Tag.{left_of, later}
 use Rattle.nx_scan.specs.declared.tag.TagState.TheVariants as seen
 use Rattle.nx_scan.proofs.Fitting.{FitsIn, if_cases, closed-fits, doctype-fits, instruction-fits, text-fits}
 use Rattle.nx_scan.proofs.Marks.{byte-here, here-within}
 use Rattle.nx_scan.proofs.Rows.{token-order_mark}
-use Rattle.nx_scan.proofs.TagEnds.{later, begin-tag}
+use Rattle.nx_scan.proofs.TagEnds.{begin-tag}
 use Rattle.nx_scan.proofs.Walking.{tag-border}
 
 -- a tag, or what stands in its place, fits

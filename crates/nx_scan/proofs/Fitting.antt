@@ -38,6 +38,15 @@ up_to-stands byte (b ∷ rest) =
       | inr e ↦ rw e (omega (arith, further.0), λ h. ap (λ n. get_or (b ∷ rest) n 0) (add-one (bytes_up_to byte rest)) ∙ further.1 (omega arith))
     ]
 
+module _ (byte : ℕ) (text : List ℕ) (from found : ℕ) (inside : from ≤ length text) (is : found ≡ from + bytes_up_to byte (drop from text)) where
+  pub found-within : found ≤ length text
+  found-within = omega (arith, is, inside, (up_to-stands byte (drop from text)).0, length-drop from text)
+
+  pub found-stands : found < length text → get_or text found 0 ≡ byte
+  found-stands within =
+      ap (λ n. get_or text n 0) is ∙ sym (get_or-drop from text (bytes_up_to byte (drop from text)) 0)
+      ∙ (up_to-stands byte (drop from text)).1 (omega (arith, is, within, length-drop from text))
+
 -- a mark that is found
 before-further : (mark : List ℕ) (b : ℕ) (rest : List ℕ) (n : ℕ) → ((k : ℕ) → bytes_before mark rest ≡ Some k → begins_with mark (drop k rest) ≡ true) →
     (found : Option ℕ) → bytes_before mark rest ≡ found → option_map (λ k. k + 1) found ≡ Some n → begins_with mark (drop n (b ∷ rest)) ≡ true

@@ -14,5 +14,6 @@ pub mod SameMarkup
 pub mod SameTags
 pub mod Stable
 pub mod TagEnds
+pub mod TagParts
 pub mod Themselves
 pub mod Walking

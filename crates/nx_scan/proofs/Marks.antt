@@ -5,7 +5,7 @@ use Rattle.std.specs.Option.{option_map, option_eq}
 use Rattle.std.proofs.Math.Bool.{and-true}
 use Rattle.std.proofs.lemmas.Bool.{and_parts, eqb-true}
 use Rattle.std.proofs.lemmas.List.{drop_more, drop_all, drop-drop, get_or-drop}
-use Rattle.nx_base.specs.Tokens.{begins_with, bytes_before, bytes_up_to}
+use Rattle.nx_base.specs.Tokens.{begins_with, bytes_before}
 
 -- the byte at a place, as a mark of its own
 pub byte_is_here : (text : List ℕ) (at byte : ℕ) → option_eq nat_eq (slice_get text at) (Some byte) ≡ begins_with (byte ∷ []) (drop at text)
@@ -107,30 +107,6 @@ pub mark-last : (mark text : List ℕ) (at : ℕ) → begins_with mark (drop at 
 mark-last mark text at h some =
     ap (λ n. get_or text n 0) (let e : at + length mark - 1 ≡ at + (length mark - 1) = omega arith in e)
     ∙ mark-reads mark text at (length mark - 1) h (omega arith)
-
--- how far it is to a byte
-up_to-first : (byte : ℕ) (rest : List ℕ) → begins_with (byte ∷ []) rest ≡ true → bytes_up_to byte rest ≡ 0
-unfolding begins_with bytes_up_to
-up_to-first byte [] e = refl
-up_to-first byte (b ∷ rest) e = rw (and_parts (b == byte) true e).0 refl
-
-up_to-next : (byte : ℕ) (rest : List ℕ) → 0 < length rest → begins_with (byte ∷ []) rest ≡ false → bytes_up_to byte rest ≡ bytes_up_to byte (drop 1 rest) + 1
-unfolding begins_with bytes_up_to
-up_to-next byte [] some e = absurd (omega arith)
-up_to-next byte (b ∷ rest) some e = let apart : (b == byte) ≡ false = sym (and-true (b == byte)) ∙ e in rw apart refl
-
-module _ (byte : ℕ) (text : List ℕ) (at : ℕ) where
-  pub up_to-here : begins_with (byte ∷ []) (drop at text) ≡ true → bytes_up_to byte (drop at text) ≡ 0
-  up_to-here h = up_to-first byte (drop at text) h
-
-  pub up_to-more : at < length text → begins_with (byte ∷ []) (drop at text) ≡ false → bytes_up_to byte (drop at text) ≡ bytes_up_to byte (drop (at + 1) text) + 1
-  up_to-more within h =
-      up_to-next byte (drop at text) (omega (arith, length-drop at text)) h
-      ∙ ap (λ rest. bytes_up_to byte rest + 1) (drop-drop 1 at text)
-
-  pub up_to-end : length text ≤ at → bytes_up_to byte (drop at text) ≡ 0
-  unfolding bytes_up_to
-  up_to-end past = ap (bytes_up_to byte) (drop_all at text past)
 
 -- how far it is to a mark
 before-first : (mark rest : List ℕ) → 0 < length rest → begins_with mark rest ≡ true → bytes_before mark rest ≡ Some 0

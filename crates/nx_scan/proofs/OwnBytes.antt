@@ -10,7 +10,7 @@ use Rattle.std.proofs.lemmas.Str.{IsUtf8-take, IsUtf8-drop, IsCharBoundary-after
 use Rattle.nx_base.specs.Text.{IsPlace}
 use Rattle.nx_base.specs.Tokens.{Cut, cut_as, begins_with, bytes_up_to, bad_rest, tags, tag, markup, order_mark, first_token, cut, IsOfKind}
 use Rattle.nx_base.specs.declared.token.TokenKind.TheVariants as kinds
-use Rattle.nx_scan.specs.Tag.{left_of}
+use Rattle.nx_scan.specs.Tag.{left_of, later}
 use Rattle.nx_scan.specs.declared.tag.TagState.{TagState}
 use Rattle.nx_scan.specs.declared.tag.TagState.TheVariants as seen
 use Rattle.nx_scan.proofs.BadEnds.{bad_rest-less, bad_rest-greater, bad_rest-further, bad_rest-nil}
@@ -19,7 +19,7 @@ use Rattle.nx_scan.proofs.Fitting.{FitsIn, bad_rest-border}
 use Rattle.nx_scan.proofs.Marks.{byte-here, here-within}
 use Rattle.nx_scan.proofs.SameTags.{same-first}
 use Rattle.nx_scan.proofs.Stable.{begins-same}
-use Rattle.nx_scan.proofs.TagEnds.{later, IsOpen, tag-end, begin-tag}
+use Rattle.nx_scan.proofs.TagEnds.{IsOpen, tag-end, begin-tag}
 use Rattle.nx_scan.proofs.Themselves.{row-order_mark, row-markup, row-text}
 use Rattle.nx_scan.proofs.SameMarkup.{row-tag, same-comment, same-cdata, same-doctype, same-instruction, instruction-long}
 use Rattle.nx_scan.proofs.Walking.{Status, is_open, is_whole, is_lost, status, Walk, on, off, walk, tag-never, tag-border}

@@ -1,9 +1,10 @@
 -- Which row of the table of tokens applies.
-use Rattle.std.proofs.Common.{◌≡◌, ℕ, ◌+◌, ◌-◌, ◌<◌, ◌≤◌, true, false, inl, inr, List, [], ◌∷◌, ◌++◌, length, take, drop, get_or, refl, sym, ◌∙◌, ap, subst, arith, codes}
+use Rattle.std.proofs.Common.{◌≡◌, ℕ, ◌+◌, ◌-◌, ◌<◌, ◌≤◌, Bool, true, false, inl, inr, List, [], ◌∷◌, ◌++◌, length, take, drop, get_or, refl, sym, ◌∙◌, ap, subst, arith, codes}
 use Rattle.std.specs.Prelude.{◌==◌, ◌&&◌, slice_range}
 use Rattle.std.specs.Str.{IsUtf8}
 use lib.Utf8.{encode}
 use Rattle.std.proofs.lemmas.Bool.{and_parts, eqb-true, cases_lt}
+use Rattle.std.proofs.lemmas.List.{drop-drop}
 use Rattle.std.proofs.lemmas.Str.{IsCharBoundary-end, IsCharBoundary-before_ascii, IsCharBoundary-past_char}
 use Rattle.nx_base.specs.Text.{IsPlace}
 use Rattle.nx_base.specs.Tokens.{Cut, cut_as, begins_with, bytes_up_to, closed, doctype, instruction, tag, tags, markup, order_mark, first_token, cut}
@@ -11,10 +12,22 @@ use Rattle.nx_base.specs.declared.token.Token.{Token}
 use Rattle.nx_base.specs.declared.token.TokenKind.TheVariants as kinds
 use Rattle.nx_scan.specs.Ending.{EndsAt}
 use Rattle.nx_scan.specs.declared.scan.End.{End}
+use Rattle.nx_scan.proofs.Marks.{begins_with-split}
 
 -- the token of another cut that is the same
 same_cut : (text : List ℕ) (at : ℕ) (a b : Cut) (found : End) → b ≡ a → EndsAt text at a found → EndsAt text at b found
 same_cut text at a b found same e = subst (λ (c : Cut). EndsAt text at c found) (sym same) e
+
+-- a mark whose second byte doesn't stand there
+never_both : (b : Bool) → (b && false) ≡ false
+never_both true = refl
+never_both false = refl
+
+second_apart : (m b : ℕ) (mark rest : List ℕ) → begins_with (b ∷ []) (drop 1 rest) ≡ false → begins_with (m ∷ b ∷ mark) rest ≡ false
+unfolding begins_with
+second_apart m b mark [] e = refl
+second_apart m b mark (x ∷ rest) e =
+    ap (λ t. x == m && t) (begins_with-split b mark rest ∙ ap (λ t. t && begins_with mark (drop 1 rest)) e) ∙ never_both (x == m)
 
 module _ (text : List ℕ) (at : ℕ) (found : End) where
   pub markup-comment : begins_with (codes "<!--") (drop at text) ≡ true →
@@ -43,6 +56,15 @@ module _ (text : List ℕ) (at : ℕ) (found : End) where
       EndsAt text at (tag tags (drop at text)) found → EndsAt text at (markup (drop at text)) found
   unfolding markup
   markup-tag a b d f e = rw (a, b, d, f) e
+
+  pub markup-plain : begins_with (33 ∷ []) (drop (at + 1) text) ≡ false → begins_with (63 ∷ []) (drop (at + 1) text) ≡ false →
+      EndsAt text at (tag tags (drop at text)) found → EndsAt text at (markup (drop at text)) found
+  markup-plain a b e =
+      let rest = drop at text in
+      let none : begins_with (33 ∷ []) (drop 1 rest) ≡ false = ap (begins_with (33 ∷ [])) (drop-drop 1 at text) ∙ a in
+      let nor : begins_with (63 ∷ []) (drop 1 rest) ≡ false = ap (begins_with (63 ∷ [])) (drop-drop 1 at text) ∙ b in
+      markup-tag (second_apart 60 33 (codes "--") rest none) (second_apart 60 33 (codes "[CDATA[") rest none)
+      (second_apart 60 33 (codes "DOCTYPE") rest none) (second_apart 60 63 [] rest nor) e
 
   pub token-markup : (at == 0 && begins_with order_mark (drop at text)) ≡ false → begins_with (codes "<") (drop at text) ≡ true →
       EndsAt text at (markup (drop at text)) found → EndsAt text at (first_token (at == 0) (drop at text)) found

@@ -9,13 +9,13 @@ use Rattle.nx_base.specs.Characters.{is_space, is_name_start}
 use Rattle.nx_base.specs.Tokens.{Cut, cut_as, begins_with, closed, doctype, begins_declaration, instruction, bad_rest, tags, tag, markup}
 use Rattle.nx_base.specs.declared.token.TokenKind.{TokenKind}
 use Rattle.nx_base.specs.declared.token.TokenKind.TheVariants as kinds
-use Rattle.nx_scan.specs.Tag.{left_of, left_after}
+use Rattle.nx_scan.specs.Tag.{left_of, left_after, later}
 use Rattle.nx_scan.specs.declared.tag.TagState.TheVariants as seen
 use Rattle.nx_scan.proofs.Marks.{begins_with-split, mark_reads, byte-here, here-within}
 use Rattle.nx_scan.proofs.Rows.{behind_mark}
 use Rattle.nx_scan.proofs.SameTags.{border-behind, tag-same}
 use Rattle.nx_scan.proofs.Stable.{begins-same, begins-stop, has_none, not-read, byte-same, drop-same, less-same, bad_rest-stop, closed-same, closed-skip, closed-stop, doctypes-same, doctype-skip}
-use Rattle.nx_scan.proofs.TagEnds.{later, begin-tag, tag-lost, lost_left, open-part}
+use Rattle.nx_scan.proofs.TagEnds.{begin-tag, tag-lost, lost_left, open-part}
 
 -- `<` and then something
 less-split : (text : List ℕ) → begins_with (codes "<") text ≡ true → text ≡ 60 ∷ drop 1 text

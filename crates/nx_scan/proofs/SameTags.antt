@@ -7,11 +7,11 @@ use Rattle.std.proofs.lemmas.List.{take-append-drop, take_at, length-take-le, ge
 use Rattle.std.proofs.lemmas.Str.{IsUtf8-take, IsUtf8-past_char, encode_same}
 use Rattle.nx_base.specs.Tokens.{Cut, cut_as, bad_rest, tag}
 use Rattle.nx_base.specs.declared.token.TokenKind.TheVariants as kinds
-use Rattle.nx_scan.specs.Tag.{left_of}
+use Rattle.nx_scan.specs.Tag.{left_of, later}
 use Rattle.nx_scan.specs.declared.tag.TagState.{TagState}
 use Rattle.nx_scan.specs.declared.tag.TagState.TheVariants as seen
 use Rattle.nx_scan.proofs.Stable.{bad_rest-same}
-use Rattle.nx_scan.proofs.TagEnds.{later, IsOpen}
+use Rattle.nx_scan.proofs.TagEnds.{IsOpen}
 use Rattle.nx_scan.proofs.Walking.{Status, is_open, is_whole, is_lost, status, Walk, on, off, walk, tag-never}
 
 -- two texts that are the same through a character

@@ -14,20 +14,10 @@ use Rattle.nx_base.specs.declared.token.TokenKind.{TokenKind}
 use Rattle.nx_base.specs.declared.token.TokenKind.TheVariants as kinds
 use Rattle.nx_text.specs.Reading.{StandsAt, HasNoCharAt}
 use Rattle.nx_scan.specs.Ending.{EndsAt}
-use Rattle.nx_scan.specs.Tag.{left_of, left_after, in_end}
+use Rattle.nx_scan.specs.Tag.{left_of, left_after, in_end, IsPart, IsReadTo, later}
 use Rattle.nx_scan.specs.declared.scan.End.{End}
 use Rattle.nx_scan.specs.declared.tag.TagState.{TagState}
 use Rattle.nx_scan.specs.declared.tag.TagState.TheVariants as seen
-
--- the cut of a token that began so many bytes earlier
-abbrev pub later : ℕ → Cut → Cut
-later k cut = cut_as cut.kind (k + cut.len)
-
--- no tag is whole
-pub record IsPart (left : Tags) : Type 0 where
-  pub end : may_end left.end ≡ false
-  pub start : may_end left.start ≡ false
-  pub empty : may_end left.empty ≡ false
 
 -- some tag may come
 abbrev pub can_go_on : Tags → Bool
@@ -258,12 +248,7 @@ module _ (text : List ℕ) (at place c : ℕ) (left : Tags) (utf8 : IsUtf8 text)
       ∙ ap (λ rest. later (place + len_utf8 c - at) (tag (left_after left c) rest)) (sym (drop_past_char text here.rest place c here.spelled))
 
   pub step-on : (read : TagState) → left_of read ≡ left_after left c → IsOpen read → (behind_c : ℕ) → behind_c ≡ place + len_utf8 c →
-      record {
-        border : IsPlace text behind_c;
-        behind : at ≤ behind_c;
-        part : IsPart (left_of read);
-        so_far : tag tags (drop at text) ≡ later (behind_c - at) (tag (left_of read) (drop behind_c text));
-      }
+      IsReadTo text at behind_c read
   step-on read next is_open behind_c is =
       record {
         border = subst (λ n. IsPlace text n) (sym is) next-border;

@@ -9,12 +9,12 @@ use Rattle.nx_base.specs.Form.{never, begins, passing_front}
 use Rattle.nx_base.specs.Tokens.{Cut, cut_as, bad_rest, bad, begins_tag, tag_or, tag}
 use Rattle.nx_base.specs.declared.token.TokenKind.{TokenKind}
 use Rattle.nx_base.specs.declared.token.TokenKind.TheVariants as kinds
-use Rattle.nx_scan.specs.Tag.{left_of, left_after, in_end}
+use Rattle.nx_scan.specs.Tag.{left_of, left_after, in_end, later}
 use Rattle.nx_scan.specs.declared.tag.TagState.{TagState}
 use Rattle.nx_scan.specs.declared.tag.TagState.TheVariants as seen
 use Rattle.nx_scan.proofs.Fitting.{bad_rest-border}
 use Rattle.nx_scan.proofs.Reading.{next}
-use Rattle.nx_scan.proofs.TagEnds.{later, IsOpen, IsWhole, can_go_on, start-whole, empty-whole, end-whole, tag-step, tag-lost, tag-end, tag_or-never, lost_left}
+use Rattle.nx_scan.proofs.TagEnds.{IsOpen, IsWhole, can_go_on, start-whole, empty-whole, end-whole, tag-step, tag-lost, tag-end, tag_or-never, lost_left}
 
 -- what was read is open, whole or lost
 pub data Status : TagState → Type 0 where

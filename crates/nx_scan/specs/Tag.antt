@@ -1,8 +1,10 @@
 -- What may still follow a part of a tag.
-use Rattle.std.specs.Prelude.{ℕ}
-use Rattle.nx_base.specs.Form.{Form, name_char, only, one, seq, alt, many, never, nothing, after}
+use Rattle.std.specs.Prelude.{◌≡◌, ℕ, ◌+◌, ◌-◌, ◌<◌, ◌≤◌, nat_lt, Bool, false, not, ◌&&◌, ◌==◌, List, drop}
+use Rattle.nx_base.specs.Characters.{is_name_char}
+use Rattle.nx_base.specs.Form.{Form, name_char, only, one, seq, alt, many, never, nothing, after, may_end}
 use Rattle.nx_base.specs.Tags.{name_form, spaces, quoted_rest, attribute_value, attribute_rest, attribute, tag_rest}
-use Rattle.nx_base.specs.Tokens.{Tags}
+use Rattle.nx_base.specs.Text.{IsPlace}
+use Rattle.nx_base.specs.Tokens.{Cut, cut_as, Tags, tags, tag}
 use Rattle.nx_scan.specs.declared.tag.TagState.{TagState}
 use Rattle.nx_scan.specs.declared.tag.TagState.TheVariants as seen
 
@@ -48,3 +50,32 @@ left_of seen.Lost = in_end never
 -- what may follow the next character
 unfoldable pub left_after : Tags → ℕ → Tags
 left_after left c = record { end = after left.end c; start = after left.start c; empty = after left.empty c }
+
+-- no tag is whole
+pub record IsPart (left : Tags) : Type 0 where
+  pub end : may_end left.end ≡ false
+  pub start : may_end left.start ≡ false
+  pub empty : may_end left.empty ≡ false
+
+-- the cut of a token that began so many bytes earlier
+abbrev pub later : ℕ → Cut → Cut
+later k cut = cut_as cut.kind (k + cut.len)
+
+-- what begins at `at` was read up to a place as a part of a tag: which token it is, what is left there says
+pub record IsReadTo (text : List ℕ) (at place : ℕ) (read : TagState) : Type 0 where
+  pub border : IsPlace text place
+  pub behind : at ≤ place
+  pub part : IsPart (left_of read)
+  pub so_far : tag tags (drop at text) ≡ later (place - at) (tag (left_of read) (drop place text))
+
+-- a character of one byte behind which the same may follow as in front of it
+pub record Stays (read : TagState) (byte : ℕ) : Type 0 where
+  pub low : byte < 128
+  pub same : left_of read ≡ left_after (left_of read) byte
+
+-- a character of one byte of a name, and of a value in such quotes
+abbrev pub is_name_byte : ℕ → Bool
+is_name_byte byte = nat_lt byte 128 && is_name_char byte
+
+abbrev pub is_value_byte : ℕ → ℕ → Bool
+is_value_byte quote byte = nat_lt byte 128 && (not (byte == quote) && not (byte == 60))

@@ -10,5 +10,6 @@ pub mod doctype_law;
 mod mark;
 pub mod scan;
 mod tag;
+mod tag_part;
 
 pub use scan::scan_token;

@@ -68,11 +68,5 @@ pub(crate) fn find_byte(text: &Text, from: usize, byte: u8) -> usize
     ensures within { result ≤ length text.now }
     ensures stands { result < length text.now → slice_index text.now result ≡ byte }
 {
-    let len = text.len();
-    for at in from..len {
-        if byte_is(text, at, byte) {
-            return at;
-        }
-    }
-    len
+    text.find_byte(from, byte)
 }

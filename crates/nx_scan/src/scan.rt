@@ -12,6 +12,7 @@ ghost use Rattle.nx_scan.specs.Ending.{EndsAt};
 use crate::doctype::doctype_end;
 use crate::mark::{byte_is, find_byte, find_past, stands_at};
 use crate::tag::TagState;
+use crate::tag_part::read_on;
 use nx_base::character::is_space;
 use nx_base::memory::NoMemory;
 use nx_base::steps::Steps;
@@ -145,26 +146,24 @@ fn tag_end(text: &Text, at: usize) -> End
     requires open { slice_index text.now at ≡ 60 }
     ensures { EndsAt text.now at (tag tags (drop at text.now)) result }
 {
-    let mut place = at + 1;
-    let mut seen = TagState::Open;
-    while let Some(c) = text.char_at(place) {
-        let next = seen.then(c);
-        let behind = place + c.len_utf8();
+    let mut part = read_on(text, at + 1, TagState::Open);
+    while let Some(c) = text.char_at(part.place) {
+        let next = part.seen.then(c);
+        let behind = part.place + c.len_utf8();
         match next {
             TagState::Start => return End::new(TokenKind::Start, behind),
             TagState::Empty => return End::new(TokenKind::Empty, behind),
             TagState::End => return End::new(TokenKind::End, behind),
-            TagState::Lost => return bad_end(text, place),
+            TagState::Lost => return bad_end(text, part.place),
             _ => {}
         }
-        seen = next;
-        place = behind;
+        part = read_on(text, behind, next);
     }
-    bad_end(text, place)
+    bad_end(text, part.place)
 }
 
-/// A token that begins with `<`, which stands at `at`.
-fn markup_end(text: &Text, at: usize) -> End
+/// A token that begins with `<`, which stands at `at`, by its mark.
+fn marked_end(text: &Text, at: usize) -> End
     requires utf8 { IsUtf8 text.now }
     requires within { at < length text.now }
     requires fits { at + 1 < 2 ^ 64 }
@@ -179,6 +178,23 @@ fn markup_end(text: &Text, at: usize) -> End
         declared_type_end(text, at)
     } else if stands_at(text, at, b"<?") {
         instruction_end(text, at)
+    } else {
+        tag_end(text, at)
+    }
+}
+
+/// A token that begins with `<`, which stands at `at`. Most are tags, where no byte of another mark follows.
+fn markup_end(text: &Text, at: usize) -> End
+    requires utf8 { IsUtf8 text.now }
+    requires within { at < length text.now }
+    requires fits { at + 1 < 2 ^ 64 }
+    requires open { slice_index text.now at ≡ 60 }
+    ensures { EndsAt text.now at (markup (drop at text.now)) result }
+{
+    if byte_is(text, at + 1, b'!') {
+        marked_end(text, at)
+    } else if byte_is(text, at + 1, b'?') {
+        marked_end(text, at)
     } else {
         tag_end(text, at)
     }

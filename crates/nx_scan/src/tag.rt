@@ -47,6 +47,7 @@ pub(crate) enum TagState {
 
 impl TagState {
     /// What was read with one more character.
+    #[inline(always)]
     #[tactic(auto, using(crate::proofs::Reading::whole_lost))]
     pub(crate) fn then(self, c: char) -> TagState
         ensures { left_of result ≡ left_after (left_of self) c }
@@ -70,7 +71,7 @@ impl TagState {
     }
 }
 
-// Most characters of names are small letters, which are asked for first.
+// Most characters of names are small letters, and most names end with one of three characters: these are asked for first.
 
 /// Whether a name may begin with the character.
 #[tactic(auto, unfolding(nx_base::specs::Characters::is_name_start))]
@@ -85,13 +86,18 @@ fn is_name_start(c: char) -> bool
 
 /// Whether the character may stand in a name.
 #[tactic(auto, unfolding(nx_base::specs::Characters::is_name_char, nx_base::specs::Characters::is_name_start))]
-fn is_name_char(c: char) -> bool
+pub(crate) fn is_name_char(c: char) -> bool
     ensures { result ≡ is_name_char c }
 {
     if c.is_ascii_lowercase() {
         return true;
     }
-    character::is_name_char(c)
+    match c {
+        '>' => false,
+        ' ' => false,
+        '=' => false,
+        _ => character::is_name_char(c),
+    }
 }
 
 #[tactic(auto, using(crate::proofs::Reading::open_rules))]

@@ -4,6 +4,7 @@ pub mod Gaps
 pub mod Indices
 pub mod Lines
 pub mod Listed
+pub mod NextByte
 pub mod OneByte
 pub mod Searching
 pub mod Sides

@@ -10,6 +10,7 @@ ghost use Rattle.nx_base.specs.Text.{IsPlace};
 ghost use Rattle.std.specs.Str.{IsUtf8};
 
 use crate::gap_buffer::GapBuffer;
+use memchr::memchr;
 
 /// How many of the line feeds stand in front of an offset.
 fn feeds_below(feeds: &[usize], at: usize) -> usize
@@ -90,11 +91,34 @@ pub(crate) fn move_gaps(bytes: &mut GapBuffer<u8>, feeds: &mut GapBuffer<usize>,
     bytes.move_gap(at);
 }
 
+/// How many bytes are counted in one byte.
+const CHUNK: usize = 192;
+
+/// How many line feeds a few bytes have. So many are counted at once as fit into a register's bytes.
+fn count_few(bytes: &[u8]) -> u8
+    requires { length bytes.now ≤ 192 }
+    ensures { result ≡ count_by is_line_feed bytes.now }
+{
+    let mut count: u8 = 0;
+    for (i, byte) in bytes.iter().enumerate() {
+        if *byte == b'\n' {
+            count += 1;
+        }
+    }
+    count
+}
+
 /// How many line feeds a text has.
 pub(crate) fn count_feeds(text: &[u8]) -> usize
     ensures { result ≡ count_by is_line_feed text.now }
 {
-    text.iter().filter(|byte| **byte == b'\n').count()
+    let mut count: usize = 0;
+    let mut left = text;
+    while left.len() > CHUNK {
+        count += usize::from(count_few(&left[..CHUNK]));
+        left = &left[CHUNK..];
+    }
+    count + usize::from(count_few(left))
 }
 
 /// Puts the line feeds of what was put in at an offset in at the index's gap.
@@ -105,11 +129,9 @@ pub(crate) fn push_feeds(feeds: &mut GapBuffer<usize>, at: usize, added: &[u8])
     ensures back { feeds.new.back ≡ feeds.old.back }
 {
     let mut left = added;
-    while let Some((byte, rest)) = left.split_first() {
-        if *byte == b'\n' {
-            feeds.push(at + (added.len() - left.len()));
-        }
-        left = rest;
+    while let Some(before) = memchr(b'\n', left) {
+        feeds.push(at + (added.len() - left.len()) + before);
+        left = &left[before + 1..];
     }
 }
 

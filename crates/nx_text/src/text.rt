@@ -1,18 +1,20 @@
 //! A text that is edited at its places.
 
-ghost use Rattle.std.specs.Prelude.{◌≡◌, ◌+◌, ◌<◌, ◌≤◌, ◌^◌, ◌↔◌, [], ◌++◌, length, encode_utf8, slice_get, slice_range};
+ghost use Rattle.std.specs.Prelude.{◌≡◌, ◌+◌, ◌<◌, ◌≤◌, ◌^◌, ◌↔◌, [], ◌++◌, length, drop, encode_utf8, slice_get, slice_range};
 ghost use Rattle.std.specs.Prelude.{IsTrue, IfOk, OnSome, IfSome, MatchOption};
 ghost use Rattle.nx_text.specs.Borders.{IsNextBorder, IsPreviousBorder};
 ghost use Rattle.nx_text.specs.Places.{line_at, column_at};
 ghost use Rattle.std.specs.Str.{IsUtf8};
 ghost use Rattle.nx_base.specs.Text.{IsPlace, edited};
+ghost use Rattle.nx_base.specs.Tokens.{bytes_up_to};
 ghost use Rattle.nx_text.specs.Editing.{Inserts, Deletes, IsRange};
-ghost use Rattle.nx_text.specs.Reading.{StandsAt, HasNoCharAt};
+ghost use Rattle.nx_text.specs.Reading.{StandsAt, HasNoCharAt, StandFrom};
 
 use crate::apart::{self, next_border, previous_border};
 use crate::gap_buffer::GapBuffer;
 use crate::line_feeds::{count_feeds, feeds_before, move_gaps, push_feeds, take_out};
 use crate::places::{column_in, has_feed};
+use crate::search::{find_in_both, piece_of_both};
 use nx_base::memory::NoMemory;
 use nx_base::sequence::Bytes;
 use std::alloc::{AllocError, Global};
@@ -186,6 +188,24 @@ impl Text {
         ensures next_fits { OnSome result (at + 1 < 2 ^ 64) }
     {
         self.bytes.get(at)
+    }
+
+    /// The bytes from the byte offset `from` on, as far as they lie in one piece; none exactly where that is the length.
+    pub fn piece_at(&self, from: usize) -> &[u8]
+        requires { from ≤ length self.now }
+        ensures piece { StandFrom self.now from result.now }
+        ensures some { from < length self.now → 0 < length result.now }
+        ensures fits { from + length result.now < 2 ^ 64 }
+    {
+        piece_of_both(self.bytes.front(), self.bytes.back(), from)
+    }
+
+    /// The first byte offset from `from` on at which the byte stands, or the length.
+    pub fn find_byte(&self, from: usize, byte: u8) -> usize
+        requires { from ≤ length self.now }
+        ensures { result ≡ from + bytes_up_to byte (drop from self.now) }
+    {
+        find_in_both(self.bytes.front(), self.bytes.back(), from, byte)
     }
 
     /// The character that begins at the byte offset `at`; none exactly where that is the length, or no

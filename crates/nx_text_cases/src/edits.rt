@@ -19,6 +19,18 @@ fn edits_and_reads(rt: HostRuntime) -> Result<(), Fail> {
         (text.char_at(0), text.char_at(1), text.char_at(3)),
         (Some('é'), None, None)
     );
+    assert_eq!(rt;
+        (
+            text.find_byte(0, b'x'),
+            text.find_byte(3, b'x'),
+            text.find_byte(0, b'y')
+        ),
+        (2, 3, 3)
+    );
+    assert_eq!(rt;
+        (text.piece_at(0), text.piece_at(3)),
+        ("éx".as_bytes(), "".as_bytes())
+    );
     for (refused, at) in [
         (text.insert(1, "x"), 1),
         (text.delete(3, 2), 3),

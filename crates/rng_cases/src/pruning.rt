@@ -9,6 +9,7 @@ use nx_base::sequence::{Bytes, TryCopy};
 use rng_core::building::{attribute_of, choice_of, group_of, list_of, one_or_more_of};
 use rng_core::grammar::{Def, Defs, Grammar, Pat};
 use rng_core::name_class::NameClass;
+use rng_live::depth::MOST_NODES_ON_A_PATH;
 use rng_live::fault::LiveFault;
 use rng_live::gathering::Values;
 use rng_live::prune::prune;
@@ -279,5 +280,54 @@ fn refuses_a_long_chain(rt: HostRuntime) -> Result<(), Fail> {
         defs: chain(rt.alloc(), 10_000, Pat::Ref(9_999))?,
     };
     assert!(rt; pruned(&rt, &token, grammar)?.is_none());
+    Ok(())
+}
+
+// A path of so many nodes to an element, by second sides or by first sides.
+fn deep(alloc: Global, count: usize, second: bool) -> Result<Pat, Fail> {
+    let mut pattern = Pat::Ref(1);
+    for _ in 1..count {
+        pattern = if second {
+            group_of(alloc, Pat::Empty, pattern)?
+        } else {
+            choice_of(alloc, pattern, Pat::Text)?
+        };
+    }
+    Ok(pattern)
+}
+
+// Two elements, of which the first one holds the second at the end of such a path.
+fn deep_grammar(alloc: Global, count: usize, second: bool) -> Result<Grammar, Fail> {
+    let mut defs = Defs::new(alloc);
+    add(alloc, &mut defs, "a", deep(alloc, count, second)?)?;
+    add(alloc, &mut defs, "b", Pat::Empty)?;
+    Ok(Grammar {
+        start: Pat::Ref(0),
+        defs,
+    })
+}
+
+// How many names are left of them; none where pruning is refused for want of memory.
+fn names_left(rt: &HostRuntime, count: usize, second: bool) -> Result<Option<usize>, Fail> {
+    let token = Datatype::named(rt.alloc(), "", "token", &[])?;
+    let grammar = deep_grammar(rt.alloc(), count, second)?;
+    if !is_sound(&token, &grammar) {
+        return Err(Fail::new("not in order"));
+    }
+    check(rt.alloc(), &grammar)?;
+    match prune(rt.alloc(), grammar) {
+        Ok(schema) => Ok(Some(schema.mentioned(rt.alloc())?.len())),
+        Err(LiveFault::NoMemory) => Ok(None),
+        Err(fault) => Err(Fail::from(fault)),
+    }
+}
+
+// The longest path that pruning takes, and one that is a node longer.
+#[test]
+fn prunes_deep_patterns(rt: HostRuntime) -> Result<(), Fail> {
+    for second in [false, true] {
+        assert_eq!(rt; names_left(&rt, MOST_NODES_ON_A_PATH, second)?, Some(2));
+        assert_eq!(rt; names_left(&rt, MOST_NODES_ON_A_PATH + 1, second)?, None);
+    }
     Ok(())
 }

@@ -132,18 +132,15 @@ module _ {conditions : List Condition} {marks : List Bool} {count k : ℕ} where
   pub left_text : {numbers : List ℕ} → LeavesTo conditions marks count k any_text numbers numbers any_text
   left_text = record { leaves = λ low s h r. record { found = refl; left = prunes_text } }
 
-  pub left_data : {type type' : Datatype} {excepts excepts' : List Except} {numbers : List ℕ} → type' ≡ type → excepts' ≡ excepts → LeavesTo conditions marks count k (typed type excepts) numbers numbers (typed type' excepts')
-  left_data {type = type} {type' = type'} {excepts = excepts} {excepts' = excepts'} {numbers = numbers} d e =
-      let same : typed type excepts ≡ typed type' excepts' = cc in
-      subst (λ (x : Pattern). LeavesTo conditions marks count k (typed type excepts) numbers numbers x) same (record { leaves = λ low s h r. record { found = refl; left = prunes_data } })
+  pub left_data : {type : Datatype} {excepts : List Except} {numbers : List ℕ} → LeavesTo conditions marks count k (typed type excepts) numbers numbers (typed type excepts)
+  left_data = record { leaves = λ low s h r. record { found = refl; left = prunes_data } }
 
-  pub left_value : {type type' : Datatype} {text text' : List ℕ} {numbers : List ℕ} → type' ≡ type → text' ≡ text → LeavesTo conditions marks count k (literal type text) numbers numbers (literal type' text')
-  left_value {type = type} {type' = type'} {text = text} {text' = text'} {numbers = numbers} d e =
-      let same : literal type text ≡ literal type' text' = cc in
-      subst (λ (x : Pattern). LeavesTo conditions marks count k (literal type text) numbers numbers x) same (record { leaves = λ low s h r. record { found = refl; left = prunes_value } })
+  pub left_value : {type : Datatype} {text : List ℕ} {numbers : List ℕ} → LeavesTo conditions marks count k (literal type text) numbers numbers (literal type text)
+  left_value = record { leaves = λ low s h r. record { found = refl; left = prunes_value } }
 
-  pub left_ref : {i place : ℕ} {numbers numbers' : List ℕ} → numbers' ≡ with_number count i numbers → (i < count → slice_get numbers' place ≡ Some i) → LeavesTo conditions marks count k (ref i) numbers numbers' (ref place)
-  left_ref {i = i} found at = record { leaves = λ low s h r. record { found = found; left = prunes_ref (at (ltb-true i count r)) } }
+  pub left_ref : {i place : ℕ} {numbers numbers' : List ℕ} {w : Pattern} → numbers' ≡ with_number count i numbers → (i < count → slice_get numbers' place ≡ Some i) → w ≡ ref place → LeavesTo conditions marks count k (ref i) numbers numbers' w
+  left_ref {i = i} {numbers = numbers} {numbers' = numbers'} found at e =
+      subst (λ (z : Pattern). LeavesTo conditions marks count k (ref i) numbers numbers' z) (sym e) (record { leaves = λ low s h r. record { found = found; left = prunes_ref (at (ltb-true i count r)) } })
 
 -- the parts of what a condition spells, by the places that the code reads
 at_first : {conditions : List Condition} {low x y : ℕ} {p : Pattern} (k : ℕ) (c : Condition) → x ≡ first_of (slice_get conditions k) → slice_get conditions k ≡ Some c → first_of (Some c) ≡ y → Spells low conditions y p → Spells low conditions x p
@@ -165,10 +162,8 @@ module _ {conditions : List Condition} {marks : List Bool} {count k x : ℕ} {p 
   pub left_list : {w : Pattern} → w ≡ listed a → LeavesTo conditions marks count k (listed p) numbers numbers' w
   left_list e = subst (λ (z : Pattern). LeavesTo conditions marks count k (listed p) numbers numbers' z) (sym e) (record { leaves = λ low s h r. list_left s h r })
 
-  pub left_attribute : {w : Pattern} {c c' : Class} → c' ≡ c → w ≡ attribute c' a → LeavesTo conditions marks count k (attribute c p) numbers numbers' w
-  left_attribute {w = w} {c = c} {c' = c'} d e =
-      let same : attribute c a ≡ w = cc in
-      subst (λ (z : Pattern). LeavesTo conditions marks count k (attribute c p) numbers numbers' z) same (record { leaves = λ low s h r. attribute_left s h r })
+  pub left_attribute : {w : Pattern} {c : Class} → w ≡ attribute c a → LeavesTo conditions marks count k (attribute c p) numbers numbers' w
+  left_attribute {c = c} e = subst (λ (z : Pattern). LeavesTo conditions marks count k (attribute c p) numbers numbers' z) (sym e) (record { leaves = λ low s h r. attribute_left s h r })
 
   pub left_one_or_more : {w : Pattern} → w ≡ one_or_more a → LeavesTo conditions marks count k (one_or_more p) numbers numbers' w
   left_one_or_more e = subst (λ (z : Pattern). LeavesTo conditions marks count k (one_or_more p) numbers numbers' z) (sym e) (record { leaves = λ low s h r. more_left s h r })
@@ -265,3 +260,6 @@ two_of f {x' = x'} {y = y} e d h = e ∙ ap (λ (z : Pattern). f z y) (sym d) �
 
 pub left_of : {conditions : List Condition} {marks : List Bool} {count k : ℕ} {w p r : Pattern} {numbers numbers' : List ℕ} → w ≡ p → LeavesTo conditions marks count k p numbers numbers' r → LeavesTo conditions marks count k w numbers numbers' r
 left_of {conditions = conditions} {marks = marks} {count = count} {k = k} {r = r} {numbers = numbers} {numbers' = numbers'} e l = subst (λ (z : Pattern). LeavesTo conditions marks count k z numbers numbers' r) (sym e) l
+
+pub copy_left : {conditions : List Condition} {marks : List Bool} {count k : ℕ} {w p r : Pattern} {numbers : List ℕ} → w ≡ p → r ≡ w → LeavesTo conditions marks count k p numbers numbers p → LeavesTo conditions marks count k w numbers numbers r
+copy_left {conditions = conditions} {marks = marks} {count = count} {k = k} {p = p} {numbers = numbers} e d l = left_of e (subst (λ (z : Pattern). LeavesTo conditions marks count k p numbers numbers z) (sym (d ∙ e)) l)

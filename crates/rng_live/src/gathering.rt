@@ -1,6 +1,6 @@
 //! Names that the classes of definitions mention, and literals that stand in their contents.
 
-ghost use Rattle.std.specs.Prelude.{◌≡◌, [], IfOk, OnOk};
+ghost use Rattle.std.specs.Prelude.{◌≡◌, ◌++◌, ◌∷◌, [], IfOk, OnOk};
 ghost use Rattle.std.specs.List.{fold};
 ghost use Rattle.rng_core.specs.Meaning.{class_of, pattern_of, definition_of};
 ghost use Rattle.rng_live.specs.Order.{text_order, name_order, SortsOnce};
@@ -74,6 +74,7 @@ fn add_name(alloc: Global, asked: Asked, name: &Name, found: &mut Vec<Name>) -> 
 }
 
 /// Adds what a class mentions. A choice of very many names nests to the left, where the walk is a loop.
+#[inline(never)]
 fn add_class(
     alloc: Global,
     asked: Asked,
@@ -100,7 +101,7 @@ fn add_class(
     }
 }
 
-/// Adds what the classes of attributes in a content mention.
+/// Adds what the classes of attributes in a content mention. Second sides are walked in a loop.
 fn add_attributes(
     alloc: Global,
     asked: Asked,
@@ -109,27 +110,30 @@ fn add_attributes(
 ) -> Result<(), NoMemory>
     ensures { OnOk result (found.new.items ≡ with_attributes asked (pattern_of content.now) found.old.items) }
 {
-    match content {
-        Pat::NotAllowed => Ok(()),
-        Pat::Empty => Ok(()),
-        Pat::Text => Ok(()),
-        Pat::Typed(_, _) => Ok(()),
-        Pat::Value(_, _) => Ok(()),
-        Pat::Ref(_) => Ok(()),
-        Pat::List(_) => Ok(()),
-        Pat::Attribute(class, _) => add_class(alloc, asked, class, found),
-        Pat::OneOrMore(body) => add_attributes(alloc, asked, body, found),
-        Pat::Choice(a, b) => {
-            add_attributes(alloc, asked, a, found)?;
-            add_attributes(alloc, asked, b, found)
-        }
-        Pat::Group(a, b) => {
-            add_attributes(alloc, asked, a, found)?;
-            add_attributes(alloc, asked, b, found)
-        }
-        Pat::Interleave(a, b) => {
-            add_attributes(alloc, asked, a, found)?;
-            add_attributes(alloc, asked, b, found)
+    let mut content = content;
+    loop {
+        match content {
+            Pat::NotAllowed => return Ok(()),
+            Pat::Empty => return Ok(()),
+            Pat::Text => return Ok(()),
+            Pat::Typed(_, _) => return Ok(()),
+            Pat::Value(_, _) => return Ok(()),
+            Pat::Ref(_) => return Ok(()),
+            Pat::List(_) => return Ok(()),
+            Pat::Attribute(class, _) => return add_class(alloc, asked, class, found),
+            Pat::OneOrMore(body) => content = body,
+            Pat::Choice(first, second) => {
+                add_attributes(alloc, asked, first, found)?;
+                content = second;
+            }
+            Pat::Group(first, second) => {
+                add_attributes(alloc, asked, first, found)?;
+                content = second;
+            }
+            Pat::Interleave(first, second) => {
+                add_attributes(alloc, asked, first, found)?;
+                content = second;
+            }
         }
     }
 }
@@ -159,35 +163,44 @@ pub(crate) fn mentions_of(alloc: Global, asked: Asked, defs: &[Def]) -> Result<N
     Ok(Names::from_vec(found))
 }
 
-/// Adds the literals that stand in a content.
+/// Adds a literal.
+#[inline(never)]
+fn add_literal(text: &Bytes, found: &mut Vec<Bytes>) -> Result<(), NoMemory>
+    ensures { OnOk result (found.new.items ≡ found.old.items ++ text.now ∷ []) }
+{
+    let text = text.copy()?;
+    found.push(text)?;
+    Ok(())
+}
+
+/// Adds the literals that stand in a content. Second sides are walked in a loop.
 fn add_literals(content: &Pat, found: &mut Vec<Bytes>) -> Result<(), NoMemory>
     ensures { OnOk result (found.new.items ≡ with_literals (pattern_of content.now) found.old.items) }
 {
-    match content {
-        Pat::NotAllowed => Ok(()),
-        Pat::Empty => Ok(()),
-        Pat::Text => Ok(()),
-        Pat::Typed(_, _) => Ok(()),
-        Pat::Value(_, text) => {
-            let text = text.copy()?;
-            found.push(text)?;
-            Ok(())
-        }
-        Pat::Ref(_) => Ok(()),
-        Pat::List(body) => add_literals(body, found),
-        Pat::Attribute(_, body) => add_literals(body, found),
-        Pat::OneOrMore(body) => add_literals(body, found),
-        Pat::Choice(a, b) => {
-            add_literals(a, found)?;
-            add_literals(b, found)
-        }
-        Pat::Group(a, b) => {
-            add_literals(a, found)?;
-            add_literals(b, found)
-        }
-        Pat::Interleave(a, b) => {
-            add_literals(a, found)?;
-            add_literals(b, found)
+    let mut content = content;
+    loop {
+        match content {
+            Pat::NotAllowed => return Ok(()),
+            Pat::Empty => return Ok(()),
+            Pat::Text => return Ok(()),
+            Pat::Typed(_, _) => return Ok(()),
+            Pat::Value(_, text) => return add_literal(text, found),
+            Pat::Ref(_) => return Ok(()),
+            Pat::List(body) => content = body,
+            Pat::Attribute(_, body) => content = body,
+            Pat::OneOrMore(body) => content = body,
+            Pat::Choice(first, second) => {
+                add_literals(first, found)?;
+                content = second;
+            }
+            Pat::Group(first, second) => {
+                add_literals(first, found)?;
+                content = second;
+            }
+            Pat::Interleave(first, second) => {
+                add_literals(first, found)?;
+                content = second;
+            }
         }
     }
 }

@@ -38,6 +38,7 @@ impl Kept {
     }
 
     /// The new number of a definition, which is kept from now on.
+    #[inline(never)]
     pub(crate) fn keep(&mut self, number: u32) -> Result<u32, NoMemory>
         ensures kept { OnOk result (self.new.numbers.items ≡ with_number (length self.old.seen.items) number self.old.numbers.items) }
         ensures numbered { number < length self.old.seen.items

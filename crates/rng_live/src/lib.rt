@@ -12,13 +12,15 @@
 //! - What is left of a pattern is found by a walk along the numbers of its conditions (`left`), and definitions get their
 //!   new numbers as the walk first meets them (`kept`).
 //!
-//! The walks call themselves once for each node of a path, so a grammar with a path of more than 2,000 nodes, which simplification
-//! allows, is answered as want of memory.
+//! The walks call themselves once for each node of a path. So what calls itself holds references, numbers and boxes alone, and
+//! what holds a pattern or a condition is called for one node (`boxes`). A grammar with a path of more than 2,000 nodes, which
+//! simplification allows, is answered as want of memory (`depth`).
 //!
 //! Each of these is linear in the nodes of the grammar; the excepts of a type are compared with its values where these are
 //! few (`takes`).
 #![tactic(auto)]
 
+mod boxes;
 mod condition;
 pub mod depth;
 pub mod fault;

@@ -2,6 +2,7 @@
 
 ghost use Rattle.std.specs.Prelude.{◌<◌, length, map, IfOk, OnOk};
 ghost use Rattle.rng_core.specs.Meaning.{pattern_of, definition_of};
+ghost use Rattle.rng_live.specs.declared.condition.Condition.TheVariants.{Known, If, Both, Either};
 ghost use Rattle.rng_live.specs.Living.{HasSoundLeaves, HaveSoundLeaves};
 ghost use Rattle.rng_live.specs.Spelling.{IsAdded, IsSpelled, IsDefined, AreSpelled};
 
@@ -30,6 +31,40 @@ impl Conditions {
         Ok(number)
     }
 
+    // A pattern's conditions are added by calls as deep as the pattern is, so what calls itself holds numbers alone.
+
+    /// Adds a condition that holds always, or never.
+    #[inline(never)]
+    fn add_known(&mut self, known: bool) -> Result<usize, NoMemory>
+        ensures { IfOk result (IsAdded (Known known) self.old.items.items self.new.items.items) }
+    {
+        self.add(Condition::Known(known))
+    }
+
+    /// Adds one that holds where another does, if the flag is set.
+    #[inline(never)]
+    fn add_if(&mut self, flag: bool, on: usize) -> Result<usize, NoMemory>
+        ensures { IfOk result (IsAdded (If flag on) self.old.items.items self.new.items.items) }
+    {
+        self.add(Condition::If(flag, on))
+    }
+
+    /// Adds one that holds where two others do.
+    #[inline(never)]
+    fn add_both(&mut self, first: usize, second: usize) -> Result<usize, NoMemory>
+        ensures { IfOk result (IsAdded (Both first second) self.old.items.items self.new.items.items) }
+    {
+        self.add(Condition::Both(first, second))
+    }
+
+    /// Adds one that holds where one of two others does.
+    #[inline(never)]
+    fn add_either(&mut self, first: usize, second: usize) -> Result<usize, NoMemory>
+        ensures { IfOk result (IsAdded (Either first second) self.old.items.items self.new.items.items) }
+    {
+        self.add(Condition::Either(first, second))
+    }
+
     /// Adds the conditions of a pattern, the last of which is its own, and answers that one's number.
     pub(crate) fn add_pattern(&mut self, alloc: Global, pattern: &Pat) -> Result<usize, NoMemory>
         requires { HasSoundLeaves (pattern_of pattern.now) }
@@ -37,63 +72,63 @@ impl Conditions {
     {
         match pattern {
             Pat::NotAllowed => {
-                let number = self.add(Condition::Known(false))?;
+                let number = self.add_known(false)?;
                 Ok(number)
             }
             Pat::Empty => {
-                let number = self.add(Condition::Known(true))?;
+                let number = self.add_known(true)?;
                 Ok(number)
             }
             Pat::Text => {
-                let number = self.add(Condition::Known(true))?;
+                let number = self.add_known(true)?;
                 Ok(number)
             }
             Pat::Typed(datatype, excepts) => {
-                let number = self.add(Condition::Known(has_member(datatype, excepts, false)))?;
+                let number = self.add_known(has_member(datatype, excepts, false))?;
                 Ok(number)
             }
             Pat::Value(_, _) => {
-                let number = self.add(Condition::Known(true))?;
+                let number = self.add_known(true)?;
                 Ok(number)
             }
             Pat::Ref(definition) => {
-                let number = self.add(Condition::If(true, *definition as usize))?;
+                let number = self.add_if(true, *definition as usize)?;
                 Ok(number)
             }
             Pat::List(body) => {
                 let takes = words(alloc, body)?;
                 let part = self.add_pattern(alloc, body)?;
-                let number = self.add(Condition::If(takes.any(), part))?;
+                let number = self.add_if(takes.any(), part)?;
                 Ok(number)
             }
             Pat::Attribute(class, body) => {
                 let named = has_some_name(alloc, class, Bearer::Attribute);
                 let takes = strings(alloc, body)?;
                 let part = self.add_pattern(alloc, body)?;
-                let number = self.add(Condition::If(takes.any_if(named), part))?;
+                let number = self.add_if(takes.any_if(named), part)?;
                 Ok(number)
             }
             Pat::OneOrMore(body) => {
                 let part = self.add_pattern(alloc, body)?;
-                let number = self.add(Condition::If(true, part))?;
+                let number = self.add_if(true, part)?;
                 Ok(number)
             }
             Pat::Choice(a, b) => {
                 let first = self.add_pattern(alloc, a)?;
                 let second = self.add_pattern(alloc, b)?;
-                let number = self.add(Condition::Either(first, second))?;
+                let number = self.add_either(first, second)?;
                 Ok(number)
             }
             Pat::Group(a, b) => {
                 let first = self.add_pattern(alloc, a)?;
                 let second = self.add_pattern(alloc, b)?;
-                let number = self.add(Condition::Both(first, second))?;
+                let number = self.add_both(first, second)?;
                 Ok(number)
             }
             Pat::Interleave(a, b) => {
                 let first = self.add_pattern(alloc, a)?;
                 let second = self.add_pattern(alloc, b)?;
-                let number = self.add(Condition::Both(first, second))?;
+                let number = self.add_both(first, second)?;
                 Ok(number)
             }
         }

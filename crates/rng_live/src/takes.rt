@@ -89,6 +89,7 @@ impl Takes {
 }
 
 /// Whether a type has a member that no except takes away, and that is one token where one is asked for.
+#[inline(never)]
 pub(crate) fn has_member(datatype: &Datatype, excepts: &Excepts, one_token: bool) -> bool
     requires few { length excepts.now ≤ 128 }
     requires made { IsTrue (is_well_made datatype.now) }
@@ -102,6 +103,7 @@ pub(crate) fn has_member(datatype: &Datatype, excepts: &Excepts, one_token: bool
 }
 
 /// Whether some text of one token has the value.
+#[inline(never)]
 fn has_one_token(alloc: Global, datatype: &Datatype, text: &Bytes) -> Result<bool, NoMemory>
     requires { IsTrue (is_utf8 text.now) }
     ensures { IfOk result (λ found. found ≡ is_some (one_token_of datatype.now text.now)) }

@@ -27,7 +27,7 @@ use Rattle.rng_simplify.specs.Forms as form
 use Rattle.rng_simplify.specs.NodeForms.{cell_form, bodies_form, combined_form, form_in, form_of, IsKnown, IsBefore, IsInOrder, AreFormed, IsNumberedBelow, IsCellMade, MakesCell, IsCombinedMade, MakesCombined, AreAllJoined, JoinsAll, Makes, IsPlaced}
 use Rattle.rng_simplify.specs.declared.resolve.Target.{Target}
 use Rattle.rng_simplify.specs.declared.resolve.Target.TheVariants.{Nothing}
-use Rattle.rng_simplify.specs.ResolvedNodes.{combined_number, element_number, target_at, number_at, cell_leads, combined_leads, leads_if, leads, link_at}
+use Rattle.rng_simplify.specs.ResolvedNodes.{combined_number, element_number, target_at, IsLinkedAs, number_at, cell_leads, combined_leads, leads_if, leads, link_at}
 use Rattle.rng_simplify.specs.Shown.{value_in, type_in, params_in, class_in, joined_of, form_by, form_at, IsBehindParts, shape_parts, IsOfSchema, IsShown, Shows, Adds}
 use Rattle.rng_simplify.proofs.Nodes.{in_none, in_first, in_more}
 use Rattle.rng_simplify.proofs.Showing.{shows_still, shows_last, before_or_last}
@@ -276,6 +276,12 @@ cell_there nodes i n within is = slice_get-map cell_of nodes i ∙ ap (option_ma
 
 link_there : (found : Resolved) (i : ℕ) (link : Target) → i < length found.links.items → link ≡ get_or found.links.items i link → link ≡ target_at found i
 link_there found i link within is = is ∙ get_or_default found.links.items i link Nothing within
+
+-- and is linked as its cell asks
+pub linked_so : (nodes : List Node) (found : Resolved) (i : ℕ) (link : Target) (n : Node) → i < length nodes → length found.links.items ≡ length nodes → n ≡ get_or nodes i n → link ≡ get_or found.links.items i link → ((c : Cell) → IsCell (map cell_of nodes) i c → IsLinkedAs c (target_at found i)) → IsLinkedAs (cell_of n) link
+linked_so nodes found i link n within links is linked all =
+    let P : Target → Type 0 = λ target. IsLinkedAs (cell_of n) target in
+    subst P (sym (link_there found i link (omega arith) linked)) (all (cell_of n) (cell_there nodes i n within is))
 
 pub leads_of_node : (nodes : List Node) (found : Resolved) (i : ℕ) (link : Target) (n : Node) → i < length nodes → length found.links.items ≡ length nodes → n ≡ get_or nodes i n → link ≡ get_or found.links.items i link → leads (map cell_of nodes) found i ≡ cell_leads (length nodes) (combined_number link) (cell_of n)
 leads_of_node nodes found i link n within links is linked =

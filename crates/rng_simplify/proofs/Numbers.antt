@@ -8,7 +8,7 @@ use Rattle.rng_simplify.specs.declared.resolve.Scope.{Scope}
 use Rattle.rng_simplify.specs.declared.resolve.Scope.TheVariants.{Nowhere, Outside, In}
 use Rattle.rng_simplify.specs.declared.resolve.Target.{Target}
 use Rattle.rng_simplify.specs.declared.resolve.Target.TheVariants.{Nothing, Element}
-use Rattle.rng_simplify.specs.ResolvedNodes.{element_number}
+use Rattle.rng_simplify.specs.ResolvedNodes.{element_number, IsToElement}
 use Rattle.rng_simplify.specs.Cells.{Cell}
 use Rattle.rng_simplify.specs.Cells as cell
 use Rattle.rng_simplify.specs.CellMeanings.{IsCell}
@@ -43,6 +43,13 @@ module _ {cells : List Cell} {scopes : List Scope} {upto : ℕ} {old : List Targ
         | inr none ↦ absurd (other_cell cells upto (cell.element class part) c (subst (λ k. IsCell cells k (cell.element class part)) is at_i) at refl none)
       ]
     ];
+    linked = λ i class part lt stands at_i. elim (cases_eq i upto) [
+      | inr other ↦ h.linked i class part (omega (arith, lt, other)) stands at_i
+      | inl is ↦ elim nothing [
+        | inl nowhere ↦ absurd (stands (ap (λ k. get_or scopes k Nowhere) is ∙ nowhere))
+        | inr none ↦ absurd (other_cell cells upto (cell.element class part) c (subst (λ k. IsCell cells k (cell.element class part)) is at_i) at refl none)
+      ]
+    ];
     each_number = λ number i there.
         let before = h.each_number number i there in
         (omega (arith, before.0), before.1);
@@ -68,6 +75,14 @@ module _ {cells : List Cell} {scopes : List Scope} {upto : ℕ} {old : List Targ
               ∙ ap (λ (t : Target). slice_get (now.elements ++ upto ∷ []) (element_number t)) here
               ∙ last_there now.elements upto
               ∙ ap Some (sym is)
+        ];
+        linked = λ i class_i part_i lt_i stands_i at_i. elim (cases_eq i upto) [
+          | inr other ↦
+              let P : Target → Type 0 = IsToElement in
+              subst P (sym (elsewhere i other)) (h.linked i class_i part_i (omega (arith, lt_i, other)) stands_i at_i)
+          | inl is ↦
+              let P : Target → Type 0 = IsToElement in
+              subst P (sym (ap (λ k. get_or (set now.links upto (Element (length now.elements))) k Nothing) is ∙ here)) tt
         ];
         each_number = λ number i there. elim (behind_cases now.elements upto number i there) [
           | inl before ↦
@@ -123,5 +138,6 @@ none_numbered cells scopes links = record {
   all_links = refl;
   other_links = λ i c at none. refl;
   numbered = λ i class part lt stands at. absurd (omega (arith, lt));
+  linked = λ i class part lt stands at. absurd (omega (arith, lt));
   each_number = λ number i there. absurd (none-some i there);
 }

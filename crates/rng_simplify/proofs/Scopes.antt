@@ -107,18 +107,18 @@ pub scope_on : {cells : List Cell} {old new : List Combined} {before after : Lis
 scope_on combined tables outside = outside
 scope_on combined tables (inside at table more) = inside (tables.stays _ _ at) (table_on combined table) (scope_on combined tables more)
 
-taken_on : {old new : List Combined} (cells : List Cell) (outers : List ℕ) (i link : ℕ) (c : Cell) → KeepsCombinations old new → IsTaken cells old outers i link c → IsTaken cells new outers i link c
+taken_on : {old new : List Combined} (cells : List Cell) (outers : List ℕ) (i : ℕ) (link : Target) (c : Cell) → KeepsCombinations old new → IsTaken cells old outers i link c → IsTaken cells new outers i link c
 taken_on cells outers i link (cell.element class part) keeps h = tt
 taken_on cells outers i link (cell.attribute class part) keeps h = tt
 taken_on cells outers i link (cell.listed part) keeps h = tt
-taken_on cells outers i link (cell.ref name) keeps h = combined_in_on cells (defined.Name name) link outers keeps h
-taken_on cells outers i link (cell.parent_ref name) keeps h = combined_outside_on cells (defined.Name name) link outers keeps h
+taken_on cells outers i link (cell.ref name) keeps h = (h.0, combined_in_on cells (defined.Name name) (combined_number link) outers keeps h.1)
+taken_on cells outers i link (cell.parent_ref name) keeps h = (h.0, combined_outside_on cells (defined.Name name) (combined_number link) outers keeps h.1)
 taken_on cells outers i link cell.empty keeps h = tt
 taken_on cells outers i link cell.any_text keeps h = tt
 taken_on cells outers i link cell.not_allowed keeps h = tt
 taken_on cells outers i link (cell.value type text) keeps h = tt
 taken_on cells outers i link (cell.typed type params part) keeps h = tt
-taken_on cells outers i link (cell.grammar clauses) keeps h = (combined_on keeps h.0, h.1)
+taken_on cells outers i link (cell.grammar clauses) keeps h = (h.0, combined_on keeps h.1, h.2)
 taken_on cells outers i link (cell.one_or_more part) keeps h = tt
 taken_on cells outers i link (cell.joined sign first second) keeps h = tt
 
@@ -163,7 +163,7 @@ pub record IsNext (cells : List Cell) (root i : ℕ) (c : Cell) (outers : List �
   pub other_links : (k : ℕ) → k ≢ i → get_or new.links k Nothing ≡ get_or old.links k Nothing
   pub combined : KeepsCombinations old.combined new.combined
   pub tables : KeepsTables old.tables new.tables
-  pub taken : IsTaken cells new.combined outers i (combined_number (get_or new.links i Nothing)) c
+  pub taken : IsTaken cells new.combined outers i (get_or new.links i Nothing) c
   pub each_combined : (number : ℕ) → number < length new.combined → IsOfGrammar cells root new.combined number
 
 next_posted : {cells : List Cell} {root i : ℕ} {c : Cell} {outers : List ℕ} {scope : Scope} {old new : Findings} → IsMidway cells root (i + 1) old → IsCell cells i c → Stands cells root outers i → IsNext cells root i c outers scope old new → (j : ℕ) → get_or new.scopes j Nowhere ≢ Nowhere → IsPosted cells root new (get_or new.scopes j Nowhere) j
@@ -177,13 +177,13 @@ next_posted {cells = cells} {root = root} {i = i} {c = c} {outers = outers} {sco
     ]
 
 -- a node that stands there again is the same
-same_taken : {cells : List Cell} {root i : ℕ} {c : Cell} {outers : List ℕ} (combined : List Combined) (links : List Target) → AreWellFormed cells root → IsCell cells i c → Stands cells root outers i → IsTaken cells combined outers i (combined_number (get_or links i Nothing)) c → (others : List ℕ) (k : ℕ) (d : Cell) → k ≡ i → Stands cells root others k → IsCell cells k d → IsTaken cells combined others k (combined_number (get_or links k Nothing)) d
+same_taken : {cells : List Cell} {root i : ℕ} {c : Cell} {outers : List ℕ} (combined : List Combined) (links : List Target) → AreWellFormed cells root → IsCell cells i c → Stands cells root outers i → IsTaken cells combined outers i (get_or links i Nothing) c → (others : List ℕ) (k : ℕ) (d : Cell) → k ≡ i → Stands cells root others k → IsCell cells k d → IsTaken cells combined others k (get_or links k Nothing) d
 same_taken {cells = cells} {root = root} {i = i} {c = c} {outers = outers} combined links formed at stands taken others k d is standing at_k =
     let same_cell : c ≡ d = one_cell cells i c d at (subst (λ m. IsCell cells m d) is at_k) in
     let same_outers : outers ≡ others = stands_once formed stands (subst (λ m. Stands cells root others m) is standing) in
-    subst (λ m. IsTaken cells combined others m (combined_number (get_or links m Nothing)) d) (sym is)
-    (subst (λ (e : Cell). IsTaken cells combined others i (combined_number (get_or links i Nothing)) e) same_cell
-    (subst (λ os. IsTaken cells combined os i (combined_number (get_or links i Nothing)) c) same_outers taken))
+    subst (λ m. IsTaken cells combined others m (get_or links m Nothing) d) (sym is)
+    (subst (λ (e : Cell). IsTaken cells combined others i (get_or links i Nothing) e) same_cell
+    (subst (λ os. IsTaken cells combined os i (get_or links i Nothing) c) same_outers taken))
 
 pub next_taken : {cells : List Cell} {root i : ℕ} {c : Cell} {outers : List ℕ} {scope : Scope} {old new : Findings} → AreWellFormed cells root → IsMidway cells root (i + 1) old → IsCell cells i c → Stands cells root outers i → IsNext cells root i c outers scope old new → IsMidway cells root i new
 next_taken {cells = cells} {root = root} {i = i} {c = c} {outers = outers} {scope = scope} {old = old} {new = new} formed midway at stands next =
@@ -203,7 +203,7 @@ next_taken {cells = cells} {root = root} {i = i} {c = c} {outers = outers} {scop
       ];
       taken = λ others k d le standing at_k. elim (cases_eq k i) [
         | inl is ↦ same_taken new.combined new.links formed at stands next.taken others k d is standing at_k
-        | inr other ↦ subst (λ (link : Target). IsTaken cells new.combined others k (combined_number link) d) (sym (next.other_links k other)) (taken_on cells others k (combined_number (get_or old.links k Nothing)) d next.combined (midway.taken others k d (omega (arith, le, other)) standing at_k))
+        | inr other ↦ subst (λ (link : Target). IsTaken cells new.combined others k link d) (sym (next.other_links k other)) (taken_on cells others k (get_or old.links k Nothing) d next.combined (midway.taken others k d (omega (arith, le, other)) standing at_k))
       ];
       each_combined = next.each_combined;
     }
@@ -348,7 +348,7 @@ old_combination keeps h = record { grammar = h.grammar; name = h.name; stands = 
 
 module _ {cells : List Cell} {root i : ℕ} where
   -- a node that is neither a reference nor a grammar
-  plain_taken : {old new : Findings} {scope : Scope} (c : Cell) → ((outers : List ℕ) → within c i outers ≡ outers) → ((combined : List Combined) (outers : List ℕ) (link : ℕ) → IsTaken cells combined outers i link c) → AreWellFormed cells root → IsMidway cells root (i + 1) old → IsCell cells i c → IsPosted cells root old scope i → scope ≢ Nowhere → new ≡ with_given (inner_nodes c) scope old → IsMidway cells root i new
+  plain_taken : {old new : Findings} {scope : Scope} (c : Cell) → ((outers : List ℕ) → within c i outers ≡ outers) → ((combined : List Combined) (outers : List ℕ) (link : Target) → IsTaken cells combined outers i link c) → AreWellFormed cells root → IsMidway cells root (i + 1) old → IsCell cells i c → IsPosted cells root old scope i → scope ≢ Nowhere → new ≡ with_given (inner_nodes c) scope old → IsMidway cells root i new
   plain_taken {old = old} {scope = scope} c same nothing formed midway at posted some is =
       subst (λ (f : Findings). IsMidway cells root i f) (sym is) (next_taken {c = c} {scope = scope} {new = with_given (inner_nodes c) scope old} formed midway at posted.stands (record {
         some = some;
@@ -358,12 +358,12 @@ module _ {cells : List Cell} {root i : ℕ} where
         other_links = λ k other. refl;
         combined = keeps_all_combinations old.combined;
         tables = keeps_all_tables old.tables;
-        taken = nothing old.combined posted.outers (combined_number (get_or old.links i Nothing));
+        taken = nothing old.combined posted.outers (get_or old.links i Nothing);
         each_combined = midway.each_combined;
       }))
 
   -- a reference
-  linked : {old : Findings} {scope : Scope} (c : Cell) (link : ℕ) → ((outers : List ℕ) → within c i outers ≡ outers) → inner_nodes c ≡ [] → AreWellFormed cells root → IsMidway cells root (i + 1) old → IsCell cells i c → (posted : IsPosted cells root old scope i) → scope ≢ Nowhere → IsTaken cells old.combined posted.outers i link c → IsMidway cells root i (with_link i (Definitions link) old)
+  linked : {old : Findings} {scope : Scope} (c : Cell) (link : ℕ) → ((outers : List ℕ) → within c i outers ≡ outers) → inner_nodes c ≡ [] → AreWellFormed cells root → IsMidway cells root (i + 1) old → IsCell cells i c → (posted : IsPosted cells root old scope i) → scope ≢ Nowhere → IsTaken cells old.combined posted.outers i (Definitions link) c → IsMidway cells root i (with_link i (Definitions link) old)
   linked {old = old} {scope = scope} c link same none formed midway at posted some taken =
       let lt : i < length old.links = omega (arith, slice_get_within cells i c at, midway.all_links) in
       next_taken {c = c} {scope = scope} {new = with_link i (Definitions link) old} formed midway at posted.stands (record {
@@ -374,13 +374,13 @@ module _ {cells : List Cell} {root i : ℕ} where
         other_links = λ k other. get_or-set_other old.links i k (Definitions link) Nothing other;
         combined = keeps_all_combinations old.combined;
         tables = keeps_all_tables old.tables;
-        taken = subst (λ l. IsTaken cells old.combined posted.outers i l c) (sym (ap combined_number (get_or-set_same old.links i (Definitions link) Nothing lt))) taken;
+        taken = subst (λ (l : Target). IsTaken cells old.combined posted.outers i l c) (sym (get_or-set_same old.links i (Definitions link) Nothing lt)) taken;
         each_combined = midway.each_combined;
       })
 
   ref_taken : {A : Type 0} {old : Findings} {scope : Scope} (new : Findings) (name : List ℕ) → AreWellFormed cells root → IsMidway cells root (i + 1) old → IsCell cells i (cell.ref name) → (posted : IsPosted cells root old scope i) → scope ≢ Nowhere → (found : Option ℕ) → FindsIn cells old.combined posted.outers name found → (result : Result A SchemaFault) → Links i found old new result → OkOrRefused cells root (λ done. IsMidway cells root i new) result
   ref_taken new name formed midway at posted some (Some number) finds (Ok done) is =
-      subst (λ (f : Findings). IsMidway cells root i f) (sym is) (linked (cell.ref name) number (λ outers. refl) refl formed midway at posted some finds)
+      subst (λ (f : Findings). IsMidway cells root i f) (sym is) (linked (cell.ref name) number (λ outers. refl) refl formed midway at posted some (tt, finds))
   ref_taken new name formed midway at posted some (Some number) finds (Err fault) is = absurd is
   ref_taken new name formed midway at posted some None finds (Ok done) is = absurd is
   ref_taken new name formed midway at posted some None finds (Err (Unreadable cause.NoDefinition)) is = ref_refused at posted.stands finds
@@ -388,7 +388,7 @@ module _ {cells : List Cell} {root i : ℕ} where
 
   parent_ref_taken : {A : Type 0} {old : Findings} {scope : Scope} (new : Findings) (name : List ℕ) → AreWellFormed cells root → IsMidway cells root (i + 1) old → IsCell cells i (cell.parent_ref name) → (posted : IsPosted cells root old scope i) → scope ≢ Nowhere → (found : Option ℕ) → FindsOutside cells old.combined posted.outers name found → (result : Result A SchemaFault) → Links i found old new result → OkOrRefused cells root (λ done. IsMidway cells root i new) result
   parent_ref_taken new name formed midway at posted some (Some number) finds (Ok done) is =
-      subst (λ (f : Findings). IsMidway cells root i f) (sym is) (linked (cell.parent_ref name) number (λ outers. refl) refl formed midway at posted some finds)
+      subst (λ (f : Findings). IsMidway cells root i f) (sym is) (linked (cell.parent_ref name) number (λ outers. refl) refl formed midway at posted some (tt, finds))
   parent_ref_taken new name formed midway at posted some (Some number) finds (Err fault) is = absurd is
   parent_ref_taken new name formed midway at posted some None finds (Ok done) is = absurd is
   parent_ref_taken new name formed midway at posted some None finds (Err (Unreadable cause.NoDefinition)) is = parent_ref_refused at posted.stands finds
@@ -410,9 +410,9 @@ module _ {cells : List Cell} {root i : ℕ} where
         other_links = λ k other. ap (λ (ls : List Target). get_or ls k Nothing) h.links_are ∙ get_or-set_other old.links i k (Definitions h.start) Nothing other;
         combined = combined;
         tables = tables;
-        taken = (
-          subst (λ link. IsCombined cells new.combined i defined.Start link) (sym (ap (λ (ls : List Target). combined_number (get_or ls i Nothing)) h.links_are ∙ ap combined_number (get_or-set_same old.links i (Definitions h.start) Nothing lt)))
-              (subst (λ (k : Option ℕ). IsKept cells new.combined i clauses defined.Start k) h.start_is (kept defined.Start)),
+        taken = subst (λ (link : Target). IsTaken cells new.combined posted.outers i link (cell.grammar clauses)) (sym (ap (λ (ls : List Target). get_or ls i Nothing) h.links_are ∙ get_or-set_same old.links i (Definitions h.start) Nothing lt)) (
+          tt,
+          subst (λ (k : Option ℕ). IsKept cells new.combined i clauses defined.Start k) h.start_is (kept defined.Start),
           λ name. no_clash_as new.combined clauses (length old.combined) name (kept_for h.names name) (h.gathered.gathered name),
         );
         each_combined = λ number within. elim (cases_lt number (length old.combined)) [

@@ -93,6 +93,10 @@ module _ (cells : List Cell) (root : ℕ) (found : Resolved) (resolved : IsResol
       | inr combination ↦ let inside = combination.1 in let is = combination.2 in omega arith
     ];
     all_links = resolved.all_links;
+    linked = λ place i c there at. elim (ordered.nothing_else i (in_place order place i there)) [
+      | inl stands ↦ resolved.linked i c stands at
+      | inr combination ↦ let inside = slice_get_within cells i _ at in let is = combination.2 in absurd (omega arith)
+    ];
     numbered = λ place i class part there at. elim (ordered.nothing_else i (in_place order place i there)) [
       | inl stands ↦ slice_get_within found.elements.items (number_at found i) i (resolved.numbered i class part stands at)
       | inr combination ↦ let inside = slice_get_within cells i _ at in let is = combination.2 in absurd (omega arith)

@@ -11,12 +11,13 @@ use Rattle.rng_simplify.specs.declared.resolve.Scope.TheVariants.{Nowhere, Outsi
 use Rattle.rng_simplify.specs.Refusals.{OkOrRefused}
 use Rattle.rng_simplify.specs.Cells.{Cell, cell_of}
 use Rattle.rng_simplify.specs.Cells as cell
+use Rattle.rng_simplify.specs.CellMeanings.{IsCell}
 use Rattle.rng_simplify.specs.NodePlaces.{inner_nodes, AreWellFormed, Stands, the_root}
-use Rattle.rng_simplify.specs.ResolvedNodes.{combined_number, IsResolved, IsCombinedIn, IsCombinedOutside, IsCombined}
+use Rattle.rng_simplify.specs.ResolvedNodes.{combined_number, IsToDefinitions, IsLinkedAs, IsResolved, IsCombinedIn, IsCombinedOutside, IsCombined}
 use Rattle.rnc_parse.specs.declared.surface.Defined.TheVariants as defined
 use Rattle.rng_simplify.specs.declared.resolve.Target.{Target}
 use Rattle.rng_simplify.specs.declared.resolve.Target.TheVariants.{Nothing}
-use Rattle.rng_simplify.specs.Findings.{Findings, findings_at_first, IsPosted, outside, IsMidway, TakesCell, AreNumbered}
+use Rattle.rng_simplify.specs.Findings.{Findings, findings_at_first, IsPosted, outside, IsMidway, TakesCell, Numbering, AreNumbered}
 use Rattle.rng_simplify.proofs.Nodes.{cell_there}
 use Rattle.rng_simplify.proofs.Posts.{stands_by}
 use Rattle.rng_simplify.proofs.Scopes.{set_cases, cell_taken, nowhere_taken}
@@ -91,6 +92,20 @@ module _ {cells : List Cell} {root : ℕ} {now : Findings} where
         | inr h ↦ midway.inner_known h.outer i h.cell (omega arith) (h.around, h.stands) h.is_cell h.inner none
       ]
 
+-- the target of each node is of its kind
+all_linked : (cells : List Cell) (root : ℕ) (now : Findings) (numbering : Numbering) → AreWellFormed cells root → IsMidway cells root 0 now → AreNumbered cells now.scopes (length cells) now.links numbering → (outers : List ℕ) (i : ℕ) (c : Cell) → Stands cells root outers i → IsCell cells i c → IsLinkedAs c (get_or numbering.links i Nothing)
+all_linked cells root now numbering formed midway numbered outers i (cell.element class part) stands at = numbered.linked i class part (slice_get_within cells i (cell.element class part) at) (standing_known outers i formed midway stands) at
+all_linked cells root now numbering formed midway numbered outers i (cell.ref name) stands at =
+    let P : Target → Type 0 = IsToDefinitions in
+    subst P (sym (numbered.other_links i (cell.ref name) at refl)) (midway.taken outers i (cell.ref name) (omega arith) stands at).0
+all_linked cells root now numbering formed midway numbered outers i (cell.parent_ref name) stands at =
+    let P : Target → Type 0 = IsToDefinitions in
+    subst P (sym (numbered.other_links i (cell.parent_ref name) at refl)) (midway.taken outers i (cell.parent_ref name) (omega arith) stands at).0
+all_linked cells root now numbering formed midway numbered outers i (cell.grammar clauses) stands at =
+    let P : Target → Type 0 = IsToDefinitions in
+    subst P (sym (numbered.other_links i (cell.grammar clauses) at refl)) (midway.taken outers i (cell.grammar clauses) (omega arith) stands at).0
+all_linked cells root now numbering formed midway numbered outers i c stands at = tt
+
 pub all_resolved : (cells : List Cell) (root : ℕ) (tables : List Table) (old : List Target) (scopes : Vec Scope Global) (links : Vec Target Global) (combined : Vec Combined Global) (elements : Vec ℕ Global) → AreWellFormed cells root → IsMidway cells root 0 (record { tables = tables; scopes = scopes.items; links = old; combined = combined.items }) → AreNumbered cells scopes.items (length cells) old (record { links = links.items; elements = elements.items }) → IsResolved cells root (record { scopes = scopes; links = links; combined = combined; elements = elements })
 all_resolved cells root tables old scopes links combined elements formed midway numbered = record {
   all_scopes = midway.all_scopes;
@@ -100,13 +115,14 @@ all_resolved cells root tables old scopes links combined elements formed midway 
     λ standing. standing_known standing.0 i formed midway standing.1,
   );
   ref_combined = λ outers i name stands at.
-      subst (λ link. IsCombinedIn cells combined.items outers (defined.Name name) link) (sym (ap combined_number (numbered.other_links i (cell.ref name) at refl))) (midway.taken outers i (cell.ref name) (omega arith) stands at);
+      subst (λ link. IsCombinedIn cells combined.items outers (defined.Name name) link) (sym (ap combined_number (numbered.other_links i (cell.ref name) at refl))) (midway.taken outers i (cell.ref name) (omega arith) stands at).1;
   parent_ref_combined = λ outers i name stands at.
-      subst (λ link. IsCombinedOutside cells combined.items outers (defined.Name name) link) (sym (ap combined_number (numbered.other_links i (cell.parent_ref name) at refl))) (midway.taken outers i (cell.parent_ref name) (omega arith) stands at);
+      subst (λ link. IsCombinedOutside cells combined.items outers (defined.Name name) link) (sym (ap combined_number (numbered.other_links i (cell.parent_ref name) at refl))) (midway.taken outers i (cell.parent_ref name) (omega arith) stands at).1;
   start_combined = λ i clauses standing at.
-      subst (λ link. IsCombined cells combined.items i defined.Start link) (sym (ap combined_number (numbered.other_links i (cell.grammar clauses) at refl))) (midway.taken standing.0 i (cell.grammar clauses) (omega arith) standing.1 at).0;
+      subst (λ link. IsCombined cells combined.items i defined.Start link) (sym (ap combined_number (numbered.other_links i (cell.grammar clauses) at refl))) (midway.taken standing.0 i (cell.grammar clauses) (omega arith) standing.1 at).1;
+  linked = λ i c standing at. all_linked cells root (record { tables = tables; scopes = scopes.items; links = old; combined = combined.items }) (record { links = links.items; elements = elements.items }) formed midway numbered standing.0 i c standing.1 at;
   each_combined = midway.each_combined;
-  no_clash = λ i clauses name standing at. (midway.taken standing.0 i (cell.grammar clauses) (omega arith) standing.1 at).1 name;
+  no_clash = λ i clauses name standing at. (midway.taken standing.0 i (cell.grammar clauses) (omega arith) standing.1 at).2 name;
   numbered = λ i class part standing at. numbered.numbered i class part (slice_get_within cells i (cell.element class part) at) (standing_known standing.0 i formed midway standing.1) at;
   each_number = λ number i there.
       let h = numbered.each_number number i there in

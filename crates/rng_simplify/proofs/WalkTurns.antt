@@ -2,9 +2,9 @@
 use Rattle.std.proofs.Common.{◌≡◌, ◌≢◌, refl, sym, ap, ◌∙◌, subst, ℕ, zero, suc, ◌+◌, ◌-◌, ◌<◌, ◌≤◌, inl, inr, Bool, true, false, List, [], ◌∷◌, length, map, get_or, sum_by, slice_get, Option, Some, None, Result, Ok, Err, Contains, arith}
 use Rattle.std.specs.Prelude.{◌==◌}
 use Rattle.std.specs.List.{AllByRecursion, IsDistinct}
-use Rattle.std.proofs.lemmas.Bool.{ne_eqb}
+use Rattle.std.proofs.lemmas.Bool.{ne_eqb, false≢true}
 use Rattle.std.proofs.lemmas.Option.{same_Some, none-some, slice_get_past, slice_get_read}
-use Rattle.std.proofs.lemmas.List.{length-map}
+use Rattle.std.proofs.lemmas.List.{length-map, get_or_read}
 use Rattle.std.proofs.lemmas.List.Sums.{sum_by-cons}
 use Rattle.nx_base.specs.declared.cause.Cause.TheVariants as cause
 use Rattle.rng_simplify.specs.declared.fault.SchemaFault.{SchemaFault}
@@ -21,8 +21,9 @@ use Rattle.rng_simplify.specs.declared.node.Node.{Node}
 use Rattle.rng_simplify.specs.Cells.{Cell, cell_of}
 use Rattle.rng_simplify.specs.Cells as cell
 use Rattle.rng_simplify.specs.NodePlaces.{cell_parts, AreWellFormed, IsStanding}
+use Rattle.rng_simplify.specs.declared.resolve.Target.{Target}
 use Rattle.rng_simplify.specs.declared.resolve.Target.TheVariants.{Nothing}
-use Rattle.rng_simplify.specs.ResolvedNodes.{IsResolved, combined_number, link_at, cell_leads, combined_leads, leads_if, leads, IsOrdered, scope_at}
+use Rattle.rng_simplify.specs.ResolvedNodes.{IsResolved, IsToDefinitions, IsLinkedAs, combined_number, link_at, cell_leads, combined_leads, leads_if, leads, target_at, IsOrdered, scope_at}
 use Rattle.rng_simplify.specs.NodeWalks.{IsMet, is_linked, WalkState, mark_at, step_of, with_step, left, Meets, AreSteps, path_of, IsWalk, KeepsMarks, most, IsTurned, IsGone, IsPassed}
 use Rattle.rng_simplify.proofs.Nodes.{in_none, in_cases, cell_there}
 use Rattle.rng_simplify.proofs.Posts.{stands_within}
@@ -109,13 +110,13 @@ module _ (cells : List Cell) (root : ℕ) (found : Resolved) where
 
   -- ---- a node of the path
 
-  up_to : (now : WalkState) (j : ℕ) (steps : List Step) → AreWellFormed cells root → AreSteps cells root found now (Some j) steps → (step : Step) → Contains steps step → Chain cells root found step.node j
+  up_to : (now : WalkState) (j : ℕ) (steps : List Step) → AreWellFormed cells root → AreSteps cells root found now (Some j) steps → (step : Step) → Contains steps step → Chain cells root found step.place j
   up_to now j [] formed h step among = absurd (in_none among)
   up_to now j (top ∷ before) formed h step among =
       let lead = lead_of cells root found formed h.0.is_met (h.0.leads_on j refl) in
       elim (in_cases top before step among) [
-        | inl is ↦ subst (λ (s : Step). Chain cells root found s.node j) is (last_lead lead)
-        | inr further ↦ chain_on (up_to now top.node before formed h.1 step further) lead
+        | inl is ↦ subst (λ (s : Step). Chain cells root found s.place j) is (last_lead lead)
+        | inr further ↦ chain_on (up_to now top.place before formed h.1 step further) lead
       ]
 
   -- it leads back to itself, where it comes next
@@ -126,17 +127,17 @@ module _ (cells : List Cell) (root : ℕ) (found : Resolved) where
 
   -- ---- one turn, to what comes next
 
-  turned_at : {A : Type 0} (now new : WalkState) (step : Step) (i : ℕ) → AreWellFormed cells root → IsResolved cells root found → IsWalk cells root found None (with_step step now) → slice_get (leads cells found step.node) step.met ≡ Some i → IsMet cells root found i → (mark : Mark) → mark_at now i ≡ mark → (result : Result A SchemaFault) → Meets i mark (with_step (step_of step.node (step.met + 1)) now) new result → OkOrRefused cells root (λ done. IsTurned cells root found (with_step step now) new) result
+  turned_at : {A : Type 0} (now new : WalkState) (step : Step) (i : ℕ) → AreWellFormed cells root → IsResolved cells root found → IsWalk cells root found None (with_step step now) → slice_get (leads cells found step.place) step.met ≡ Some i → IsMet cells root found i → (mark : Mark) → mark_at now i ≡ mark → (result : Result A SchemaFault) → Meets i mark (with_step (step_of step.place (step.met + 1)) now) new result → OkOrRefused cells root (λ done. IsTurned cells root found (with_step step now) new) result
   turned_at now new step i formed resolved h at met New is (Ok done) new_is =
       let lt = met_marked None (with_step step now) i formed h met in
       subst (λ (w : WalkState). IsTurned cells root found (with_step step now) w) (sym new_is) (record {
-        is_walk = newly_met cells root found (with_step (step_of step.node (step.met + 1)) now) i (next_step cells root found now step i h at met) lt is;
-        keeps = opened_keeps (with_step (step_of step.node (step.met + 1)) now) i lt;
+        is_walk = newly_met cells root found (with_step (step_of step.place (step.met + 1)) now) i (next_step cells root found now step i h at met) lt is;
+        keeps = opened_keeps (with_step (step_of step.place (step.met + 1)) now) i lt;
         falls = work_newly cells found now step i (few i) at lt is;
       })
   turned_at now new step i formed resolved h at met Done is (Ok done) new_is =
       subst (λ (w : WalkState). IsTurned cells root found (with_step step now) w) (sym new_is) (record {
-        is_walk = met_again cells root found (with_step (step_of step.node (step.met + 1)) now) i (next_step cells root found now step i h at met) is;
+        is_walk = met_again cells root found (with_step (step_of step.place (step.met + 1)) now) i (next_step cells root found now step i h at met) is;
         keeps = λ j some. some;
         falls = work_again cells found now step i at;
       })
@@ -144,29 +145,29 @@ module _ (cells : List Cell) (root : ℕ) (found : Resolved) where
   turned_at now new step i formed resolved h at met New is (Err NoMemory) new_is = tt
   turned_at now new step i formed resolved h at met Open is (Err NoMemory) new_is = tt
   turned_at now new step i formed resolved h at met Done is (Err NoMemory) new_is = tt
-  turned_at now new step i formed resolved h at met Open is (Err (Unreadable cause.RefLoop)) new_is = open_refused (with_step (step_of step.node (step.met + 1)) now) i formed resolved (next_step cells root found now step i h at met) is
+  turned_at now new step i formed resolved h at met Open is (Err (Unreadable cause.RefLoop)) new_is = open_refused (with_step (step_of step.place (step.met + 1)) now) i formed resolved (next_step cells root found now step i h at met) is
   turned_at now new step i formed resolved h at met New is (Err other) new_is = absurd new_is
   turned_at now new step i formed resolved h at met Open is (Err other) new_is = absurd new_is
   turned_at now new step i formed resolved h at met Done is (Err other) new_is = absurd new_is
 
-  pub last_met : (now : WalkState) (step : Step) → IsWalk cells root found None (with_step step now) → IsMet cells root found step.node
+  pub last_met : (now : WalkState) (step : Step) → IsWalk cells root found None (with_step step now) → IsMet cells root found step.place
   last_met now step h = (has_last cells root found now step h).are_steps.0.is_met
 
-  pub next_met : (now : WalkState) (step : Step) (i : ℕ) → AreWellFormed cells root → IsResolved cells root found → IsWalk cells root found None (with_step step now) → slice_get (leads cells found step.node) step.met ≡ Some i → IsMet cells root found i
-  next_met now step i formed resolved h at = lead_met cells root found resolved (lead_of cells root found formed (last_met now step h) (in_by_place (leads cells found step.node) step.met i at))
+  pub next_met : (now : WalkState) (step : Step) (i : ℕ) → AreWellFormed cells root → IsResolved cells root found → IsWalk cells root found None (with_step step now) → slice_get (leads cells found step.place) step.met ≡ Some i → IsMet cells root found i
+  next_met now step i formed resolved h at = lead_met cells root found resolved (lead_of cells root found formed (last_met now step h) (in_by_place (leads cells found step.place) step.met i at))
 
-  pub turned_on : {A : Type 0} (now mid new : WalkState) (step : Step) (i : ℕ) → AreWellFormed cells root → IsResolved cells root found → IsWalk cells root found None (with_step step now) → slice_get (leads cells found step.node) step.met ≡ Some i → mid ≡ with_step (step_of step.node (step.met + 1)) now → (result : Result A SchemaFault) → Meets i (mark_at mid i) mid new result → OkOrRefused cells root (λ done. IsTurned cells root found (with_step step now) new) result
+  pub turned_on : {A : Type 0} (now mid new : WalkState) (step : Step) (i : ℕ) → AreWellFormed cells root → IsResolved cells root found → IsWalk cells root found None (with_step step now) → slice_get (leads cells found step.place) step.met ≡ Some i → mid ≡ with_step (step_of step.place (step.met + 1)) now → (result : Result A SchemaFault) → Meets i (mark_at mid i) mid new result → OkOrRefused cells root (λ done. IsTurned cells root found (with_step step now) new) result
   turned_on now mid new step i formed resolved h at mid_is result meets =
       turned_at now new step i formed resolved h at (next_met now step i formed resolved h at) (mark_at now i) refl result (subst (λ (w : WalkState). Meets i (mark_at w i) w new result) mid_is meets)
 
   -- back from a node
-  pub turned_back : (now new : WalkState) (step : Step) → AreWellFormed cells root → IsWalk cells root found None (with_step step now) → slice_get (leads cells found step.node) step.met ≡ None → new ≡ left step.node now → IsTurned cells root found (with_step step now) new
+  pub turned_back : (now new : WalkState) (step : Step) → AreWellFormed cells root → IsWalk cells root found None (with_step step now) → slice_get (leads cells found step.place) step.met ≡ None → new ≡ left step.place now → IsTurned cells root found (with_step step now) new
   turned_back now new step formed h none new_is =
       let top = (has_last cells root found now step h).are_steps.0 in
-      let lt = met_marked None (with_step step now) step.node formed h top.is_met in
+      let lt = met_marked None (with_step step now) step.place formed h top.is_met in
       subst (λ (w : WalkState). IsTurned cells root found (with_step step now) w) (sym new_is) (record {
         is_walk = node_left cells root found now step h lt none;
-        keeps = left_keeps now step.node lt;
+        keeps = left_keeps now step.place lt;
         falls = work_left cells found now step top.within top.is_open;
       })
 
@@ -295,6 +296,20 @@ leads_bodies nodes found x n k combination past n_is lt is =
 pub link_fits : (nodes : List Node) (root : ℕ) (found : Resolved) (x : ℕ) (node : Node) → AreWellFormed (map cell_of nodes) root → IsResolved (map cell_of nodes) root found → IsMet (map cell_of nodes) root found x → x < length nodes → node ≡ get_or nodes x node → is_linked (cell_of node) ≡ true → combined_number (get_or found.links.items x Nothing) < length found.combined.items
 link_fits nodes root found x node formed resolved (inl (outers, stands)) lt is linked = link_within (map cell_of nodes) root found outers x (cell_of node) resolved stands (cell_there nodes x node lt is) linked
 link_fits nodes root found x node formed resolved (inr (n, within, at)) lt is linked = absurd (omega (arith, at, lt, length-map nodes cell_of))
+
+-- and leads to such
+to_definitions : (c : Cell) (target : Target) → is_linked c ≡ true → IsLinkedAs c target → IsToDefinitions target
+to_definitions (cell.ref name) target linked h = h
+to_definitions (cell.parent_ref name) target linked h = h
+to_definitions (cell.grammar clauses) target linked h = h
+to_definitions c target linked h = absurd (false≢true linked)
+
+pub link_leads : (nodes : List Node) (root : ℕ) (found : Resolved) (x : ℕ) (node : Node) (target : Target) → IsResolved (map cell_of nodes) root found → IsMet (map cell_of nodes) root found x → x < length nodes → node ≡ get_or nodes x node → is_linked (cell_of node) ≡ true → target ≡ get_or found.links.items x target → IsToDefinitions target
+link_leads nodes root found x node target resolved (inl stands) lt is linked read =
+    let known : x < length found.links.items = omega (arith, lt, resolved.all_links, length-map nodes cell_of) in
+    let P : Target → Type 0 = IsToDefinitions in
+    subst P (sym (get_or_read found.links.items x target known read Nothing)) (to_definitions (cell_of node) (target_at found x) linked (resolved.linked x (cell_of node) stands (cell_there nodes x node lt is)))
+link_leads nodes root found x node target resolved (inr (n, within, at)) lt is linked read = absurd (omega (arith, at, lt, length-map nodes cell_of))
 
 -- what is met behind the nodes are combined definitions
 pub combination_there : (nodes : List Node) (root : ℕ) (found : Resolved) (x : ℕ) → AreWellFormed (map cell_of nodes) root → IsMet (map cell_of nodes) root found x → length nodes ≤ x → x - length nodes < length found.combined.items

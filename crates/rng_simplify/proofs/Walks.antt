@@ -80,9 +80,9 @@ module _ (cells : List Cell) (root : ℕ) (found : Resolved) where
     pub before : List Step
     pub path_is : now.path ≡ path_of before
     pub are_steps : AreSteps cells root found (with_step step now) None (step ∷ before)
-    pub steps_are : (i : ℕ) → mark_at now i ≡ Open → (other : Step) × Contains (step ∷ before) other × (other.node ≡ i)
+    pub steps_are : (i : ℕ) → mark_at now i ≡ Open → (other : Step) × Contains (step ∷ before) other × (other.place ≡ i)
 
-  last_by : (now : WalkState) (step : Step) (steps : List Step) → now.path ++ step ∷ [] ≡ path_of steps → AreSteps cells root found (with_step step now) None steps → ((i : ℕ) → mark_at now i ≡ Open → (other : Step) × Contains steps other × (other.node ≡ i)) → HasLast now step
+  last_by : (now : WalkState) (step : Step) (steps : List Step) → now.path ++ step ∷ [] ≡ path_of steps → AreSteps cells root found (with_step step now) None steps → ((i : ℕ) → mark_at now i ≡ Open → (other : Step) × Contains steps other × (other.place ≡ i)) → HasLast now step
   last_by now step [] path_is are_steps on_path = absurd (some_end now.path step path_is)
   last_by now step (top ∷ before) path_is are_steps on_path =
       let ends = same_ends now.path (path_of before) step top path_is in
@@ -90,23 +90,23 @@ module _ (cells : List Cell) (root : ℕ) (found : Resolved) where
         before = before;
         path_is = ends.0;
         are_steps = subst (λ (s : Step). AreSteps cells root found (with_step step now) None (s ∷ before)) (sym ends.1) are_steps;
-        steps_are = subst (λ (s : Step). (i : ℕ) → mark_at now i ≡ Open → (other : Step) × Contains (s ∷ before) other × (other.node ≡ i)) (sym ends.1) on_path;
+        steps_are = subst (λ (s : Step). (i : ℕ) → mark_at now i ≡ Open → (other : Step) × Contains (s ∷ before) other × (other.place ≡ i)) (sym ends.1) on_path;
       }
 
   pub has_last : (now : WalkState) (step : Step) → IsWalk cells root found None (with_step step now) → HasLast now step
   has_last now step h = last_by now step h.steps h.path_is h.are_steps h.on_path
 
   -- the steps of a path are open
-  steps_open : (now : WalkState) (next : Option ℕ) (steps : List Step) → AreSteps cells root found now next steps → (step : Step) → Contains steps step → mark_at now step.node ≡ Open
+  steps_open : (now : WalkState) (next : Option ℕ) (steps : List Step) → AreSteps cells root found now next steps → (step : Step) → Contains steps step → mark_at now step.place ≡ Open
   steps_open now next [] h step among = absurd (in_none among)
   steps_open now next (top ∷ before) h step among =
       elim (in_cases top before step among) [
-        | inl is ↦ ap (λ (s : Step). mark_at now s.node) (sym is) ∙ h.0.is_open
-        | inr further ↦ steps_open now (Some top.node) before h.1 step further
+        | inl is ↦ ap (λ (s : Step). mark_at now s.place) (sym is) ∙ h.0.is_open
+        | inr further ↦ steps_open now (Some top.place) before h.1 step further
       ]
 
   -- they stay what they are where the marks of the path stay, and what is done stays done
-  step_on : (now new : WalkState) (next : Option ℕ) (step : Step) (before : List Step) → (mark_at now step.node ≡ Open → mark_at new step.node ≡ Open) → ((i : ℕ) → mark_at now i ≡ Done → mark_at new i ≡ Done) → IsStep cells root found now next step before → IsStep cells root found new next step before
+  step_on : (now new : WalkState) (next : Option ℕ) (step : Step) (before : List Step) → (mark_at now step.place ≡ Open → mark_at new step.place ≡ Open) → ((i : ℕ) → mark_at now i ≡ Done → mark_at new i ≡ Done) → IsStep cells root found now next step before → IsStep cells root found new next step before
   step_on now new next step before open_on done_on h = record {
     is_met = h.is_met;
     is_open = open_on h.is_open;
@@ -116,11 +116,11 @@ module _ (cells : List Cell) (root : ℕ) (found : Resolved) where
     apart = h.apart;
   }
 
-  steps_on : (now new : WalkState) (next : Option ℕ) (steps : List Step) → ((step : Step) → Contains steps step → mark_at now step.node ≡ Open → mark_at new step.node ≡ Open) → ((i : ℕ) → mark_at now i ≡ Done → mark_at new i ≡ Done) → AreSteps cells root found now next steps → AreSteps cells root found new next steps
+  steps_on : (now new : WalkState) (next : Option ℕ) (steps : List Step) → ((step : Step) → Contains steps step → mark_at now step.place ≡ Open → mark_at new step.place ≡ Open) → ((i : ℕ) → mark_at now i ≡ Done → mark_at new i ≡ Done) → AreSteps cells root found now next steps → AreSteps cells root found new next steps
   steps_on now new next [] open_on done_on h = tt
   steps_on now new next (step ∷ before) open_on done_on h = (
     step_on now new next step before (open_on step (in_first step before)) done_on h.0,
-    steps_on now new (Some step.node) before (λ other among. open_on other (in_more step before other among)) done_on h.1,
+    steps_on now new (Some step.place) before (λ other among. open_on other (in_more step before other among)) done_on h.1,
   )
 
   -- what comes next is done
@@ -143,12 +143,12 @@ module _ (cells : List Cell) (root : ℕ) (found : Resolved) where
 
   -- ---- a step to what the last node leads to
 
-  pub next_step : (now : WalkState) (step : Step) (next : ℕ) → IsWalk cells root found None (with_step step now) → slice_get (leads cells found step.node) step.met ≡ Some next → IsMet cells root found next → IsWalk cells root found (Some next) (with_step (step_of step.node (step.met + 1)) now)
+  pub next_step : (now : WalkState) (step : Step) (next : ℕ) → IsWalk cells root found None (with_step step now) → slice_get (leads cells found step.place) step.met ≡ Some next → IsMet cells root found next → IsWalk cells root found (Some next) (with_step (step_of step.place (step.met + 1)) now)
   next_step now step next h at met_next =
       let last = has_last now step h in
       let top = last.are_steps.0 in
-      let further = step_of step.node (step.met + 1) in
-      let lt = slice_get_within (leads cells found step.node) step.met next at in
+      let further = step_of step.place (step.met + 1) in
+      let lt = slice_get_within (leads cells found step.place) step.met next at in
       record {
         steps = further ∷ last.before;
         path_is = ap (λ (p : List Step). p ++ further ∷ []) last.path_is;
@@ -158,23 +158,23 @@ module _ (cells : List Cell) (root : ℕ) (found : Resolved) where
             is_open = top.is_open;
             within = omega (arith, lt);
             met = λ k i less there. elim (cases_eq k step.met) [
-              | inl is ↦ inr (sym at ∙ ap (slice_get (leads cells found step.node)) (sym is) ∙ there)
+              | inl is ↦ inr (sym at ∙ ap (slice_get (leads cells found step.place)) (sym is) ∙ there)
               | inr other ↦ elim (top.met k i (omega (arith, less, other)) there) [
                 | inl done ↦ inl done
                 | inr is ↦ absurd (none-some i is)
               ]
             ];
-            leads_on = λ i is. subst (λ j. Contains (leads cells found step.node) j) (same_Some next i is) (in_by_place (leads cells found step.node) step.met next at);
+            leads_on = λ i is. subst (λ j. Contains (leads cells found step.place) j) (same_Some next i is) (in_by_place (leads cells found step.place) step.met next at);
             apart = top.apart;
           },
-          steps_on (with_step step now) (with_step further now) (Some step.node) last.before (λ other among is. is) (λ i is. is) last.are_steps.1,
+          steps_on (with_step step now) (with_step further now) (Some step.place) last.before (λ other among is. is) (λ i is. is) last.are_steps.1,
         );
         next_met = λ i is. subst (λ j. IsMet cells root found j) (same_Some next i is) met_next;
         all_marks = h.all_marks;
         on_path = λ i is_open.
             let it = last.steps_are i is_open in
             elim (in_cases step last.before it.0 it.1) [
-              | inl is ↦ (further, in_first further last.before, ap (λ (s : Step). s.node) is ∙ it.2)
+              | inl is ↦ (further, in_first further last.before, ap (λ (s : Step). s.place) is ∙ it.2)
               | inr among ↦ (it.0, in_more further last.before it.0 among, it.2)
             ];
         done = h.done;
@@ -187,7 +187,7 @@ module _ (cells : List Cell) (root : ℕ) (found : Resolved) where
 
   pub newly_met : (now : WalkState) (i : ℕ) → IsWalk cells root found (Some i) now → i < length now.marks → mark_at now i ≡ New → IsWalk cells root found None (opened i now)
   newly_met now i h lt new =
-      let stays_open : (step : Step) → Contains h.steps step → mark_at now step.node ≡ Open → mark_at (opened i now) step.node ≡ Open = λ step among is. other_mark now.marks i Open step.node (by_mark now i step.node New Open new is new_open) ∙ is in
+      let stays_open : (step : Step) → Contains h.steps step → mark_at now step.place ≡ Open → mark_at (opened i now) step.place ≡ Open = λ step among is. other_mark now.marks i Open step.place (by_mark now i step.place New Open new is new_open) ∙ is in
       let stays_done : (j : ℕ) → mark_at now j ≡ Done → mark_at (opened i now) j ≡ Done = λ j is. other_mark now.marks i Open j (by_mark now i j New Done new is new_done) ∙ is in
       record {
         steps = step_of i 0 ∷ h.steps;
@@ -199,7 +199,7 @@ module _ (cells : List Cell) (root : ℕ) (found : Resolved) where
             within = omega arith;
             met = λ k j less at. absurd (omega (arith, less));
             leads_on = λ j is. absurd (none-some j is);
-            apart = λ other among. by_mark now i other.node New Open new (steps_open now (Some i) h.steps h.are_steps other among) new_open;
+            apart = λ other among. by_mark now i other.place New Open new (steps_open now (Some i) h.steps h.are_steps other among) new_open;
           },
           steps_on now (opened i now) (Some i) h.steps stays_open stays_done h.are_steps,
         );
@@ -236,12 +236,12 @@ module _ (cells : List Cell) (root : ℕ) (found : Resolved) where
 
   -- ---- a node that is left
 
-  pub node_left : (now : WalkState) (step : Step) → IsWalk cells root found None (with_step step now) → step.node < length now.marks → slice_get (leads cells found step.node) step.met ≡ None → IsWalk cells root found None (left step.node now)
+  pub node_left : (now : WalkState) (step : Step) → IsWalk cells root found None (with_step step now) → step.place < length now.marks → slice_get (leads cells found step.place) step.met ≡ None → IsWalk cells root found None (left step.place now)
   node_left now step h lt none =
       let last = has_last now step h in
       let top = last.are_steps.0 in
-      let node = step.node in
-      let stays_open : (other : Step) → Contains last.before other → mark_at now other.node ≡ Open → mark_at (left node now) other.node ≡ Open = λ other among is. other_mark now.marks node Done other.node (top.apart other among) ∙ is in
+      let node = step.place in
+      let stays_open : (other : Step) → Contains last.before other → mark_at now other.place ≡ Open → mark_at (left node now) other.place ≡ Open = λ other among is. other_mark now.marks node Done other.place (top.apart other among) ∙ is in
       let stays_done : (j : ℕ) → mark_at now j ≡ Done → mark_at (left node now) j ≡ Done = λ j is. elim (cases_eq j node) [
         | inl same ↦ ap (mark_at (left node now)) same ∙ set_mark now.marks node Done lt
         | inr other ↦ other_mark now.marks node Done j other ∙ is
@@ -260,7 +260,7 @@ module _ (cells : List Cell) (root : ℕ) (found : Resolved) where
           | inr other ↦
               let it = last.steps_are j (sym (other_mark now.marks node Done j other) ∙ is) in
               elim (in_cases step last.before it.0 it.1) [
-                | inl top_is ↦ absurd (other (sym it.2 ∙ ap (λ (s : Step). s.node) (sym top_is)))
+                | inl top_is ↦ absurd (other (sym it.2 ∙ ap (λ (s : Step). s.place) (sym top_is)))
                 | inr among ↦ (it.0, among, it.2)
               ]
         ];
@@ -356,23 +356,23 @@ newly_work cells found mid next counted =
 
 module _ (cells : List Cell) (found : Resolved) (now : WalkState) (step : Step) (next : ℕ) where
   -- a node that was met before
-  pub work_again : slice_get (leads cells found step.node) step.met ≡ Some next → work cells found (with_step (step_of step.node (step.met + 1)) now) < work cells found (with_step step now)
+  pub work_again : slice_get (leads cells found step.place) step.met ≡ Some next → work cells found (with_step (step_of step.place (step.met + 1)) now) < work cells found (with_step step now)
   work_again at =
-      let lt = slice_get_within (leads cells found step.node) step.met next at in
-      omega (arith, lt, work_with cells found now step, work_with cells found now (step_of step.node (step.met + 1)))
+      let lt = slice_get_within (leads cells found step.place) step.met next at in
+      omega (arith, lt, work_with cells found now step, work_with cells found now (step_of step.place (step.met + 1)))
 
   -- one that is met now
-  pub work_newly : length (leads cells found next) + 1 < most found → slice_get (leads cells found step.node) step.met ≡ Some next → next < length now.marks → mark_at now next ≡ New → work cells found (opened next (with_step (step_of step.node (step.met + 1)) now)) < work cells found (with_step step now)
+  pub work_newly : length (leads cells found next) + 1 < most found → slice_get (leads cells found step.place) step.met ≡ Some next → next < length now.marks → mark_at now next ≡ New → work cells found (opened next (with_step (step_of step.place (step.met + 1)) now)) < work cells found (with_step step now)
   work_newly few at lt new =
-      let mid = with_step (step_of step.node (step.met + 1)) now in
+      let mid = with_step (step_of step.place (step.met + 1)) now in
       let less = work_again at in
       let counted = count_new_opened now.marks next lt new in
       let opened_work : work cells found (opened next mid) + most found ≡ work cells found mid + left_at cells found (step_of next 0) = newly_work cells found mid next counted in
       omega (arith, less, few, opened_work)
 
 -- one that is left
-pub work_left : (cells : List Cell) (found : Resolved) (now : WalkState) (step : Step) → step.met ≤ length (leads cells found step.node) → mark_at now step.node ≡ Open → work cells found (left step.node now) < work cells found (with_step step now)
+pub work_left : (cells : List Cell) (found : Resolved) (now : WalkState) (step : Step) → step.met ≤ length (leads cells found step.place) → mark_at now step.place ≡ Open → work cells found (left step.place now) < work cells found (with_step step now)
 work_left cells found now step within is_open =
-    let same = count_new_left now.marks step.node is_open in
-    let equal : work cells found (left step.node now) ≡ work cells found now = ap (λ n. n * most found + sum_by (left_at cells found) now.path) same in
+    let same = count_new_left now.marks step.place is_open in
+    let equal : work cells found (left step.place now) ≡ work cells found now = ap (λ n. n * most found + sum_by (left_at cells found) now.path) same in
     omega (arith, equal, within, work_with cells found now step)

@@ -28,7 +28,8 @@ use Rattle.rng_simplify.specs.CellMeanings.{IsCell}
 use Rattle.rng_simplify.specs.Forms.{combine_of}
 use Rattle.rng_simplify.specs.NameTables.{kept_named, kept_for}
 use Rattle.rng_simplify.specs.NodePlaces.{bodies_of, inner_nodes, Stands, IsStanding}
-use Rattle.rng_simplify.specs.ResolvedNodes.{combined_number, element_number, clauses_of, combines_of, IsCombined, IsCombinedIn, IsCombinedOutside, IsOfGrammar}
+use Rattle.rng_simplify.specs.ResolvedNodes.{combined_number, element_number, IsToDefinitions, IsToElement}
+use Rattle.rng_simplify.specs.ResolvedNodes.{clauses_of, combines_of, IsCombined, IsCombinedIn, IsCombinedOutside, IsOfGrammar}
 
 -- ---- combined definitions
 
@@ -214,12 +215,15 @@ pub record IsPosted (cells : List Cell) (root : ℕ) (now : Findings) (scope : S
   pub is_scope : IsScope cells now.combined now.tables scope outers
 
 -- what is known of a node that was taken
-abbrev pub IsTaken : List Cell → List Combined → List ℕ → ℕ → ℕ → Cell → Type 0
-IsTaken cells combined outers i link (cell.ref name) = IsCombinedIn cells combined outers (defined.Name name) link
-IsTaken cells combined outers i link (cell.parent_ref name) = IsCombinedOutside cells combined outers (defined.Name name) link
-IsTaken cells combined outers i link (cell.grammar clauses) =
-    IsCombined cells combined i defined.Start link × ((name : Defined) → clash (combines_of (clauses_of name clauses)) ≡ false)
-IsTaken cells combined outers i link c = Unit {0}
+abbrev pub IsTaken : List Cell → List Combined → List ℕ → ℕ → Target → Cell → Type 0
+IsTaken cells combined outers i target (cell.ref name) =
+    IsToDefinitions target × IsCombinedIn cells combined outers (defined.Name name) (combined_number target)
+IsTaken cells combined outers i target (cell.parent_ref name) =
+    IsToDefinitions target × IsCombinedOutside cells combined outers (defined.Name name) (combined_number target)
+IsTaken cells combined outers i target (cell.grammar clauses) =
+    IsToDefinitions target × IsCombined cells combined i defined.Start (combined_number target)
+    × ((name : Defined) → clash (combines_of (clauses_of name clauses)) ≡ false)
+IsTaken cells combined outers i target c = Unit {0}
 
 -- the nodes from a number on are taken
 pub record IsMidway (cells : List Cell) (root from : ℕ) (now : Findings) : Type 0 where
@@ -232,7 +236,7 @@ pub record IsMidway (cells : List Cell) (root from : ℕ) (now : Findings) : Typ
   pub inner_known : (i j : ℕ) (c : Cell) → from ≤ i → IsStanding cells root i → IsCell cells i c → Contains (inner_nodes c) j →
       slice_index_or now.scopes j Nowhere ≢ Nowhere
   pub taken : (outers : List ℕ) (i : ℕ) (c : Cell) → from ≤ i → Stands cells root outers i → IsCell cells i c →
-      IsTaken cells now.combined outers i (combined_number (slice_index_or now.links i Nothing)) c
+      IsTaken cells now.combined outers i (slice_index_or now.links i Nothing) c
   pub each_combined : (number : ℕ) → number < length now.combined → IsOfGrammar cells root now.combined number
 
 -- ---- the numbers of elements
@@ -275,4 +279,6 @@ pub record AreNumbered (cells : List Cell) (scopes : List Scope) (upto : ℕ) (o
       slice_index_or old i Nothing
   pub numbered : (i : ℕ) (class : Class) (part : ℕ) → i < upto → slice_index_or scopes i Nowhere ≢ Nowhere →
       IsCell cells i (cell.element class part) → slice_get new.elements (element_number (slice_index_or new.links i Nothing)) ≡ Some i
+  pub linked : (i : ℕ) (class : Class) (part : ℕ) → i < upto → slice_index_or scopes i Nowhere ≢ Nowhere →
+      IsCell cells i (cell.element class part) → IsToElement (slice_index_or new.links i Nothing)
   pub each_number : (number i : ℕ) → slice_get new.elements number ≡ Some i → (i < upto) × IsElementOf cells scopes new.links number i

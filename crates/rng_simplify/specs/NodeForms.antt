@@ -19,7 +19,7 @@ use Rattle.rng_simplify.specs.Cells as cell
 use Rattle.rng_simplify.specs.CellMeanings.{IsCell}
 use Rattle.rng_simplify.specs.Forms.{Form, Value, list_of, attribute_of, one_or_more_of, combined_by, values_of}
 use Rattle.rng_simplify.specs.Forms as form
-use Rattle.rng_simplify.specs.ResolvedNodes.{combined_number, element_number, target_at, number_at, leads}
+use Rattle.rng_simplify.specs.ResolvedNodes.{combined_number, element_number, target_at, IsLinkedAs, number_at, leads}
 use Rattle.rng_simplify.specs.Shown.{joined_of, form_at, AreOfSchema}
 
 -- ---- forms of cells and combined definitions
@@ -73,6 +73,7 @@ pub record IsBefore (order : List ℕ) (end i : ℕ) : Type 0 where
 pub record IsInOrder (cells : List Cell) (found : Resolved) (order : List ℕ) : Type 0 where
   pub within : (place i : ℕ) → slice_get order place ≡ Some i → i < length cells + length found.combined.items
   pub all_links : length found.links.items ≡ length cells
+  pub linked : (place i : ℕ) (c : Cell) → slice_get order place ≡ Some i → IsCell cells i c → IsLinkedAs c (target_at found i)
   pub numbered : (place i : ℕ) (class : Class) (part : ℕ) → slice_get order place ≡ Some i → IsCell cells i (cell.element class part) →
       number_at found i < length found.elements.items
   pub once : (place other i : ℕ) → slice_get order place ≡ Some i → slice_get order other ≡ Some i → place ≡ other

@@ -41,7 +41,7 @@ abbrev pub mark_at : WalkState → ℕ → Mark
 mark_at now i = slice_index_or now.marks i New
 
 abbrev pub step_of : ℕ → ℕ → Step
-step_of node met = record { node = node; met = met }
+step_of place met = record { place = place; met = met }
 
 -- with a further step
 abbrev pub with_step : Step → WalkState → WalkState
@@ -69,18 +69,18 @@ Meets node mark old new (Err other) = ⊥
 -- a step of the path, with the node that comes next and the steps before: all that it met is done or comes next
 pub record IsStep (cells : List Cell) (root : ℕ) (found : Resolved) (now : WalkState) (next : Option ℕ) (step : Step)
     (before : List Step) : Type 0 where
-  pub is_met : IsMet cells root found step.node
-  pub is_open : mark_at now step.node ≡ Open
-  pub within : step.met ≤ length (leads cells found step.node)
-  pub met : (k i : ℕ) → k < step.met → slice_get (leads cells found step.node) k ≡ Some i → (mark_at now i ≡ Done) ⊎ (next ≡ Some i)
-  pub leads_on : (i : ℕ) → next ≡ Some i → Contains (leads cells found step.node) i
-  pub apart : (other : Step) → Contains before other → other.node ≢ step.node
+  pub is_met : IsMet cells root found step.place
+  pub is_open : mark_at now step.place ≡ Open
+  pub within : step.met ≤ length (leads cells found step.place)
+  pub met : (k i : ℕ) → k < step.met → slice_get (leads cells found step.place) k ≡ Some i → (mark_at now i ≡ Done) ⊎ (next ≡ Some i)
+  pub leads_on : (i : ℕ) → next ≡ Some i → Contains (leads cells found step.place) i
+  pub apart : (other : Step) → Contains before other → other.place ≢ step.place
 
 -- all steps, the last one first
 abbrev pub AreSteps : List Cell → ℕ → Resolved → WalkState → Option ℕ → List Step → Type 0
 AreSteps cells root found now next [] = Unit {0}
 AreSteps cells root found now next (step ∷ before)
-    = IsStep cells root found now next step before × AreSteps cells root found now (Some step.node) before
+    = IsStep cells root found now next step before × AreSteps cells root found now (Some step.place) before
 
 -- the path by its steps, the last one first
 abbrev pub path_of : List Step → List Step
@@ -95,7 +95,7 @@ pub record IsWalk (cells : List Cell) (root : ℕ) (found : Resolved) (next : Op
   pub next_met : (i : ℕ) → next ≡ Some i → IsMet cells root found i
   pub all_marks : length now.marks ≡ length cells + length found.combined.items
   -- the nodes of the path are open, and no others; those in the order are done, and no others
-  pub on_path : (i : ℕ) → mark_at now i ≡ Open → (step : Step) × Contains steps step × (step.node ≡ i)
+  pub on_path : (i : ℕ) → mark_at now i ≡ Open → (step : Step) × Contains steps step × (step.place ≡ i)
   pub done : (i : ℕ) → mark_at now i ≡ Done → Contains now.order i
   pub ordered : (i : ℕ) → Contains now.order i → (mark_at now i ≡ Done) × IsMet cells root found i
   pub once : (k m i : ℕ) → slice_get now.order k ≡ Some i → slice_get now.order m ≡ Some i → k ≡ m
@@ -118,7 +118,7 @@ most found = 4 + sum_by (λ (combination : Combined). length combination.bodies.
 
 -- what is left to do at a step
 abbrev pub left_at : List Cell → Resolved → Step → ℕ
-left_at cells found step = length (leads cells found step.node) + 1 - step.met
+left_at cells found step = length (leads cells found step.place) + 1 - step.met
 
 abbrev pub work : List Cell → Resolved → WalkState → ℕ
 work cells found now = count_by is_new now.marks * most found + sum_by (left_at cells found) now.path

@@ -25,7 +25,7 @@ use Rattle.rng_simplify.specs.NodePlaces.{bodies_of, Stands, IsStanding}
 abbrev pub scope_at : Resolved → ℕ → Scope
 scope_at found i = slice_index_or found.scopes.items i Nowhere
 
--- combined definitions to which something leads, and the element whose definition it leads to; 0 where there are none
+-- combined definitions to which something leads, and the element whose definition it leads to. Of what leads elsewhere nobody asks it
 abbrev pub combined_number : Target → ℕ
 combined_number Nothing = 0
 combined_number (Definitions number) = number
@@ -35,6 +35,25 @@ abbrev pub element_number : Target → ℕ
 element_number Nothing = 0
 element_number (Definitions number) = 0
 element_number (Element number) = number
+
+-- it leads to combined definitions; to an element's own definition
+abbrev pub IsToDefinitions : Target → Type 0
+IsToDefinitions Nothing = ⊥
+IsToDefinitions (Definitions number) = Unit {0}
+IsToDefinitions (Element number) = ⊥
+
+abbrev pub IsToElement : Target → Type 0
+IsToElement Nothing = ⊥
+IsToElement (Definitions number) = ⊥
+IsToElement (Element number) = Unit {0}
+
+-- the target is of the kind that a node with this cell has
+abbrev pub IsLinkedAs : Cell → Target → Type 0
+IsLinkedAs (cell.element class part) target = IsToElement target
+IsLinkedAs (cell.ref name) target = IsToDefinitions target
+IsLinkedAs (cell.parent_ref name) target = IsToDefinitions target
+IsLinkedAs (cell.grammar clauses) target = IsToDefinitions target
+IsLinkedAs c target = Unit {0}
 
 abbrev pub target_at : Resolved → ℕ → Target
 target_at found i = slice_index_or found.links.items i Nothing
@@ -95,6 +114,7 @@ pub record IsResolved (cells : List Cell) (root : ℕ) (found : Resolved) : Type
   pub all_links : length found.links.items ≡ length cells
   -- which nodes stand in the schema
   pub standing : (i : ℕ) → (scope_at found i ≢ Nowhere) ↔ IsStanding cells root i
+  pub linked : (i : ℕ) (c : Cell) → IsStanding cells root i → IsCell cells i c → IsLinkedAs c (target_at found i)
   -- combined definitions
   pub ref_combined : (outers : List ℕ) (i : ℕ) (name : List ℕ) → Stands cells root outers i → IsCell cells i (cell.ref name) →
       IsCombinedIn cells found.combined.items outers (defined.Name name) (link_at found i)

@@ -14,7 +14,8 @@ ghost use Rattle.rng_simplify.specs.SpelledShapes.{joined_pattern};
 
 use crate::fault::SchemaFault;
 use crate::form::Forms;
-use crate::node::{Node, Sign};
+use crate::node::{Node, NodeNumber, Sign};
+use crate::order::Place;
 use crate::shape::{Shape, ShapeNumber};
 use crate::types::NodeType;
 use nx_base::memory::NoMemory;
@@ -67,7 +68,11 @@ fn last_of(built: &mut Vec<Pat>) -> Pat
 }
 
 /// Leaves a shape's only part to be built, and then the shape around it.
-fn leave_one(shape: usize, part: usize, tasks: &mut Vec<Task>) -> Result<(), SchemaFault>
+fn leave_one(
+    shape: ShapeNumber,
+    part: ShapeNumber,
+    tasks: &mut Vec<Task>,
+) -> Result<(), SchemaFault>
     ensures { Leaves tasks.old.items (Wrap shape ∷ Spell part ∷ []) tasks.new.items result }
 {
     tasks.push(Task::Wrap(shape))?;
@@ -77,9 +82,9 @@ fn leave_one(shape: usize, part: usize, tasks: &mut Vec<Task>) -> Result<(), Sch
 
 /// Leaves a shape's two parts to be built, and then the shape around them.
 fn leave_two(
-    shape: usize,
-    first: usize,
-    second: usize,
+    shape: ShapeNumber,
+    first: ShapeNumber,
+    second: ShapeNumber,
     tasks: &mut Vec<Task>,
 ) -> Result<(), SchemaFault>
     ensures { Leaves tasks.old.items (Wrap shape ∷ Spell second ∷ Spell first ∷ []) tasks.new.items result }
@@ -92,7 +97,7 @@ fn leave_two(
 
 impl Builder<'_> {
     /// The pattern of a shape. It is as deep as the limit allows, so it isn't built by recursion.
-    fn pattern(&self, shape: usize) -> Result<Pat, SchemaFault>
+    fn pattern(&self, shape: ShapeNumber) -> Result<Pat, SchemaFault>
         requires ready { IsReady (map cell_of self.now.nodes.now) self.now.types.now self.now.forms.now.shapes }
         requires within { shape < length self.now.forms.now.shapes }
         ensures { BuildsPattern (map cell_of self.now.nodes.now) self.now.types.now self.now.forms.now.shapes shape result }
@@ -132,7 +137,7 @@ impl Builder<'_> {
     /// Builds a shape without parts, or leaves its parts to be built, and then the shape around them.
     fn spell(
         &self,
-        shape: usize,
+        shape: ShapeNumber,
         tasks: &mut Vec<Task>,
         built: &mut Vec<Pat>,
     ) -> Result<(), SchemaFault>
@@ -163,7 +168,7 @@ impl Builder<'_> {
                 Ok(())
             }
             Shape::Ref(number) => {
-                built.push(Pat::Ref(number as u32))?;
+                built.push(Pat::Ref(number.0 as u32))?;
                 Ok(())
             }
             Shape::List(part) => leave_one(shape, part, tasks),
@@ -174,7 +179,7 @@ impl Builder<'_> {
     }
 
     /// Builds a shape around the parts that were built last.
-    fn wrap(&self, shape: usize, built: &mut Vec<Pat>) -> Result<(), SchemaFault>
+    fn wrap(&self, shape: ShapeNumber, built: &mut Vec<Pat>) -> Result<(), SchemaFault>
         requires ready { IsReady (map cell_of self.now.nodes.now) self.now.types.now self.now.forms.now.shapes }
         requires under_way { (root : ℕ) × (tasks : List TaskOf) × IsUnderWay
             (map cell_of self.now.nodes.now) self.now.types.now self.now.forms.now.shapes root
@@ -209,11 +214,11 @@ impl Builder<'_> {
     }
 
     /// An attribute with the class of a node and this value.
-    fn attribute(&self, node: usize, value: Pat) -> Result<Pat, NoMemory>
+    fn attribute(&self, node: NodeNumber, value: Pat) -> Result<Pat, NoMemory>
         requires { HasAttribute (map cell_of self.now.nodes.now) node }
         ensures { IfOk result (λ built. IsAttribute (map cell_of self.now.nodes.now) node (pattern_of value) (pattern_of built)) }
     {
-        match &self.nodes[node] {
+        match &self.nodes[node.0] {
             Node::Attribute(class, _) => {
                 let class = class.copy(self.alloc)?;
                 attribute_of(self.alloc, class, value)
@@ -223,13 +228,13 @@ impl Builder<'_> {
     }
 
     /// The value of a node.
-    fn value(&self, node: usize) -> Result<Pat, NoMemory>
+    fn value(&self, node: NodeNumber) -> Result<Pat, NoMemory>
         requires value { IsValue (map cell_of self.now.nodes.now) node }
         requires known { HasType self.now.types.now node }
         ensures { IfOk result (λ built. IsLiteral (map cell_of self.now.nodes.now) self.now.types.now node (pattern_of built)) }
     {
-        match &self.nodes[node] {
-            Node::Value(_, text) => match &self.types[node] {
+        match &self.nodes[node.0] {
+            Node::Value(_, text) => match &self.types[node.0] {
                 Some(of) => Ok(Pat::Value(of.datatype.copy()?, text.copy()?)),
                 None => unreachable!(),
             },
@@ -238,28 +243,28 @@ impl Builder<'_> {
     }
 
     /// The type of a node.
-    fn typed(&self, node: usize) -> Result<Pat, NoMemory>
+    fn typed(&self, node: NodeNumber) -> Result<Pat, NoMemory>
         requires { HasType self.now.types.now node }
         ensures { IfOk result (λ built. IsTyped self.now.types.now node (pattern_of built)) }
     {
-        match &self.types[node] {
+        match &self.types[node.0] {
             Some(of) => Ok(Pat::Typed(of.datatype.copy()?, of.excepts.copy()?)),
             None => unreachable!(),
         }
     }
 
     /// The definition of an element.
-    fn definition(&self, element: usize) -> Result<Def, SchemaFault>
+    fn definition(&self, element: NodeNumber) -> Result<Def, SchemaFault>
         requires ready { IsReady (map cell_of self.now.nodes.now) self.now.types.now self.now.forms.now.shapes }
         requires element { IsElement (map cell_of self.now.nodes.now) element }
         requires content { IsKnown self.now.forms.now.shapes self.now.forms.now.of.items
             (content_of (map cell_of self.now.nodes.now) element) }
         ensures { BuildsDefinition (map cell_of self.now.nodes.now) self.now.types.now self.now.forms.now element result }
     {
-        match &self.nodes[element] {
+        match &self.nodes[element.0] {
             Node::Element(class, content) => Ok(Def {
                 class: class.copy(self.alloc)?,
-                content: self.pattern(self.forms.of(*content))?,
+                content: self.pattern(self.forms.of(Place(content.0)))?,
             }),
             _ => unreachable!(),
         }
@@ -267,7 +272,11 @@ impl Builder<'_> {
 
     /// The grammar with this start and definitions of these elements. What is built is no deeper and no larger than the
     /// limits.
-    pub(crate) fn grammar(&self, root: usize, elements: &[usize]) -> Result<Grammar, SchemaFault>
+    pub(crate) fn grammar(
+        &self,
+        root: NodeNumber,
+        elements: &[NodeNumber],
+    ) -> Result<Grammar, SchemaFault>
         requires ready { IsReady (map cell_of self.now.nodes.now) self.now.types.now self.now.forms.now.shapes }
         requires start { IsKnown self.now.forms.now.shapes self.now.forms.now.of.items root }
         requires elements { AreElements (map cell_of self.now.nodes.now) self.now.forms.now elements.now }
@@ -278,7 +287,7 @@ impl Builder<'_> {
             defs.push(self.definition(*element)?)?;
         }
         Ok(Grammar {
-            start: self.pattern(self.forms.of(root))?,
+            start: self.pattern(self.forms.of(Place(root.0)))?,
             defs,
         })
     }

@@ -16,7 +16,7 @@ ghost use Rattle.rng_simplify.specs.JudgedClasses.{written_classes, choice_and, 
 
 use crate::compose::Whole;
 use crate::fault::SchemaFault;
-use crate::node::Node;
+use crate::node::{Node, NodeNumber};
 use crate::resolve::{Resolved, Scope};
 use nx_base::cause::Cause;
 use nx_base::memory::NoMemory;
@@ -263,20 +263,20 @@ pub(crate) fn check_classes(whole: &Whole, found: &Resolved) -> Result<(), Schem
     ensures { OkOrRefused (cells_of whole.now) whole.now.root (λ done. AreGood (cells_of whole.now) whole.now.root) result }
 {
     for i in 0..whole.nodes.len() {
-        check_at(whole, found, i)?;
+        check_at(whole, found, NodeNumber(i))?;
     }
     Ok(())
 }
 
 /// Refuses a node that stands in the schema with a class that none may have.
-fn check_at(whole: &Whole, found: &Resolved, i: usize) -> Result<(), SchemaFault>
+fn check_at(whole: &Whole, found: &Resolved, i: NodeNumber) -> Result<(), SchemaFault>
     requires within { i < length whole.now.nodes.items }
     requires resolved { IsResolved (cells_of whole.now) whole.now.root found.now }
     ensures { OkOrRefused (cells_of whole.now) whole.now.root (λ done. IsGoodAt (cells_of whole.now) whole.now.root i) result }
 {
-    match found.scopes[i] {
+    match found.scopes[i.0] {
         Scope::Nowhere => Ok(()),
-        _ => check_node(&whole.nodes[i]),
+        _ => check_node(&whole.nodes[i.0]),
     }
 }
 

@@ -90,7 +90,7 @@ impl Composer {
     fn node(&mut self, node: Node) -> Result<NodeNumber, Stop>
         ensures { Makes (stock_of self.new) (λ i. i) (cell_made (cell_of node) (stock_of self.old)) result }
     {
-        let number = self.nodes.len();
+        let number = NodeNumber(self.nodes.len());
         self.nodes.push(node)?;
         Ok(number)
     }
@@ -193,8 +193,10 @@ impl Composer {
         ensures { Makes (stock_of self.new) (λ i. i) (next_pattern (stock_of self.old)) result }
     {
         match self.pieces.pop() {
-            Some(Piece::Pattern(root)) => Ok(root),
-            Some(Piece::Grammar(clauses)) => self.node(Node::Grammar(clauses)),
+            Some(piece) => match piece {
+                Piece::Pattern(root) => Ok(root),
+                Piece::Grammar(clauses) => self.node(Node::Grammar(clauses)),
+            },
             None => Err(Stop::NoPiece),
         }
     }
@@ -204,8 +206,10 @@ impl Composer {
         ensures { Makes (stock_of self.new) (λ clauses. clauses.items) (next_grammar (stock_of self.old)) result }
     {
         match self.pieces.pop() {
-            Some(Piece::Pattern(_)) => Err(Stop::Unreadable(Cause::NotGrammar)),
-            Some(Piece::Grammar(clauses)) => Ok(clauses),
+            Some(piece) => match piece {
+                Piece::Pattern(_) => Err(Stop::Unreadable(Cause::NotGrammar)),
+                Piece::Grammar(clauses) => Ok(clauses),
+            },
             None => Err(Stop::NoPiece),
         }
     }

@@ -15,7 +15,7 @@ ghost use Rattle.rng_simplify.specs.NodeTypes.{AreKnown};
 
 use crate::form::Forms;
 use crate::limit::content;
-use crate::node::Node;
+use crate::node::{Node, NodeNumber};
 use crate::order::Place;
 use crate::shape::{Shape, ShapeNumber, Shapes};
 use crate::types::{MOST_EXCEPTS, NodeType};
@@ -38,16 +38,17 @@ pub(crate) fn check_copies(
     nodes: &[Node],
     types: &[Option<NodeType>],
     forms: &Forms,
-    root: usize,
-    elements: &[usize],
+    root: NodeNumber,
+    elements: &[NodeNumber],
 ) -> Result<(), NoMemory>
     requires start { IsKnown forms.now.shapes forms.now.of.items root }
     requires contents { AreElements (map cell_of nodes.now) forms.now elements.now }
 {
     let parts = parts_of_shapes(alloc, nodes, types, &forms.shapes)?;
-    let mut count = parts[forms.of(root)];
+    let mut count = parts[forms.of(Place(root.0)).0];
     for element in elements {
-        count = count.saturating_add(parts[forms.of(content(nodes, *element))]);
+        let content = content(nodes, *element);
+        count = count.saturating_add(parts[forms.of(Place(content.0)).0]);
     }
     if count > MOST_PARTS {
         Err(NoMemory)
@@ -84,8 +85,8 @@ fn parts_taken_at(nodes: &[Node], forms: &Forms, parts: &[u64], i: Place) -> u64
         → IsKnown forms.now.shapes forms.now.of.items j }
     requires all { length parts.now ≡ length forms.now.shapes }
 {
-    if i < nodes.len() {
-        parts_taken(&nodes[i], forms, parts)
+    if i.0 < nodes.len() {
+        parts_taken(&nodes[i.0], forms, parts)
     } else {
         0
     }
@@ -99,7 +100,7 @@ fn parts_taken(node: &Node, forms: &Forms, parts: &[u64]) -> u64
 {
     match node {
         Node::Typed(_, _, except) => {
-            let number = forms.of(*except);
+            let number = forms.of(Place(except.0));
             if are_few(forms.shapes.size(number).values) {
                 parts_at(parts, number)
             } else {
@@ -130,7 +131,12 @@ fn parts_of_shapes(
     let count = shapes.len();
     let mut parts = Vec::with_capacity(alloc, count)?;
     for number in 0..count {
-        let more = parts_of_shape(nodes, types, shapes.shape(number), parts.as_slice());
+        let more = parts_of_shape(
+            nodes,
+            types,
+            shapes.shape(ShapeNumber(number)),
+            parts.as_slice(),
+        );
         parts.push(more)?;
     }
     Ok(parts)
@@ -159,12 +165,12 @@ fn parts_of_shape(nodes: &[Node], types: &[Option<NodeType>], shape: Shape, befo
 fn parts_at(before: &[u64], number: ShapeNumber) -> u64
     requires { number < length before.now }
 {
-    before[number]
+    before[number.0]
 }
 
 /// The parts of a node's own class, params, excepts or value.
-fn parts_of_node(nodes: &[Node], types: &[Option<NodeType>], node: usize) -> u64 {
-    match nodes.get(node) {
+fn parts_of_node(nodes: &[Node], types: &[Option<NodeType>], node: NodeNumber) -> u64 {
+    match nodes.get(node.0) {
         Some(Node::Attribute(class, _)) => parts_of_class(class),
         Some(Node::Value(_, text)) => parts_of(text.len()),
         Some(Node::Typed(_, params, _)) => {
@@ -189,8 +195,8 @@ fn parts_of_params(params: &[Param]) -> u64 {
 }
 
 /// The parts of what is taken from the type of a node.
-fn parts_of_type(types: &[Option<NodeType>], node: usize) -> u64 {
-    match types.get(node) {
+fn parts_of_type(types: &[Option<NodeType>], node: NodeNumber) -> u64 {
+    match types.get(node.0) {
         Some(Some(of)) => parts_of_excepts(of.excepts.as_slice()),
         _ => 0,
     }

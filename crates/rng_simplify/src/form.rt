@@ -1,10 +1,11 @@
 //! The simple form of each node (ISO/IEC 19757-2, sections 7.18 to 7.22).
 
 ghost use Rattle.std.specs.Prelude.{◌≡◌, ◌+◌, ◌<◌, ℕ, length, map, slice_index, slice_get, Some, Contains};
-ghost use Rattle.rng_simplify.specs.Cells.{cell_of};
+ghost use Rattle.rng_simplify.specs.Cells.{Cell, cell_of};
 ghost use Rattle.rng_simplify.specs.Forms.{combined_by};
 ghost use Rattle.rng_simplify.specs.NodeForms.{IsKnown, IsRoom, IsInOrder, MakesCell, MakesCombined, JoinsAll, Makes, Places, MakesForms};
-ghost use Rattle.rng_simplify.specs.ResolvedNodes.{cell_leads, leads, combined_number};
+ghost use Rattle.rng_simplify.specs.CellMeanings.{IsCell};
+ghost use Rattle.rng_simplify.specs.ResolvedNodes.{cell_leads, leads, combined_number, target_at, IsLinkedAs, IsToDefinitions};
 ghost use Rattle.rng_simplify.specs.Shown.{joined_of};
 
 use crate::fault::SchemaFault;
@@ -57,7 +58,7 @@ impl Forms {
     {
         let mut of = Vec::with_capacity(alloc, count)?;
         for _ in 0..count {
-            of.push(0)?;
+            of.push(ShapeNumber(0))?;
         }
         Ok(Forms {
             shapes: Shapes::new(alloc),
@@ -70,17 +71,18 @@ impl Forms {
         requires { place < length self.now.of.items }
         ensures { result ≡ slice_index self.now.of.items place }
     {
-        self.of[place]
+        self.of[place.0]
     }
 
     /// The shape of the combined definitions to which a node leads. Such definitions stand behind so many nodes.
     fn linked(&self, count: usize, link: Target) -> ShapeNumber
-        requires { IsKnown self.now.shapes self.now.of.items (count + combined_number link) }
+        requires to { IsToDefinitions link }
+        requires known { IsKnown self.now.shapes self.now.of.items (count + combined_number link) }
         ensures { result ≡ slice_index self.now.of.items (count + combined_number link) }
     {
         // Asking for the length shows that the sum fits.
         let _all = self.of.len();
-        self.of(count + link.combined())
+        self.of(Place(count + link.combined().0))
     }
 
     /// Gives a node or combined definitions their shape, where those of what it leads to are known.
@@ -88,11 +90,12 @@ impl Forms {
         requires within { i < length nodes.now + length found.now.combined.items }
         requires all { length self.old.of.items ≡ length nodes.now + length found.now.combined.items }
         requires all_links { length found.now.links.items ≡ length nodes.now }
+        requires linked { (c : Cell) → IsCell (map cell_of nodes.now) i c → IsLinkedAs c (target_at found.now i) }
         requires known { (j : ℕ) → Contains (leads (map cell_of nodes.now) found.now i) j → IsKnown self.old.shapes self.old.of.items j }
         ensures { Places (map cell_of nodes.now) found.now i self.old self.new result }
     {
         let shape = self.made(nodes, found, i)?;
-        self.of[i] = shape;
+        self.of[i.0] = shape;
         Ok(())
     }
 
@@ -105,14 +108,15 @@ impl Forms {
     ) -> Result<ShapeNumber, SchemaFault>
         requires within { i < length nodes.now + length found.now.combined.items }
         requires all_links { length found.now.links.items ≡ length nodes.now }
+        requires linked { (c : Cell) → IsCell (map cell_of nodes.now) i c → IsLinkedAs c (target_at found.now i) }
         requires known { (j : ℕ) → Contains (leads (map cell_of nodes.now) found.now i) j → IsKnown self.old.shapes self.old.of.items j }
         ensures made { Makes (map cell_of nodes.now) found.now i self.old.shapes self.new.shapes self.old.of.items result }
         ensures of_stays { self.new.of ≡ self.old.of }
     {
-        if i < nodes.len() {
-            self.node(nodes.len(), i, found.links[i], &nodes[i])
+        if i.0 < nodes.len() {
+            self.node(nodes.len(), NodeNumber(i.0), found.links[i.0], &nodes[i.0])
         } else {
-            self.combined(&found.combined[i - nodes.len()])
+            self.combined(&found.combined[i.0 - nodes.len()])
         }
     }
 
@@ -124,27 +128,29 @@ impl Forms {
         link: Target,
         node: &Node,
     ) -> Result<ShapeNumber, SchemaFault>
-        requires { (j : ℕ) → Contains (cell_leads count (combined_number link) (cell_of node.now)) j → IsKnown self.old.shapes self.old.of.items j }
+        requires linked { IsLinkedAs (cell_of node.now) link }
+        requires known { (j : ℕ) → Contains (cell_leads count (combined_number link) (cell_of node.now)) j
+            → IsKnown self.old.shapes self.old.of.items j }
         ensures made { MakesCell self.old.shapes self.new.shapes self.old.of.items count i link (cell_of node.now) result }
         ensures of_stays { self.new.of ≡ self.old.of }
     {
         match node {
             Node::Element(_, _) => self.shapes.add(Shape::Ref(link.element())),
             Node::Attribute(_, part) => {
-                let value = self.of(*part);
+                let value = self.of(Place(part.0));
                 self.shapes.attribute(i, value)
             }
             Node::List(part) => {
-                let words = self.of(*part);
+                let words = self.of(Place(part.0));
                 self.shapes.list(words)
             }
             Node::OneOrMore(part) => {
-                let body = self.of(*part);
+                let body = self.of(Place(part.0));
                 self.shapes.one_or_more(body)
             }
             Node::Joined(sign, first, second) => {
-                let one = self.of(*first);
-                let other = self.of(*second);
+                let one = self.of(Place(first.0));
+                let other = self.of(Place(second.0));
                 self.shapes.joined(*sign, one, other)
             }
             Node::Empty => self.shapes.add(Shape::Empty),
@@ -166,7 +172,7 @@ impl Forms {
     {
         match all.bodies.as_slice().split_first() {
             Some((first, others)) => {
-                let shape = self.of(*first);
+                let shape = self.of(Place(first.0));
                 self.behind(sign_of(all.combine), shape, others)
             }
             None => self.shapes.add(Shape::NotAllowed),
@@ -187,7 +193,7 @@ impl Forms {
     {
         let mut joined = first;
         for other in others {
-            let next = self.of(*other);
+            let next = self.of(Place(other.0));
             joined = self.shapes.joined(sign, joined, next)?;
         }
         Ok(joined)

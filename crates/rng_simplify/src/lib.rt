@@ -15,8 +15,9 @@
 //! 7. `limit`, `copies`: a grammar that is too large is refused, and one for which too much would be copied.
 //! 8. `build`: what is left is spelled out as patterns, with a definition for each element.
 //!
-//! Numbers are of five kinds: a node's (`NodeNumber`), combined definitions' (`CombinedNumber`), the place of either in the order
-//! (`Place`), a shape's (`ShapeNumber`) and an element's (`ElementNumber`). What a node leads to beside its parts is a `Target`.
+//! Numbers are of five kinds, each a type of its own: a node's (`NodeNumber`), combined definitions' (`CombinedNumber`), the place
+//! of either in the order (`Place`), a shape's (`ShapeNumber`) and an element's (`ElementNumber`). What a node leads to beside its
+//! parts is a `Target`, and the grammar in which it stands a `Scope`.
 //!
 //! What `simplify` answers stands in specs/Simplified.antt. To believe it one reads that file and the ten on which it stands:
 //! References, Classes, Composed and ComposedFiles (files in one piece), Places, Forms, Simple, Whole and Datatypes (its simple

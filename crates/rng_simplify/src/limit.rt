@@ -8,7 +8,8 @@ ghost use Rattle.rng_simplify.specs.Limits.{content_of, IsElement, AreElements, 
 
 use crate::fault::SchemaFault;
 use crate::form::Forms;
-use crate::node::Node;
+use crate::node::{Node, NodeNumber};
+use crate::order::Place;
 use nx_base::cause::Cause;
 
 /// The most nodes of patterns that a grammar may have, those of its definitions among them.
@@ -21,8 +22,8 @@ pub const MOST_DEPTH: u64 = 8_000;
 pub(crate) fn check_size(
     nodes: &[Node],
     forms: &Forms,
-    root: usize,
-    elements: &[usize],
+    root: NodeNumber,
+    elements: &[NodeNumber],
 ) -> Result<(), SchemaFault>
     requires start { IsKnown forms.now.shapes forms.now.of.items root }
     requires contents { AreElements (map cell_of nodes.now) forms.now elements.now }
@@ -36,23 +37,23 @@ pub(crate) fn check_size(
 }
 
 /// The content of an element.
-pub(crate) fn content(nodes: &[Node], element: usize) -> usize
+pub(crate) fn content(nodes: &[Node], element: NodeNumber) -> NodeNumber
     requires { IsElement (map cell_of nodes.now) element }
     ensures { result ≡ content_of (map cell_of nodes.now) element }
 {
-    match &nodes[element] {
+    match &nodes[element.0] {
         Node::Element(_, content) => *content,
         _ => unreachable!(),
     }
 }
 
 /// The nodes so far, and those of the form of a node.
-fn counted(forms: &Forms, node: usize, before: u64) -> Result<u64, SchemaFault>
+fn counted(forms: &Forms, node: NodeNumber, before: u64) -> Result<u64, SchemaFault>
     requires known { IsKnown forms.now.shapes forms.now.of.items node }
     requires few { before ≤ node_limit }
     ensures { Counts forms.now node before result }
 {
-    let size = forms.shapes.size(forms.of(node));
+    let size = forms.shapes.size(forms.of(Place(node.0)));
     let count = before.saturating_add(size.nodes);
     if count > MOST_NODES || size.depth > MOST_DEPTH {
         return Err(SchemaFault::Unreadable(Cause::TooLarge));

@@ -5,9 +5,21 @@
 use nx_base::sequence::Bytes;
 use rnc_parse::surface::{Combine, Defined, Params, TypeName};
 use rng_core::name_class::NameClass;
+use std::marker::Model;
 
-/// A node, by its place among the nodes.
-pub(crate) type NodeNumber = usize;
+/// A node, by its place among the nodes. To a contract it is that place.
+#[derive(Clone, Copy, Debug, PartialEq, Eq)]
+pub(crate) struct NodeNumber(pub(crate) usize);
+
+impl Model for NodeNumber {
+    ghost use Rattle.std.specs.Prelude.{ℕ};
+
+    ghost Value = { ℕ };
+
+    ghost view = { λ number. number.0 };
+
+    ghost inverse = { λ n. record { 0 = n } };
+}
 
 /// How two patterns are joined.
 #[derive(Clone, Copy, Debug, PartialEq, Eq)]

@@ -19,9 +19,22 @@ use crate::resolve::{Combined, Resolved, Scope};
 use nx_base::cause::Cause;
 use nx_base::memory::NoMemory;
 use std::alloc::Global;
+use std::marker::Model;
 
-/// A node by its number, or combined definitions behind all nodes: those of number `n` are at `nodes.len() + n`.
-pub(crate) type Place = usize;
+/// A node by its number, or combined definitions behind all nodes: those of number `n` are at `nodes.len() + n`. To a contract it
+/// is that number.
+#[derive(Clone, Copy, Debug, PartialEq, Eq)]
+pub(crate) struct Place(pub(crate) usize);
+
+impl Model for Place {
+    ghost use Rattle.std.specs.Prelude.{ℕ};
+
+    ghost Value = { ℕ };
+
+    ghost view = { λ place. place.0 };
+
+    ghost inverse = { λ n. record { 0 = n } };
+}
 
 /// How far the walk is with a place.
 #[derive(Clone, Copy, Debug, PartialEq, Eq)]
@@ -37,11 +50,11 @@ enum Mark {
 /// A place on the path of the walk, and how many of those that it leads to were met.
 #[derive(Drop)]
 struct Step {
-    node: Place,
+    place: Place,
     met: usize,
 }
 
-/// A walk from node to node, depth first.
+/// A walk from place to place, depth first.
 #[derive(Drop)]
 struct Walk {
     marks: Vec<Mark>,
@@ -67,18 +80,18 @@ pub(crate) fn order(
     Ok(order)
 }
 
-/// A part of a node by its place among the parts.
-fn part(node: &Node, k: usize) -> Option<NodeNumber>
+/// The place of the part of this number, if a node has so many.
+fn part(node: &Node, k: usize) -> Option<Place>
     ensures { result ≡ slice_get (cell_parts (cell_of node.now)) k }
 {
     match node {
-        Node::Attribute(_, part) => only(*part, k),
-        Node::List(part) => only(*part, k),
-        Node::Typed(_, _, part) => only(*part, k),
-        Node::OneOrMore(part) => only(*part, k),
+        Node::Attribute(_, part) => only(Place(part.0), k),
+        Node::List(part) => only(Place(part.0), k),
+        Node::Typed(_, _, part) => only(Place(part.0), k),
+        Node::OneOrMore(part) => only(Place(part.0), k),
         Node::Joined(_, first, second) => match k {
-            0 => Some(*first),
-            1 => Some(*second),
+            0 => Some(Place(first.0)),
+            1 => Some(Place(second.0)),
             _ => None,
         },
         _ => None,
@@ -86,7 +99,7 @@ fn part(node: &Node, k: usize) -> Option<NodeNumber>
 }
 
 /// The one thing that there is, by its place.
-fn only(it: usize, k: usize) -> Option<usize>
+fn only(it: Place, k: usize) -> Option<Place>
     ensures { result ≡ slice_get (it ∷ []) k }
 {
     if k == 0 { Some(it) } else { None }
@@ -105,36 +118,40 @@ fn is_linked(node: &Node) -> bool
 }
 
 /// One of combined definitions by its place among them.
-fn body(all: &Combined, k: usize) -> Option<NodeNumber>
+fn body(all: &Combined, k: usize) -> Option<Place>
     ensures body_is { result ≡ slice_get all.now.bodies.items k }
     ensures more { IfSome result (λ _. k + 1 < 2 ^ 64) }
 {
-    all.bodies.get(k).copied()
+    match all.bodies.get(k) {
+        Some(body) => Some(Place(body.0)),
+        None => None,
+    }
 }
 
-/// The place of this number among those to which the place of a node or of combined definitions leads.
-fn next(whole: &Whole, found: &Resolved, node: Place, k: usize) -> Option<Place>
+/// The place of this number among those to which a place leads.
+fn next(whole: &Whole, found: &Resolved, place: Place, k: usize) -> Option<Place>
     requires formed { AreWellFormed (cells_of whole.now) whole.now.root }
     requires resolved { IsResolved (cells_of whole.now) whole.now.root found.now }
-    requires met { IsMet (cells_of whole.now) whole.now.root found.now node }
+    requires met { IsMet (cells_of whole.now) whole.now.root found.now place }
     requires room { length whole.now.nodes.items + length found.now.combined.items < 2 ^ 64 }
-    ensures next_is { result ≡ slice_get (leads (cells_of whole.now) found.now node) k }
+    ensures next_is { result ≡ slice_get (leads (cells_of whole.now) found.now place) k }
     ensures more { IfSome result (λ _. k + 1 < 2 ^ 64) }
 {
-    if node < whole.nodes.len() {
-        let here = &whole.nodes[node];
+    if place.0 < whole.nodes.len() {
+        let here = &whole.nodes[place.0];
         if is_linked(here) {
-            only(whole.nodes.len() + found.links[node].combined(), k)
+            let linked = found.links[place.0].combined();
+            only(Place(whole.nodes.len() + linked.0), k)
         } else {
             part(here, k)
         }
     } else {
-        body(&found.combined[node - whole.nodes.len()], k)
+        body(&found.combined[place.0 - whole.nodes.len()], k)
     }
 }
 
 impl Walk {
-    /// A walk that met nothing of so many nodes.
+    /// A walk that met none of so many places.
     fn begin(alloc: Global, count: usize) -> Result<Walk, NoMemory>
         ensures { IfOk result (λ walk. (length (walk_state_of walk).marks ≡ count) × ((i : ℕ) → mark_at (walk_state_of walk) i ≡ NotMet) ×
             ((walk_state_of walk).path ≡ []) × ((walk_state_of walk).order ≡ [])) }
@@ -162,13 +179,13 @@ impl Walk {
             ((i : ℕ) → IsStanding (cells_of whole.now) whole.now.root i → mark_at (walk_state_of self.new) i ≢ NotMet)) result }
     {
         for i in 0..whole.nodes.len() {
-            self.node(whole, found, i)?;
+            self.node(whole, found, NodeNumber(i))?;
         }
         Ok(())
     }
 
     /// Walks from a node, if it stands in the schema.
-    fn node(&mut self, whole: &Whole, found: &Resolved, i: usize) -> Result<(), SchemaFault>
+    fn node(&mut self, whole: &Whole, found: &Resolved, i: NodeNumber) -> Result<(), SchemaFault>
         requires within { i < length whole.now.nodes.items }
         requires formed { AreWellFormed (cells_of whole.now) whole.now.root }
         requires resolved { IsResolved (cells_of whole.now) whole.now.root found.now }
@@ -177,9 +194,9 @@ impl Walk {
         ensures { OkOrRefused (cells_of whole.now) whole.now.root
             (λ done. IsPassed (cells_of whole.now) whole.now.root found.now i (walk_state_of self.old) (walk_state_of self.new)) result }
     {
-        match found.scopes[i] {
+        match found.scopes[i.0] {
             Scope::Nowhere => Ok(()),
-            _ => self.go(whole, found, i),
+            _ => self.go(whole, found, Place(i.0)),
         }
     }
 
@@ -196,13 +213,13 @@ impl Walk {
             (length whole.now.nodes.items + number) ≢ NotMet)) result }
     {
         for j in 0..found.combined.len() {
-            self.go(whole, found, whole.nodes.len() + j)?;
+            self.go(whole, found, Place(whole.nodes.len() + j))?;
         }
         Ok(())
     }
 
-    /// Walks from a node over all that weren't met.
-    fn go(&mut self, whole: &Whole, found: &Resolved, from: usize) -> Result<(), SchemaFault>
+    /// Walks from a place over all that weren't met.
+    fn go(&mut self, whole: &Whole, found: &Resolved, from: Place) -> Result<(), SchemaFault>
         requires formed { AreWellFormed (cells_of whole.now) whole.now.root }
         requires resolved { IsResolved (cells_of whole.now) whole.now.root found.now }
         requires met { IsMet (cells_of whole.now) whole.now.root found.now from }
@@ -218,7 +235,7 @@ impl Walk {
         Ok(())
     }
 
-    /// Goes on from the last node of the path, or goes back from it.
+    /// Goes on from the last place of the path, or goes back from it.
     fn turn(&mut self, whole: &Whole, found: &Resolved, step: Step) -> Result<(), SchemaFault>
         requires formed { AreWellFormed (cells_of whole.now) whole.now.root }
         requires resolved { IsResolved (cells_of whole.now) whole.now.root found.now }
@@ -227,30 +244,30 @@ impl Walk {
             (λ done. IsTurned (cells_of whole.now) whole.now.root found.now (with_step step (walk_state_of self.old))
             (walk_state_of self.new)) result }
     {
-        match next(whole, found, step.node, step.met) {
+        match next(whole, found, step.place, step.met) {
             Some(next) => {
                 self.path.push(Step {
-                    node: step.node,
+                    place: step.place,
                     met: step.met + 1,
                 })?;
                 self.meet(next)
             }
             None => {
-                self.leave(step.node)?;
+                self.leave(step.place)?;
                 Ok(())
             }
         }
     }
 
-    /// Goes on to a node, unless it is in the order. A node of the path is a part of itself.
-    fn meet(&mut self, node: usize) -> Result<(), SchemaFault>
-        requires { node < length (walk_state_of self.old).marks }
-        ensures { Meets node (mark_at (walk_state_of self.old) node) (walk_state_of self.old) (walk_state_of self.new) result }
+    /// Goes on to a place, unless it is in the order. One of the path leads back to itself.
+    fn meet(&mut self, place: Place) -> Result<(), SchemaFault>
+        requires { place < length (walk_state_of self.old).marks }
+        ensures { Meets place (mark_at (walk_state_of self.old) place) (walk_state_of self.old) (walk_state_of self.new) result }
     {
-        match self.marks[node] {
+        match self.marks[place.0] {
             Mark::New => {
-                self.marks[node] = Mark::Open;
-                self.path.push(Step { node, met: 0 })?;
+                self.marks[place.0] = Mark::Open;
+                self.path.push(Step { place, met: 0 })?;
                 Ok(())
             }
             Mark::Open => Err(SchemaFault::Unreadable(Cause::RefLoop)),
@@ -258,13 +275,13 @@ impl Walk {
         }
     }
 
-    /// Goes back from a node all of whose nodes are in the order.
-    fn leave(&mut self, node: usize) -> Result<(), NoMemory>
-        requires { node < length (walk_state_of self.old).marks }
-        ensures { OnOk result (walk_state_of self.new ≡ left node (walk_state_of self.old)) }
+    /// Goes back from a place, where all that it leads to is in the order.
+    fn leave(&mut self, place: Place) -> Result<(), NoMemory>
+        requires { place < length (walk_state_of self.old).marks }
+        ensures { OnOk result (walk_state_of self.new ≡ left place (walk_state_of self.old)) }
     {
-        self.marks[node] = Mark::Done;
-        self.order.push(node)?;
+        self.marks[place.0] = Mark::Done;
+        self.order.push(place)?;
         Ok(())
     }
 }

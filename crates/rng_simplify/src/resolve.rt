@@ -9,7 +9,7 @@ ghost use Rattle.rng_simplify.specs.Broken.{is_alone as says_nothing};
 ghost use Rattle.rng_simplify.specs.Refusals.{cells_of, OkOrRefused};
 ghost use Rattle.rng_simplify.specs.Cells.{cell_of};
 ghost use Rattle.rng_simplify.specs.NameTables.{kept_for};
-ghost use Rattle.rng_simplify.specs.ResolvedNodes.{IsResolved, combined_number, element_number};
+ghost use Rattle.rng_simplify.specs.ResolvedNodes.{IsResolved, IsToDefinitions, IsToElement, combined_number, element_number};
 ghost use Rattle.rng_simplify.specs.Findings.{AddsTo, both_say, HasSigns, IsGathered, GathersOne, Gathers, given};
 ghost use Rattle.rng_simplify.specs.Findings.{with_given, findings_of, findings_at_first, outer_in, combined_in, Links};
 ghost use Rattle.rng_simplify.specs.Findings.{TakesGrammar, TakesCell, IsMidway, numbering_of, with_number};
@@ -25,6 +25,7 @@ use nx_base::memory::NoMemory;
 use nx_base::sequence::Bytes;
 use rnc_parse::surface::{Combine, Defined};
 use std::alloc::Global;
+use std::marker::Model;
 
 /// The grammar in which a node stands.
 #[derive(Clone, Copy, Debug, PartialEq, Eq)]
@@ -37,11 +38,34 @@ pub(crate) enum Scope {
     In(usize),
 }
 
-/// Combined definitions, by their place among all of them.
-pub(crate) type CombinedNumber = usize;
+/// Combined definitions, by their place among all of them. To a contract they are that place.
+#[derive(Clone, Copy, Debug, PartialEq, Eq)]
+pub(crate) struct CombinedNumber(pub(crate) usize);
 
-/// An element that stands in the schema, by its place among them. Its definition has that number in the grammar.
-pub(crate) type ElementNumber = usize;
+impl Model for CombinedNumber {
+    ghost use Rattle.std.specs.Prelude.{ℕ};
+
+    ghost Value = { ℕ };
+
+    ghost view = { λ number. number.0 };
+
+    ghost inverse = { λ n. record { 0 = n } };
+}
+
+/// An element that stands in the schema, by its place among them. Its definition has that number in the grammar. To a contract it
+/// is that place.
+#[derive(Clone, Copy, Debug, PartialEq, Eq)]
+pub(crate) struct ElementNumber(pub(crate) usize);
+
+impl Model for ElementNumber {
+    ghost use Rattle.std.specs.Prelude.{ℕ};
+
+    ghost Value = { ℕ };
+
+    ghost view = { λ number. number.0 };
+
+    ghost inverse = { λ n. record { 0 = n } };
+}
 
 /// To what a node leads beside its parts.
 #[derive(Clone, Copy, Debug, PartialEq, Eq)]
@@ -55,23 +79,25 @@ pub(crate) enum Target {
 }
 
 impl Target {
-    /// The combined definitions to which a reference or a grammar leads. Nobody asks it of other nodes.
+    /// The combined definitions to which a reference or a grammar leads.
     pub(crate) fn combined(self) -> CombinedNumber
+        requires { IsToDefinitions self }
         ensures { result ≡ combined_number self }
     {
         match self {
             Target::Definitions(number) => number,
-            Target::Nothing | Target::Element(_) => 0,
+            Target::Nothing | Target::Element(_) => unreachable!(),
         }
     }
 
-    /// The number of an element that stands in the schema. Nobody asks it of other nodes.
+    /// The number of an element that stands in the schema.
     pub(crate) fn element(self) -> ElementNumber
+        requires { IsToElement self }
         ensures { result ≡ element_number self }
     {
         match self {
             Target::Element(number) => number,
-            Target::Nothing | Target::Definitions(_) => 0,
+            Target::Nothing | Target::Definitions(_) => unreachable!(),
         }
     }
 }
@@ -164,14 +190,14 @@ fn numbered(
 {
     let mut elements = Vec::new(alloc);
     for i in 0..nodes.len() {
-        number(i, &nodes[i], scopes[i], links, &mut elements)?;
+        number(NodeNumber(i), &nodes[i], scopes[i], links, &mut elements)?;
     }
     Ok(elements)
 }
 
 /// Numbers a node that stands in this scope, if it is an element that stands somewhere.
 fn number(
-    i: usize,
+    i: NodeNumber,
     node: &Node,
     scope: Scope,
     links: &mut Vec<Target>,
@@ -189,7 +215,7 @@ fn number(
 
 /// Numbers a node, if it is an element.
 fn number_standing(
-    i: usize,
+    i: NodeNumber,
     node: &Node,
     links: &mut Vec<Target>,
     elements: &mut Vec<NodeNumber>,
@@ -199,7 +225,7 @@ fn number_standing(
 {
     match node {
         Node::Element(_, _) => {
-            links[i] = Target::Element(elements.len());
+            links[i.0] = Target::Element(ElementNumber(elements.len()));
             elements.push(i)?;
             Ok(())
         }
@@ -289,10 +315,10 @@ fn gather(
         → GathersOne first before clause.now combined.old.items names.new combined.new.items result }
 {
     match names.get(&clause.name).copied() {
-        Some(number) => combined[number].add(clause.combine, clause.body),
+        Some(number) => combined[number.0].add(clause.combine, clause.body),
         None => {
             let alone = Combined::of(alloc, clause.combine, clause.body)?;
-            names.add(&clause.name, combined.len())?;
+            names.add(&clause.name, CombinedNumber(combined.len()))?;
             combined.push(alone)?;
             Ok(())
         }
@@ -320,18 +346,19 @@ fn give(scopes: &mut Vec<Scope>, clauses: &[Clause], scope: Scope)
     ensures { scopes.new.items ≡ given (bodies_of clauses.now) scope scopes.old.items }
 {
     for clause in clauses {
-        scopes[clause.body] = scope;
+        let body = clause.body;
+        scopes[body.0] = scope;
     }
 }
 
 impl Resolver {
     /// Nothing is known of so many nodes, but that one of them is the whole schema.
-    fn begin(alloc: Global, count: usize, root: usize) -> Result<Resolver, NoMemory>
+    fn begin(alloc: Global, count: usize, root: NodeNumber) -> Result<Resolver, NoMemory>
         requires { root < count }
         ensures { IfOk result (λ resolver. findings_of resolver ≡ findings_at_first count root) }
     {
         let mut scopes = filled(alloc, Scope::Nowhere, count)?;
-        scopes[root] = Scope::Outside;
+        scopes[root.0] = Scope::Outside;
         let links = filled(alloc, Target::Nothing, count)?;
         Ok(Resolver {
             alloc,
@@ -352,27 +379,27 @@ impl Resolver {
         let mut rest = whole.nodes.len();
         while rest > 0 {
             rest -= 1;
-            self.node(whole, rest)?;
+            self.node(whole, NodeNumber(rest))?;
         }
         Ok(())
     }
 
     /// Takes a node with all that is known of what stands around it.
-    fn node(&mut self, whole: &Whole, i: usize) -> Result<(), SchemaFault>
+    fn node(&mut self, whole: &Whole, i: NodeNumber) -> Result<(), SchemaFault>
         requires within { i < length whole.now.nodes.items }
         requires formed { AreWellFormed (cells_of whole.now) whole.now.root }
         requires behind { IsMidway (cells_of whole.now) whole.now.root (i + 1) (findings_of self.old) }
         ensures { OkOrRefused (cells_of whole.now) whole.now.root
             (λ done. IsMidway (cells_of whole.now) whole.now.root i (findings_of self.new)) result }
     {
-        match self.scopes[i] {
+        match self.scopes[i.0] {
             Scope::Nowhere => Ok(()),
-            scope => self.standing(i, scope, &whole.nodes[i]),
+            scope => self.standing(i, scope, &whole.nodes[i.0]),
         }
     }
 
     /// Takes a node that stands in this scope.
-    fn standing(&mut self, i: usize, scope: Scope, node: &Node) -> Result<(), SchemaFault>
+    fn standing(&mut self, i: NodeNumber, scope: Scope, node: &Node) -> Result<(), SchemaFault>
         requires known { i < length (findings_of self.old).links }
         requires within { (inner : ℕ) → Contains (inner_nodes (cell_of node.now)) inner → inner < length (findings_of self.old).scopes }
         ensures { TakesCell i scope (cell_of node.now) (findings_of self.old) (findings_of self.new) result }
@@ -396,11 +423,11 @@ impl Resolver {
     }
 
     /// A part of a node stands in this scope.
-    fn part(&mut self, part: usize, scope: Scope)
+    fn part(&mut self, part: NodeNumber, scope: Scope)
         requires { part < length (findings_of self.old).scopes }
         ensures { findings_of self.new ≡ with_given (part ∷ []) scope (findings_of self.old) }
     {
-        self.scopes[part] = scope;
+        self.scopes[part.0] = scope;
     }
 
     /// The grammar around a grammar.
@@ -430,13 +457,13 @@ impl Resolver {
     }
 
     /// Links a reference to the combined definitions of the name in a grammar.
-    fn refer(&mut self, i: usize, scope: Scope, name: &Bytes) -> Result<(), SchemaFault>
+    fn refer(&mut self, i: NodeNumber, scope: Scope, name: &Bytes) -> Result<(), SchemaFault>
         requires { i < length (findings_of self.old).links }
         ensures { Links i (combined_in (findings_of self.old).tables scope name.now) (findings_of self.old) (findings_of self.new) result }
     {
         match self.combined_of(scope, name) {
             Some(number) => {
-                self.links[i] = Target::Definitions(number);
+                self.links[i.0] = Target::Definitions(number);
                 Ok(())
             }
             None => Err(SchemaFault::Unreadable(Cause::NoDefinition)),
@@ -444,7 +471,12 @@ impl Resolver {
     }
 
     /// Takes a grammar, and links it to the combined definitions of its start.
-    fn grammar(&mut self, i: usize, outer: Scope, clauses: &[Clause]) -> Result<(), SchemaFault>
+    fn grammar(
+        &mut self,
+        i: NodeNumber,
+        outer: Scope,
+        clauses: &[Clause],
+    ) -> Result<(), SchemaFault>
         requires known { i < length (findings_of self.old).links }
         requires within { (body : ℕ) → Contains (bodies_of clauses.now) body → body < length (findings_of self.old).scopes }
         ensures { TakesGrammar i outer clauses.now (findings_of self.old) (findings_of self.new) result }
@@ -454,7 +486,7 @@ impl Resolver {
         match names.get(&Defined::Start).copied() {
             Some(start) => {
                 give(&mut self.scopes, clauses, scope);
-                self.links[i] = Target::Definitions(start);
+                self.links[i.0] = Target::Definitions(start);
                 self.tables.push(Table {
                     outer,
                     combined: names,

@@ -13,11 +13,23 @@ ghost use Rattle.rng_simplify.specs.declared.node.Sign.TheVariants as signs;
 
 use crate::fault::SchemaFault;
 use crate::node::{NodeNumber, Sign};
+use crate::resolve::ElementNumber;
 use std::alloc::Global;
 use std::marker::Model;
 
-/// A shape, by its place among the shapes.
-pub(crate) type ShapeNumber = usize;
+/// A shape, by its place among the shapes. To a contract it is that place.
+#[derive(Clone, Copy, Debug, PartialEq, Eq)]
+pub(crate) struct ShapeNumber(pub(crate) usize);
+
+impl Model for ShapeNumber {
+    ghost use Rattle.std.specs.Prelude.{ℕ};
+
+    ghost Value = { ℕ };
+
+    ghost view = { λ number. number.0 };
+
+    ghost inverse = { λ n. record { 0 = n } };
+}
 
 /// A form, whose parts are shapes with smaller numbers.
 #[derive(Clone, Copy, Debug, PartialEq, Eq)]
@@ -30,7 +42,7 @@ pub(crate) enum Shape {
     /// The type of a node.
     Typed(NodeNumber),
     /// An element by the number of its definition.
-    Ref(usize),
+    Ref(ElementNumber),
     List(ShapeNumber),
     /// An attribute with the class of a node.
     Attribute(NodeNumber, ShapeNumber),
@@ -172,7 +184,7 @@ impl Shapes {
         ensures there { slice_get self.now number ≡ Some result }
         ensures behind { IsBehindParts number result }
     {
-        self.entries[number].shape
+        self.entries[number.0].shape
     }
 
     /// Its size.
@@ -180,7 +192,7 @@ impl Shapes {
         requires { number < length self.now }
         ensures { IsSizeAt self.now number result }
     {
-        self.entries[number].size
+        self.entries[number.0].size
     }
 
     /// The size of a form of this shape.
@@ -209,8 +221,9 @@ impl Shapes {
         requires { IsBehindParts (length self.old) shape }
         ensures { Adds self.old self.new shape result }
     {
-        let number = self.entries.len();
-        let size = self.size_of(shape);
+        let number = ShapeNumber(self.entries.len());
+        let measured = shape;
+        let size = self.size_of(measured);
         self.entries.push(Entry { shape, size })?;
         Ok(number)
     }

@@ -18,8 +18,9 @@ ghost use Rattle.rng_simplify.specs.NodeTypes.{SetsType, MakesTypes, AreKnown};
 use crate::copies::check_excepts;
 use crate::fault::SchemaFault;
 use crate::form::Forms;
-use crate::node::{Node, Sign};
-use crate::shape::{Shape, Shapes};
+use crate::node::{Node, NodeNumber, Sign};
+use crate::order::Place;
+use crate::shape::{Shape, ShapeNumber, Shapes};
 use nx_base::cause::Cause;
 use nx_base::memory::NoMemory;
 use nx_base::sequence::{Bytes, TryCopy};
@@ -176,7 +177,11 @@ fn add_except(
 }
 
 /// Adds the nodes of the values of a shape, where its form is a choice of values, in order.
-fn list_values(shapes: &Shapes, number: usize, values: &mut Vec<usize>) -> Result<(), SchemaFault>
+fn list_values(
+    shapes: &Shapes,
+    number: ShapeNumber,
+    values: &mut Vec<NodeNumber>,
+) -> Result<(), SchemaFault>
     requires { number < length shapes.now }
     ensures { Lists shapes.now number values.old.items values.new.items result }
 {
@@ -205,7 +210,7 @@ fn excepts_of(
     shapes: &Shapes,
     name: &TypeName,
     datatype: &Datatype,
-    number: usize,
+    number: ShapeNumber,
 ) -> Result<Excepts, SchemaFault>
     requires texts { AreTexts (map cell_of nodes.now) }
     requires of_schema { (count : ℕ) × AreOfSchema (map cell_of nodes.now) count shapes.now }
@@ -231,7 +236,7 @@ fn excepts_from(
     nodes: &[Node],
     name: &TypeName,
     datatype: &Datatype,
-    values: &[usize],
+    values: &[NodeNumber],
 ) -> Result<Excepts, SchemaFault>
     requires texts { AreTexts (map cell_of nodes.now) }
     requires values { AreValues (map cell_of nodes.now) values.now }
@@ -250,13 +255,13 @@ fn add_value(
     nodes: &[Node],
     name: &TypeName,
     datatype: &Datatype,
-    value: usize,
+    value: NodeNumber,
 ) -> Result<(), SchemaFault>
     requires texts { AreTexts (map cell_of nodes.now) }
     requires value { IsValue (map cell_of nodes.now) value }
     ensures { TakesBehind name.now datatype.now (value_of (map cell_of nodes.now) value) excepts.old excepts.new result }
 {
-    match &nodes[value] {
+    match &nodes[value.0] {
         Node::Value(value, text) => add_except(excepts, name, datatype, value, text),
         _ => unreachable!(),
     }
@@ -278,7 +283,7 @@ fn type_of(
     match node {
         Node::Value(name, text) => value_node(alloc, name, text),
         Node::Typed(name, params, except) => {
-            let except = forms.of(*except);
+            let except = forms.of(Place(except.0));
             type_node(alloc, nodes, &forms.shapes, name, params, except)
         }
         _ => Ok(None),
@@ -306,7 +311,7 @@ fn type_node(
     shapes: &Shapes,
     name: &TypeName,
     params: &Params,
-    except: usize,
+    except: ShapeNumber,
 ) -> Result<Option<NodeType>, SchemaFault>
     requires texts { AreTexts (map cell_of nodes.now) }
     requires of_schema { (count : ℕ) × AreOfSchema (map cell_of nodes.now) count shapes.now }
@@ -326,7 +331,7 @@ fn set_type(
     alloc: Global,
     nodes: &[Node],
     forms: &Forms,
-    i: usize,
+    i: Place,
 ) -> Result<(), SchemaFault>
     requires texts { AreTexts (map cell_of nodes.now) }
     requires of_schema { (count : ℕ) × AreOfSchema (map cell_of nodes.now) count forms.now.shapes }
@@ -335,9 +340,9 @@ fn set_type(
     requires all { length types.old.items ≡ length nodes.now }
     ensures { SetsType (map cell_of nodes.now) forms.now i types.old.items types.new.items result }
 {
-    if i < nodes.len() {
-        let known = type_of(alloc, nodes, forms, &nodes[i])?;
-        types[i] = known;
+    if i.0 < nodes.len() {
+        let known = type_of(alloc, nodes, forms, &nodes[i.0])?;
+        types[i.0] = known;
         Ok(())
     } else {
         Ok(())
@@ -361,7 +366,7 @@ pub(crate) fn types_of(
     alloc: Global,
     nodes: &[Node],
     forms: &Forms,
-    order: &[usize],
+    order: &[Place],
 ) -> Result<Vec<Option<NodeType>>, SchemaFault>
     requires texts { AreTexts (map cell_of nodes.now) }
     requires of_schema { (count : ℕ) × AreOfSchema (map cell_of nodes.now) count forms.now.shapes }

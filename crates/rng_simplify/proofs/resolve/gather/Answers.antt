@@ -1,13 +1,15 @@
-use Rattle.std.proofs.Common.{◌≡◌, sym, ◌∙◌, refl, length, subst, arith}
+use Rattle.std.proofs.Common.{◌≡◌, sym, ◌∙◌, refl, ℕ, length, set, subst, arith}
 use Rattle.std.proofs.lemmas.Option.{slice_get_read}
 use Rattle.rng_simplify.specs.NameTables.{KeepsOne}
+use Rattle.rng_simplify.specs.Findings.{GathersOne}
 use Rattle.rng_simplify.proofs.Gathering.{gathers_added, gathers_begun}
 use Rattle.rng_simplify.proofs.resolve.gather.Goals as goal
 
 pub returns-in-Some : goal.returns-in-Some
 returns-in-Some c = λ first before h.
     let kept = sym c.get.ensures ∙ sym c.copied.ensures ∙ c.in-Some.is in
-    gathers_added c.in-Some.number c.args.clause.now c.index_mut.result.now c.add.new.self h kept (slice_get_read c.args.combined.now.items (length c.args.combined.now.items) c.in-Some.number c.index_mut.result.now refl (c.requires c.in-Some.number kept) c.index_mut.ensures.value) c.add.result c.add.ensures
+    let P : ℕ → Type 0 = λ n. GathersOne first before c.args.clause.now c.args.combined.now.items c.args.names.now (set c.args.combined.now.items n c.add.new.self) c.add.result in
+    subst P (sym c.number.view_is) (gathers_added c.in-Some.number c.args.clause.now c.index_mut.result.now c.add.new.self h kept (slice_get_read c.args.combined.now.items (length c.args.combined.now.items) c.in-Some.number c.index_mut.result.now refl (c.requires c.in-Some.number kept) (rw c.number.view_is at c.index_mut.ensures.value)) c.add.result c.add.ensures)
 
 pub returns-in_ok-push-in-None : goal.returns-in_ok-push-in-None
 returns-in_ok-push-in-None c = λ first before h.

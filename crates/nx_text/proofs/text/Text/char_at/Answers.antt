@@ -1,6 +1,4 @@
-use Rattle.std.proofs.Common.{◌≡◌, ◌∙◌, sym, ap, subst, ℕ, List, slice_get, rules}
-use Rattle.nx_text.specs.Feeds.{joined}
-use Rattle.nx_text.specs.Reading.{StandsAt}
+use Rattle.std.proofs.Common.{rules}
 use Rattle.nx_text.proofs.OneByte.{one_byte_stands}
 use Rattle.nx_text.proofs.text.Text.char_at.Goals as goal
 

@@ -12,8 +12,8 @@ value-requires-clause-known c = value_type_ready _ _ _ c.requires.ready _ _ c.in
 pub typed-requires : goal.typed-requires
 typed-requires c = type_ready _ _ _ c.requires.ready _ _ c.in-Typed.ensures.there
 
-pub overflow_cast-number : goal.overflow_cast-number
-overflow_cast-number c = let below = ref_ready _ _ _ c.requires.ready _ _ c.in-Ref.ensures.there in record { fits = below }
+pub overflow_cast-number-inside : goal.overflow_cast-number-inside
+overflow_cast-number-inside c = let below = ref_ready _ _ _ c.requires.ready _ _ c.in-Ref.ensures.there in rw c.number.view_is (record { fits = below })
 
 pub returns-in_ok-push-in-NotAllowed : goal.returns-in_ok-push-in-NotAllowed
 returns-in_ok-push-in-NotAllowed c = leaf_done _ _ _ _ _ _ _ _ (spells_not_allowed (is_it _ _ _ c.in-NotAllowed.ensures.there c.in-NotAllowed.ensures.behind)) c.in_ok-push-in-NotAllowed.ensures.items
@@ -31,7 +31,7 @@ pub returns-in_ok-push-in-Typed : goal.returns-in_ok-push-in-Typed
 returns-in_ok-push-in-Typed c = leaf_done _ _ _ _ _ _ _ _ (spells_type (is_it _ _ _ c.in-Typed.ensures.there c.in-Typed.ensures.behind) c.in_ok-typed-in-Typed.ensures) c.in_ok-push-in-Typed.ensures.items
 
 pub returns-in_ok-push-in-Ref : goal.returns-in_ok-push-in-Ref
-returns-in_ok-push-in-Ref c = leaf_done _ _ _ _ _ _ _ _ (spells_ref (is_it _ _ _ c.in-Ref.ensures.there c.in-Ref.ensures.behind)) c.in_ok-push-in-Ref.ensures.items
+returns-in_ok-push-in-Ref c = leaf_done _ _ _ _ _ _ _ _ (spells_ref (is_it _ _ _ c.in-Ref.ensures.there c.in-Ref.ensures.behind)) (rw c.number.view_is at c.in_ok-push-in-Ref.ensures.items)
 
 pub returns-in-List : goal.returns-in-List
 returns-in-List c = leaves_one _ _ _ _ _ _ _ _ _ _ (is_it _ _ _ c.in-List.ensures.there c.in-List.ensures.behind) c.requires.within refl c.leave_one.ensures

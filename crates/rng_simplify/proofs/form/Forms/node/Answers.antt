@@ -1,33 +1,47 @@
 use Rattle.rng_simplify.proofs.Forming.{of_node, lead_known, cell_added, element_added, value_added, type_added}
-use Rattle.std.proofs.Common.{refl, [], ◌∷◌, ◌+◌}
+use Rattle.std.proofs.Common.{refl, subst, [], ◌∷◌, ◌+◌, arith}
 use Rattle.rng_simplify.proofs.Nodes.{in_first, in_more}
+use Rattle.rng_simplify.specs.declared.node.Node.{Node}
+use Rattle.rng_simplify.specs.Cells.{cell_of}
 use Rattle.rng_simplify.specs.Cells as cell
-use Rattle.rng_simplify.specs.ResolvedNodes.{combined_number}
+use Rattle.rng_simplify.specs.ResolvedNodes.{combined_number, IsLinkedAs}
 use Rattle.rng_simplify.proofs.form.Forms.node.Goals as goal
 
 pub of-value-requires : goal.of-value-requires
-of-value-requires c = (lead_known _ _ c.args.count (combined_number c.args.link) _ _ _ c.in-Attribute.is c.requires (in_first c.in-Attribute.part [])).within
+of-value-requires c = let known = (lead_known _ _ c.args.count (combined_number c.args.link) _ _ _ c.in-Attribute.is c.requires.known (in_first c.in-Attribute.part [])).within in omega (arith, known, c.part.view_is)
 
 pub of-words-requires : goal.of-words-requires
-of-words-requires c = (lead_known _ _ c.args.count (combined_number c.args.link) _ _ _ c.in-List.is c.requires (in_first c.in-List.part [])).within
+of-words-requires c = let known = (lead_known _ _ c.args.count (combined_number c.args.link) _ _ _ c.in-List.is c.requires.known (in_first c.in-List.part [])).within in omega (arith, known, c.part-in-List.view_is)
 
 pub of-body-requires : goal.of-body-requires
-of-body-requires c = (lead_known _ _ c.args.count (combined_number c.args.link) _ _ _ c.in-OneOrMore.is c.requires (in_first c.in-OneOrMore.part [])).within
+of-body-requires c = let known = (lead_known _ _ c.args.count (combined_number c.args.link) _ _ _ c.in-OneOrMore.is c.requires.known (in_first c.in-OneOrMore.part [])).within in omega (arith, known, c.part-in-OneOrMore.view_is)
 
 pub of-one-requires : goal.of-one-requires
-of-one-requires c = (lead_known _ _ c.args.count (combined_number c.args.link) _ _ _ c.in-Joined.is c.requires (in_first c.in-Joined.first (c.in-Joined.second ∷ []))).within
+of-one-requires c = let known = (lead_known _ _ c.args.count (combined_number c.args.link) _ _ _ c.in-Joined.is c.requires.known (in_first c.in-Joined.first (c.in-Joined.second ∷ []))).within in omega (arith, known, c.first.view_is)
 
 pub of-other-requires : goal.of-other-requires
-of-other-requires c = (lead_known _ _ c.args.count (combined_number c.args.link) _ _ _ c.in-Joined.is c.requires (in_more c.in-Joined.first (c.in-Joined.second ∷ []) _ (in_first c.in-Joined.second []))).within
+of-other-requires c = let known = (lead_known _ _ c.args.count (combined_number c.args.link) _ _ _ c.in-Joined.is c.requires.known (in_more c.in-Joined.first (c.in-Joined.second ∷ []) _ (in_first c.in-Joined.second []))).within in omega (arith, known, c.second.view_is)
 
-pub linked-requires : goal.linked-requires
-linked-requires c = lead_known _ _ c.args.count (combined_number c.args.link) _ _ _ c.in-Ref.is c.requires (in_first (c.args.count + combined_number c.args.link) [])
+pub element-requires : goal.element-requires
+element-requires c = let P : Node → Type 0 = λ n. IsLinkedAs (cell_of n) c.args.link in subst P c.in-Element.is c.requires.linked
 
-pub linked-requires-in-ParentRef : goal.linked-requires-in-ParentRef
-linked-requires-in-ParentRef c = lead_known _ _ c.args.count (combined_number c.args.link) _ _ _ c.in-ParentRef.is c.requires (in_first (c.args.count + combined_number c.args.link) [])
+pub linked-requires-clause-to : goal.linked-requires-clause-to
+linked-requires-clause-to c = let P : Node → Type 0 = λ n. IsLinkedAs (cell_of n) c.args.link in subst P c.in-Ref.is c.requires.linked
 
-pub linked-requires-in-Grammar : goal.linked-requires-in-Grammar
-linked-requires-in-Grammar c = lead_known _ _ c.args.count (combined_number c.args.link) _ _ _ c.in-Grammar.is c.requires (in_first (c.args.count + combined_number c.args.link) [])
+pub linked-requires-in-ParentRef-clause-to : goal.linked-requires-in-ParentRef-clause-to
+linked-requires-in-ParentRef-clause-to c = let P : Node → Type 0 = λ n. IsLinkedAs (cell_of n) c.args.link in subst P c.in-ParentRef.is c.requires.linked
+
+pub linked-requires-in-Grammar-clause-to : goal.linked-requires-in-Grammar-clause-to
+linked-requires-in-Grammar-clause-to c = let P : Node → Type 0 = λ n. IsLinkedAs (cell_of n) c.args.link in subst P c.in-Grammar.is c.requires.linked
+
+pub linked-requires-clause-known : goal.linked-requires-clause-known
+linked-requires-clause-known c = lead_known _ _ c.args.count (combined_number c.args.link) _ _ _ c.in-Ref.is c.requires.known (in_first (c.args.count + combined_number c.args.link) [])
+
+pub linked-requires-in-ParentRef-clause-known : goal.linked-requires-in-ParentRef-clause-known
+linked-requires-in-ParentRef-clause-known c = lead_known _ _ c.args.count (combined_number c.args.link) _ _ _ c.in-ParentRef.is c.requires.known (in_first (c.args.count + combined_number c.args.link) [])
+
+pub linked-requires-in-Grammar-clause-known : goal.linked-requires-in-Grammar-clause-known
+linked-requires-in-Grammar-clause-known c = lead_known _ _ c.args.count (combined_number c.args.link) _ _ _ c.in-Grammar.is c.requires.known (in_first (c.args.count + combined_number c.args.link) [])
 
 pub returns-in-Element-clause-made : goal.returns-in-Element-clause-made
 returns-in-Element-clause-made c = of_node _ _ _ _ _ _ _ _ _ c.in-Element.is (element_added _ _ _ _ _ _ _ _ _ _ c.element.ensures c.add.ensures)

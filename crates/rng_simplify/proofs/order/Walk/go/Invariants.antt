@@ -9,7 +9,7 @@ abbrev pub invariant-loop-step : goal.invariant-loop-step
 invariant-loop-step l = record {
   is_walk : IsWalk (map cell_of l.whole.nodes.items) l.whole.root l.found None (walk_state_of l.self);
   keeps : KeepsMarks (walk_state_of l.fn.self) (walk_state_of l.self);
-  met : mark_at (walk_state_of l.self) l.from ≢ New;
+  met : mark_at (walk_state_of l.self) l.fn.from ≢ New;
 }
 
 abbrev pub decreases-loop-step : goal.decreases-loop-step

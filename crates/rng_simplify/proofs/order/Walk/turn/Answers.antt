@@ -20,7 +20,7 @@ leave-requires c =
     let cells = map cell_of c.args.whole.now.nodes.items in
     let root = c.args.whole.now.root in
     let found = c.args.found.now in
-    met_marked cells root found _ _ c.args.step.node c.requires.formed c.requires.here (last_met cells root found (walk_state_of c.args.self.now) c.args.step c.requires.here)
+    met_marked cells root found _ _ c.args.step.place c.requires.formed c.requires.here (last_met cells root found (walk_state_of c.args.self.now) c.args.step c.requires.here)
 
 pub returns-in_ok-push-in-Some : goal.returns-in_ok-push-in-Some
 returns-in_ok-push-in-Some c =

@@ -1,0 +1,101 @@
+//! A tag is read on at once through the characters of one byte that lie in one piece of the text.
+
+ghost use Rattle.std.specs.Prelude.{◌≡◌, ℕ, ◌+◌, ◌<◌, ◌≤◌, length, slice_index};
+ghost use Rattle.std.specs.List.{prefix_len};
+ghost use Rattle.std.specs.Str.{IsUtf8};
+ghost use Rattle.nx_base.specs.Text.{IsPlace};
+ghost use Rattle.nx_scan.specs.Tag.{IsReadTo, Stays, is_name_byte, is_value_byte};
+
+use crate::tag::{TagState, is_name_char};
+use nx_text::text::Text;
+
+/// How far a tag is read, and what was read of it.
+#[derive(Clone, Copy, Debug, PartialEq, Eq)]
+pub(crate) struct TagPart {
+    pub(crate) place: usize,
+    pub(crate) seen: TagState,
+}
+
+/// Whether a name goes on with the byte, which is a character of its own.
+fn is_in_name(byte: u8) -> bool
+    ensures { result ≡ is_name_byte byte }
+{
+    byte < 128 && is_name_char(char::from(byte))
+}
+
+/// Whether a value in such quotes goes on with the byte, which is a character of its own.
+fn is_in_value(byte: u8, quote: u8) -> bool
+    ensures { result ≡ is_value_byte quote byte }
+{
+    byte < 128 && byte != quote && byte != b'<'
+}
+
+/// How many bytes of a name stand in front.
+fn name_len(bytes: &[u8]) -> usize
+    ensures len { result ≡ prefix_len is_name_byte bytes.now }
+    ensures within { result ≤ length bytes.now }
+{
+    bytes.iter().take_while(|byte| is_in_name(**byte)).count()
+}
+
+/// How many bytes of a value in such quotes stand in front.
+fn value_len(bytes: &[u8], quote: u8) -> usize
+    ensures len { result ≡ prefix_len (is_value_byte quote) bytes.now }
+    ensures within { result ≤ length bytes.now }
+{
+    bytes
+        .iter()
+        .take_while(|byte| is_in_value(**byte, quote))
+        .count()
+}
+
+/// How many bytes from an index on are characters that leave what was read as it was.
+fn stay_len(seen: TagState, piece: &[u8], from: usize) -> usize
+    requires { from ≤ length piece.now }
+    ensures within { from + result ≤ length piece.now }
+    ensures stay { (k : ℕ) → k < result → Stays seen (slice_index piece.now (from + k)) }
+{
+    let left = &piece[from..];
+    match seen {
+        TagState::Name => name_len(left),
+        TagState::Attribute => name_len(left),
+        TagState::EndName => name_len(left),
+        TagState::Double => value_len(left, b'"'),
+        TagState::Single => value_len(left, b'\''),
+        _ => 0,
+    }
+}
+
+/// The tag read on from a place, up to a `>`, or a character that has more bytes, with which it is lost, or that lies in
+/// another piece.
+pub(crate) fn read_on(text: &Text, place: usize, seen: TagState) -> TagPart
+    requires utf8 { IsUtf8 text.now }
+    requires place { IsPlace text.now place }
+    ensures further { place ≤ result.place }
+    ensures on { (at : ℕ) → IsReadTo text.now at place seen → IsReadTo text.now at result.place result.seen }
+{
+    let piece = text.piece_at(place);
+    let mut so_far = seen;
+    let mut n = 0;
+    while n < piece.len() {
+        if piece[n] >= 128 {
+            break;
+        }
+        // which mostly ends the tag
+        if piece[n] == b'>' {
+            break;
+        }
+        let next = so_far.then(char::from(piece[n]));
+        match next {
+            TagState::Start | TagState::Empty | TagState::End | TagState::Lost => break,
+            _ => {}
+        }
+        so_far = next;
+        n += 1;
+        n += stay_len(so_far, piece, n);
+    }
+    TagPart {
+        place: place + n,
+        seen: so_far,
+    }
+}

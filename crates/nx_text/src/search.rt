@@ -1,0 +1,51 @@
+//! What stands from an offset on in a text that lies in two pieces, one behind the other.
+
+ghost use Rattle.std.specs.Prelude.{◌≡◌, ◌+◌, ◌<◌, ◌≤◌, ◌^◌, ◌++◌, length, drop};
+ghost use Rattle.nx_base.specs.Tokens.{bytes_up_to};
+ghost use Rattle.nx_text.specs.Reading.{StandFrom};
+
+use memchr::memchr;
+
+/// How many bytes stand before the first such byte, or in all where there is none.
+fn up_to_byte(bytes: &[u8], byte: u8) -> usize
+    ensures first { result ≡ bytes_up_to byte bytes.now }
+    ensures within { result ≤ length bytes.now }
+{
+    match memchr(byte, bytes) {
+        Some(before) => before,
+        None => bytes.len(),
+    }
+}
+
+/// The bytes from an offset on, as far as they lie in one piece.
+pub(crate) fn piece_of_both<'a>(front: &'a [u8], back: &'a [u8], from: usize) -> &'a [u8]
+    requires fits { length front.now + length back.now < 2 ^ 64 }
+    requires inside { from ≤ length (front.now ++ back.now) }
+    ensures piece { StandFrom (front.now ++ back.now) from result.now }
+    ensures some { from < length (front.now ++ back.now) → 0 < length result.now }
+    ensures fits { from + length result.now < 2 ^ 64 }
+{
+    let gap = front.len();
+    if from >= gap {
+        &back[from - gap..]
+    } else {
+        &front[from..]
+    }
+}
+
+/// The first offset from `from` on at which the byte stands, or the length.
+pub(crate) fn find_in_both(front: &[u8], back: &[u8], from: usize, byte: u8) -> usize
+    requires fits { length front.now + length back.now < 2 ^ 64 }
+    requires inside { from ≤ length (front.now ++ back.now) }
+    ensures { result ≡ from + bytes_up_to byte (drop from (front.now ++ back.now)) }
+{
+    let gap = front.len();
+    if from >= gap {
+        return from + up_to_byte(&back[from - gap..], byte);
+    }
+    let near = from + up_to_byte(&front[from..], byte);
+    if near < gap {
+        return near;
+    }
+    gap + up_to_byte(back, byte)
+}
