@@ -4,7 +4,6 @@ ghost use Rattle.std.specs.Prelude.{◌≡◌, IfOk, IfSome, option_map, take, l
 ghost use Rattle.nx_events.specs.Texts.{EventIsText};
 ghost use Rattle.nx_recover.specs.States.{IsChange, changed, form};
 ghost use Rattle.nx_recover.specs.Aside.{Popped, Pushed, Takes, open_of};
-ghost use Rattle.rng_kept.specs.Residuals.{Residual};
 ghost use Rattle.nx_recover.specs.Table as t;
 
 use crate::levels::{Begun, Change, Ended, Levels, Open, Turn};
@@ -41,6 +40,7 @@ fn push<S: Drop>(change: &mut Change<S>, begun: Begun<S>) -> Result<Option<Flaw>
 }
 
 // An open element that was taken off: one that is aside, or an old one, which stays where it is.
+#[derive(Drop)]
 enum Taken<'a, S> {
     Aside(Open<S>),
     Old(&'a Open<S>),
@@ -56,10 +56,14 @@ fn open_of<'a, S>(taken: &'a Taken<'a, S>) -> &'a Open<S>
     }
 }
 
-// Takes the innermost open element off.
-fn pop<'a, S: Drop>(levels: &'a Levels<S>, change: &mut Change<S>) -> Option<Taken<'a, S>>
-    ensures { (P : S → Type 0) (f : S → Residual) → IsChange P levels.now change.old
-        → Popped P f levels.now change.old change.new (option_map open_of result) }
+// Takes the innermost open element off. The matcher is asked nothing: it tells what states are.
+fn pop<'a, M: Matcher>(
+    _matcher: &M,
+    levels: &'a Levels<M::State>,
+    change: &mut Change<M::State>,
+) -> Option<Taken<'a, M::State>>
+    requires { IsChange (M.is_state _matcher.now) levels.now change.old }
+    ensures { Popped (M.is_state _matcher.now) (M.means _matcher.now) levels.now change.old change.new (option_map open_of result) }
 {
     if let Some(element) = change.above.pop() {
         return Some(Taken::Aside(element));
@@ -122,7 +126,7 @@ fn take_leave<M: Matcher>(
     ensures gives { IfOk result (Takes (M.is_state matcher.new) (M.means matcher.new) levels.now change.new
         (t.done_in (M.language matcher.old) (form (M.means matcher.old) (changed levels.now change.old)) Event.Leave)) }
 {
-    let Some(taken) = pop(levels, change) else {
+    let Some(taken) = pop(matcher, levels, change) else {
         return Ok(None);
     };
     let ended = row::end_element(alloc, matcher, here(levels, change), open_of(&taken))?;
