@@ -151,18 +151,20 @@ pops_above {S = S} P f l c v o e h =
       top = ap (stack f) w ∙ stack_more f es o;
     }
 
-pub pops_old : {S : Type 0} (P : S → Type 0) (f : S → Residual) (l : Levels S) (c : Change S) (v : Vec (Open S) Global) (x o : Open S) → c.above.items ≡ [] → v.items ≡ [] → 0 < c.kept → take c.kept l.elements.items ≡ take (c.kept - 1) l.elements.items ++ x ∷ [] →
-    IsChange P l c → IsOpen P o → open_form f o ≡ open_form f x → PopsOne P f l c (record { here = c.here; kept = c.kept - 1; above = v }) o
-pops_old {S = S} P f l c v x o e z n k h s m =
+pub pops_old : {S : Type 0} (P : S → Type 0) (f : S → Residual) (l : Levels S) (c : Change S) (v : Vec (Open S) Global) (x : Open S) → c.above.items ≡ [] → v.items ≡ [] → 0 < c.kept → take c.kept l.elements.items ≡ take (c.kept - 1) l.elements.items ++ x ∷ [] →
+    IsChange P l c → PopsOne P f l c (record { here = c.here; kept = c.kept - 1; above = v }) x
+pops_old {S = S} P f l c v x e z n k h =
     let d : Change S = record { here = c.here; kept = c.kept - 1; above = v } in
-    let w : (changed l d).elements ≡ take (c.kept - 1) l.elements.items = ap (λ y. take (c.kept - 1) l.elements.items ++ y) z ∙ append-nil (take (c.kept - 1) l.elements.items) in
-    let u : (changed l c).elements ≡ take (c.kept - 1) l.elements.items ++ x ∷ [] = ap (λ y. take c.kept l.elements.items ++ y) e ∙ append-nil (take c.kept l.elements.items) ∙ k in
+    let front : List (Open S) = take (c.kept - 1) l.elements.items in
+    let w : (changed l d).elements ≡ front = ap (λ y. front ++ y) z ∙ append-nil front in
+    let u : (changed l c).elements ≡ front ++ x ∷ [] = ap (λ y. take c.kept l.elements.items ++ y) e ∙ append-nil (take c.kept l.elements.items) ∙ k in
     let A : List (Open S) → Type 0 = λ y. AllByRecursion (IsOpen P) y in
+    let all = subst A u h.states.elements in
     record {
-      change = record { kept = omega (arith, h.kept); states = record { here = h.states.here; elements = subst A (sym w) (all_front (IsOpen P) (take (c.kept - 1) l.elements.items) (x ∷ []) (subst A u h.states.elements)) } };
+      change = record { kept = omega (arith, h.kept); states = record { here = h.states.here; elements = subst A (sym w) (all_front (IsOpen P) front (x ∷ []) all) } };
       here = refl;
-      state = s;
-      top = ap (stack f) u ∙ stack_more f (take (c.kept - 1) l.elements.items) x ∙ ap (λ y. y ∷ stack f (take (c.kept - 1) l.elements.items)) (sym m) ∙ ap (λ y. open_form f o ∷ stack f y) (sym w);
+      state = (all_back (IsOpen P) front (x ∷ []) all).0;
+      top = ap (stack f) u ∙ stack_more f front x ∙ ap (λ y. open_form f x ∷ stack f y) (sym w);
     }
 
 pub pops_none : {S : Type 0} (P : S → Type 0) (f : S → Residual) (l : Levels S) (c : Change S) (v : Vec (Open S) Global) → c.above.items ≡ [] → v.items ≡ [] → c.kept ≡ 0 → IsChange P l c → PopsNone P f l c (record c { above = v })

@@ -3,7 +3,7 @@
 ghost use Rattle.std.specs.Prelude.{◌≡◌, IfOk, IfSome, option_map, take, length};
 ghost use Rattle.nx_events.specs.Texts.{EventIsText};
 ghost use Rattle.nx_recover.specs.States.{IsChange, changed, form};
-ghost use Rattle.nx_recover.specs.Aside.{Popped, Pushed, Takes};
+ghost use Rattle.nx_recover.specs.Aside.{Popped, Pushed, Takes, open_of};
 ghost use Rattle.nx_recover.specs.Table as t;
 
 use crate::levels::{Begun, Change, Ended, Levels, Open, Turn};
@@ -39,25 +39,40 @@ fn push<S: Drop>(change: &mut Change<S>, begun: Begun<S>) -> Result<Option<Flaw>
     Ok(flaw)
 }
 
-// Takes the innermost open element off: one that is aside, or a copy of an old one.
-fn pop<M: Matcher>(
-    alloc: Global,
-    matcher: &M,
-    levels: &Levels<M::State>,
+// An open element that was taken off: one that is aside, or an old one, which stays where it is.
+#[derive(Drop)]
+enum Taken<'a, S> {
+    Aside(Open<S>),
+    Old(&'a Open<S>),
+}
+
+// The element that was taken off.
+fn open_of<'a, S>(taken: &'a Taken<'a, S>) -> &'a Open<S>
+    ensures { result.now ≡ open_of taken.now }
+{
+    match taken {
+        Taken::Aside(element) => element,
+        Taken::Old(element) => element,
+    }
+}
+
+// Takes the innermost open element off. The matcher is asked nothing: it tells what states are.
+fn pop<'a, M: Matcher>(
+    _matcher: &M,
+    levels: &'a Levels<M::State>,
     change: &mut Change<M::State>,
-) -> Result<Option<Open<M::State>>, NoMemory>
-    requires { IsChange (M.is_state matcher.now) levels.now change.old }
-    ensures { IfOk result (Popped (M.is_state matcher.now) (M.means matcher.now) levels.now change.old change.new) }
+) -> Option<Taken<'a, M::State>>
+    requires { IsChange (M.is_state _matcher.now) levels.now change.old }
+    ensures { Popped (M.is_state _matcher.now) (M.means _matcher.now) levels.now change.old change.new (option_map open_of result) }
 {
     if let Some(element) = change.above.pop() {
-        return Ok(Some(element));
+        return Some(Taken::Aside(element));
     }
     if change.kept == 0 {
-        return Ok(None);
+        return None;
     }
-    let element = row::copy_open(alloc, matcher, &levels.elements[change.kept - 1])?;
     change.kept -= 1;
-    Ok(Some(element))
+    Some(Taken::Old(&levels.elements[change.kept]))
 }
 
 // An element begins.
@@ -111,10 +126,10 @@ fn take_leave<M: Matcher>(
     ensures gives { IfOk result (Takes (M.is_state matcher.new) (M.means matcher.new) levels.now change.new
         (t.done_in (M.language matcher.old) (form (M.means matcher.old) (changed levels.now change.old)) Event.Leave)) }
 {
-    let Some(element) = pop(alloc, matcher, levels, change)? else {
+    let Some(taken) = pop(matcher, levels, change) else {
         return Ok(None);
     };
-    let ended = row::end_element(alloc, matcher, here(levels, change), element)?;
+    let ended = row::end_element(alloc, matcher, here(levels, change), open_of(&taken))?;
     let Ended { here: behind, flaw } = ended;
     change.here = Some(behind);
     Ok(flaw)

@@ -11,7 +11,8 @@ use nx_base::fault::Faults;
 use nx_base::machine::Machine;
 use nx_base::memory::NoMemory;
 use nx_base::token::Token;
-use nx_events::bare::Bare;
+use nx_events::bare::{Bare, step_bare};
+use nx_events::item::Items;
 use nx_events::reader;
 use nx_events::state::EventState;
 use rng_live::matcher::Matcher;
@@ -22,6 +23,8 @@ use std::alloc::Global;
 #[derive(Drop)]
 pub struct Recover<M: Matcher> {
     pub matcher: Option<M>,
+    // the memory that the items of one token after another are put in
+    items: Items,
 }
 
 // A state without levels.
@@ -39,10 +42,13 @@ fn without_levels<S: Drop>(alloc: Global, events: EventState) -> RecoverState<S>
 
 impl<M: Matcher> Recover<M> {
     /// Recovery over this matcher.
-    pub fn new(matcher: Option<M>) -> Recover<M>
+    pub fn new(alloc: Global, matcher: Option<M>) -> Recover<M>
         ensures { result.matcher ≡ matcher }
     {
-        Recover { matcher }
+        Recover {
+            matcher,
+            items: Items::new(alloc),
+        }
     }
 
     /// The state of the frame that goes on here; none exactly where there is no schema, or the innermost open element is lost.
@@ -102,8 +108,8 @@ impl<M: Matcher> Machine for Recover<M> {
         faults: &mut Faults,
     ) -> Result<(), NoMemory> {
         match &mut self.matcher {
-            Some(matcher) => step_over(alloc, matcher, state, token, faults),
-            None => Bare.step(alloc, &mut state.events, token, faults),
+            Some(matcher) => step_over(alloc, matcher, &mut self.items, state, token, faults),
+            None => step_bare(alloc, &mut self.items, &mut state.events, token, faults),
         }
     }
 

@@ -266,31 +266,31 @@ pub fn end_element<M: Matcher>(
     alloc: Global,
     matcher: &mut M,
     here: &Option<M::State>,
-    element: Open<M::State>,
+    element: &Open<M::State>,
 ) -> Result<Ended<M::State>, NoMemory>
     requires here { IfSome here.now (M.is_state matcher.old) }
-    requires element { IsOpen (M.is_state matcher.old) element }
+    requires element { IsOpen (M.is_state matcher.old) element.now }
     ensures later { M.later matcher.old matcher.new }
     ensures gives { IfOk result (EndedIs (M.is_state matcher.new) (M.means matcher.new)
-        (t.ended (option_map (M.means matcher.old) here.now) (open_form (M.means matcher.old) element))) }
+        (t.ended (option_map (M.means matcher.old) here.now) (open_form (M.means matcher.old) element.now))) }
 {
     match element {
         Open::In(name) => {
-            let turn = leave_here(alloc, matcher, here, &name)?;
+            let turn = leave_here(alloc, matcher, here, name)?;
             Ok(Ended {
                 here: turn.next,
                 flaw: turn.flaw,
             })
         }
         Open::Begins(name, around) => {
-            let turn = leave_here(alloc, matcher, here, &name)?;
+            let turn = leave_here(alloc, matcher, here, name)?;
             Ok(Ended {
-                here: around,
+                here: copy_here(alloc, matcher, around)?,
                 flaw: turn.flaw,
             })
         }
         Open::Lost(around) => Ok(Ended {
-            here: around,
+            here: copy_here(alloc, matcher, around)?,
             flaw: None,
         }),
     }

@@ -107,10 +107,12 @@ fn install<S: Drop>(
     Ok(())
 }
 
-/// A step over a matcher. For want of memory the state means what it meant, and the faults are as before.
+/// A step over a matcher. For want of memory the state means what it meant, and the faults are as before. The list of items is memory
+/// that whoever takes many tokens keeps: what it holds before is dropped.
 pub fn step_over<M: Matcher>(
     alloc: Global,
     matcher: &mut M,
+    items: &mut Items,
     state: &mut RecoverState<M::State>,
     token: &Token,
     faults: &mut Faults,
@@ -132,8 +134,8 @@ pub fn step_over<M: Matcher>(
     ensures unchanged { OnErr result (over (M.means matcher.new) state.new ≡ over (M.means matcher.old) state.old) }
     ensures no_faults { OnErr result (faults.new ≡ faults.old) }
 {
-    let mut items = Items::new(alloc);
-    let declared = read(alloc, &mut items, &state.events, token)?;
+    items.clear();
+    let declared = read(alloc, items, &state.events, token)?;
     let mut more = Sequence::new(alloc);
     let change = take_items(alloc, matcher, &state.levels, items.as_slice(), &mut more)?;
     install(alloc, state, token, &declared, change, faults, more)?;
