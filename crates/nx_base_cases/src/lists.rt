@@ -10,104 +10,227 @@ use nx_base::name::{Name, Names};
 use nx_base::offer::{Offer, OfferList};
 use nx_base::sequence::{Bytes, Sequence, TryCopy};
 use std::alloc::Global;
-use std::test::Fail;
 
 fn bytes_of(alloc: Global, text: &str) -> Result<Bytes, NoMemory> {
     Ok(Bytes::from_vec(Vec::from_slice(alloc, text.as_bytes())?))
 }
 
-#[test]
-fn lists_are_edited(rt: HostRuntime) -> Result<(), Fail> {
-    let mut bytes = Sequence::new(rt.alloc());
-    assert!(rt; bytes.is_empty());
+fn digits(alloc: Global) -> Result<Bytes, NoMemory> {
+    let mut bytes = Bytes::new(alloc);
     for byte in 0..5u8 {
         bytes.push(byte)?;
     }
-    assert_eq!(rt; bytes.len(), 5);
+    Ok(bytes)
+}
+
+// Whether two bytes are cut out of five, and one is put in.
+fn is_cut(bytes: &mut Bytes) -> bool {
+    if bytes.len() != 5 {
+        return false;
+    }
     bytes.cut(1, 3);
-    assert!(rt; bytes.len() > 1);
-    bytes.insert(1, 9)?;
-    bytes.reserve(2)?;
-    bytes.append(Sequence::from_vec(vec![in rt.alloc(); 6, 7]?))?;
-    assert_eq!(rt; (bytes.pop(), bytes.pop()), (Some(7), Some(6)));
-    let copied = bytes.copy()?;
-    assert_eq!(rt; copied.as_slice(), [0, 9, 3, 4].as_slice());
-    assert_eq!(rt; (copied.get(1).copied(), copied.get(4)), (Some(9), None));
-    Ok(())
+    bytes.len() > 1 && bytes.insert(1, 9).is_ok() && bytes.reserve(2).is_ok()
 }
 
-#[test]
-fn lists_of_lists_are_copied(rt: HostRuntime) -> Result<(), Fail> {
-    let mut names = Names::new(rt.alloc());
-    for (ns, local) in [("", "a"), ("urn:x", "b")] {
-        names.push(Name {
-            ns: bytes_of(rt.alloc(), ns)?,
-            local: bytes_of(rt.alloc(), local)?,
-        })?;
+// Whether bytes come behind others, and are taken again.
+fn is_appended(alloc: Global, bytes: &mut Bytes) -> bool {
+    let Ok(more) = vec![in alloc; 6, 7] else {
+        return false;
+    };
+    bytes.append(Sequence::from_vec(more)).is_ok()
+        && bytes.pop() == Some(7)
+        && bytes.pop() == Some(6)
+}
+
+// Whether the copy is of what is left.
+fn has_copy(bytes: &Bytes) -> bool {
+    match bytes.copy() {
+        Ok(copied) => {
+            copied.as_slice() == [0, 9, 3, 4].as_slice()
+                && copied.get(1).copied() == Some(9)
+                && copied.get(4).is_none()
+        }
+        Err(NoMemory) => false,
     }
-    let copied = names.copy()?;
-    assert!(rt; copied.equals(&names));
-    let last = copied.get(1).ok_or("two names")?;
-    assert!(rt; !Some(last.copy()?).equals(&None));
-    assert_eq!(rt; last.ns.as_slice(), "urn:x".as_bytes());
-    assert_eq!(rt; last.local.as_slice(), "b".as_bytes());
-    Ok(())
+}
+
+fn is_edited(alloc: Global) -> bool {
+    match digits(alloc) {
+        Ok(mut bytes) => {
+            is_cut(&mut bytes) && is_appended(alloc, &mut bytes) && has_copy(&bytes)
+        }
+        Err(NoMemory) => false,
+    }
 }
 
 #[test]
-fn offers_are_copied(rt: HostRuntime) -> Result<(), Fail> {
-    let mut offers = OfferList::new(rt.alloc());
+fn lists_are_edited(rt: HostRuntime) {
+    assert!(rt; Bytes::new(rt.alloc()).is_empty());
+    assert!(rt; is_edited(rt.alloc()));
+}
+
+fn name_of(alloc: Global, ns: &str, local: &str) -> Result<Name, NoMemory> {
+    Ok(Name {
+        ns: bytes_of(alloc, ns)?,
+        local: bytes_of(alloc, local)?,
+    })
+}
+
+fn add(alloc: Global, names: &mut Names, ns: &str, local: &str) -> Result<(), NoMemory> {
+    names.push(name_of(alloc, ns, local)?)?;
+    Ok(())
+}
+
+fn two_names(alloc: Global) -> Result<Names, NoMemory> {
+    let mut names = Names::new(alloc);
+    add(alloc, &mut names, "", "a")?;
+    add(alloc, &mut names, "urn:x", "b")?;
+    Ok(names)
+}
+
+// Whether a name has these parts.
+fn has_parts(name: &Name, ns: &str, local: &str) -> bool {
+    name.ns.as_slice() == ns.as_bytes() && name.local.as_slice() == local.as_bytes()
+}
+
+// Whether its copy isn't nothing.
+fn is_something(name: &Name) -> bool {
+    match name.copy() {
+        Ok(copied) => !Some(copied).equals(&None),
+        Err(NoMemory) => false,
+    }
+}
+
+fn is_last(name: Option<&Name>) -> bool {
+    match name {
+        Some(last) => has_parts(last, "urn:x", "b") && is_something(last),
+        None => false,
+    }
+}
+
+fn has_same_copy(names: &Names) -> bool {
+    match names.copy() {
+        Ok(copied) => copied.equals(names) && is_last(copied.get(1)),
+        Err(NoMemory) => false,
+    }
+}
+
+fn are_copied(names: Result<Names, NoMemory>) -> bool {
+    match names {
+        Ok(names) => has_same_copy(&names),
+        Err(NoMemory) => false,
+    }
+}
+
+#[test]
+fn lists_of_lists_are_copied(rt: HostRuntime) {
+    assert!(rt; are_copied(two_names(rt.alloc())));
+}
+
+fn two_offers(alloc: Global) -> Result<OfferList, NoMemory> {
+    let mut offers = OfferList::new(alloc);
     offers.push(Offer::AnyElse)?;
-    offers.push(Offer::Value(bytes_of(rt.alloc(), "on")?))?;
-    let copied = offers.copy()?;
-    let Some(Offer::Value(literal)) = copied.get(1) else {
-        return Err(Fail::new("a value"));
-    };
-    assert_eq!(rt; literal.as_slice(), "on".as_bytes());
-    Ok(())
+    offers.push(Offer::Value(bytes_of(alloc, "on")?))?;
+    Ok(offers)
+}
+
+fn copy_of_offers(alloc: Global) -> Result<OfferList, NoMemory> {
+    two_offers(alloc)?.copy()
+}
+
+fn is_value(offer: Option<&Offer>, literal: &str) -> bool {
+    match offer {
+        Some(Offer::Value(value)) => value.as_slice() == literal.as_bytes(),
+        _ => false,
+    }
+}
+
+fn has_value(offers: Result<OfferList, NoMemory>) -> bool {
+    match offers {
+        Ok(copied) => is_value(copied.get(1), "on"),
+        Err(NoMemory) => false,
+    }
 }
 
 #[test]
-fn edits_move_places_and_faults(rt: HostRuntime) -> Result<(), Fail> {
-    let edit = Edit {
-        from: 4,
-        to: 6,
-        added: 5,
-    };
-    for (at, place) in [(3, 3), (4, 4), (5, 4), (6, 9), (usize::MAX, usize::MAX)] {
-        assert_eq!(rt; moved(at, &edit), place, "{at}");
-    }
-    let mut faults = Faults::new(rt.alloc());
+fn offers_are_copied(rt: HostRuntime) {
+    assert!(rt; has_value(copy_of_offers(rt.alloc())));
+}
+
+const EDIT: Edit = Edit {
+    from: 4,
+    to: 6,
+    added: 5,
+};
+
+fn are_moved() -> bool {
+    moved(3, &EDIT) == 3
+        && moved(4, &EDIT) == 4
+        && moved(5, &EDIT) == 4
+        && moved(6, &EDIT) == 9
+        && moved(usize::MAX, &EDIT) == usize::MAX
+}
+
+fn one_fault(alloc: Global) -> Result<Faults, NoMemory> {
+    let mut faults = Faults::new(alloc);
     faults.push(Fault {
         span: Span { from: 2, to: 7 },
         kind: Kind::Unknown,
-        detail: bytes_of(rt.alloc(), "x")?,
+        detail: bytes_of(alloc, "x")?,
     })?;
-    faults.shift(&edit);
-    let faults = faults.copy()?;
-    let fault = faults.get(0).ok_or("a fault")?;
-    assert_eq!(rt; fault.span, Span { from: 2, to: 10 });
-    assert_eq!(rt; fault.kind, Kind::Unknown);
-    assert_eq!(rt; fault.detail.as_slice(), "x".as_bytes());
-    Ok(())
+    Ok(faults)
+}
+
+fn shifted(alloc: Global) -> Result<Faults, NoMemory> {
+    let mut faults = one_fault(alloc)?;
+    faults.shift(&EDIT);
+    faults.copy()
+}
+
+fn is_shifted(fault: Option<&Fault>) -> bool {
+    match fault {
+        Some(fault) => {
+            fault.span == Span { from: 2, to: 10 }
+                && fault.kind == Kind::Unknown
+                && fault.detail.as_slice() == b"x".as_slice()
+        }
+        None => false,
+    }
+}
+
+fn are_shifted(faults: Result<Faults, NoMemory>) -> bool {
+    match faults {
+        Ok(faults) => is_shifted(faults.get(0)),
+        Err(NoMemory) => false,
+    }
 }
 
 #[test]
-fn names_and_codes_are_read(rt: HostRuntime) -> Result<(), Fail> {
-    for (text, name, without_colon) in [
-        ("a:b", true, false),
-        ("é-1", true, true),
-        ("1a", false, false),
-        ("", false, false),
-    ] {
-        assert_eq!(rt;
-            (is_name(text), is_nc_name(text)),
-            (name, without_colon),
-            "{text}"
-        );
-    }
-    assert_eq!(rt; char_of_code(code_of_digits(b"e9", 16)), Some('é'));
-    assert_eq!(rt; char_of_code(code_of_digits(b"11", 10)), None);
-    assert_eq!(rt; code_of_digits(b"99999999999", 10), 0x11_0000);
-    Ok(())
+fn edits_move_places_and_faults(rt: HostRuntime) {
+    assert!(rt; are_moved());
+    assert!(rt; are_shifted(shifted(rt.alloc())));
+}
+
+// Whether a text is a name or not, and one without a colon or not.
+fn is_named(text: &str, name: bool, without_colon: bool) -> bool {
+    is_name(text) == name && is_nc_name(text) == without_colon
+}
+
+fn are_named() -> bool {
+    is_named("a:b", true, false)
+        && is_named("é-1", true, true)
+        && is_named("1a", false, false)
+        && is_named("", false, false)
+}
+
+fn are_coded() -> bool {
+    char_of_code(code_of_digits(b"e9", 16)) == Some('é')
+        && char_of_code(code_of_digits(b"11", 10)) == None
+        && code_of_digits(b"99999999999", 10) == 0x11_0000
+}
+
+#[test]
+fn names_and_codes_are_read(rt: HostRuntime) {
+    assert!(rt; are_named());
+    assert!(rt; are_coded());
 }

@@ -6,10 +6,9 @@ use nx_host::memory_files::{MemFiles, SureFiles};
 use nx_host::memory_out::{MemOut, SureOut};
 use nx_host::out::{Out, OutFault};
 use std::alloc::Global;
-use std::test::Fail;
 
 // What a fetch finds: the bytes of `text`, other bytes, none, or a failure.
-pub fn found<F: Files>(files: &mut F, alloc: Global, uri: &str) -> &'static str {
+fn found<F: Files>(files: &mut F, alloc: Global, uri: &str) -> &'static str {
     match files.fetch(alloc, uri) {
         Ok(Some(bytes)) if bytes.as_slice() == b"text".as_slice() => "text",
         Ok(Some(_)) => "other",
@@ -20,7 +19,7 @@ pub fn found<F: Files>(files: &mut F, alloc: Global, uri: &str) -> &'static str 
 }
 
 // What becomes of a store of the bytes of `text`.
-pub fn stored<F: Files>(files: &mut F, alloc: Global, uri: &str) -> &'static str {
+fn stored<F: Files>(files: &mut F, alloc: Global, uri: &str) -> &'static str {
     let Ok(text) = Vec::from_slice(alloc, b"text") else {
         return "no memory";
     };
@@ -31,47 +30,103 @@ pub fn stored<F: Files>(files: &mut F, alloc: Global, uri: &str) -> &'static str
     }
 }
 
-#[test]
-fn sure_files(rt: HostRuntime) -> Result<(), Fail> {
-    let alloc = rt.alloc();
-    let mut files = SureFiles::new(alloc);
-    files.add("a", b"old")?;
-    assert_eq!(rt; found(&mut files, alloc, "a"), "other");
-    assert_eq!(rt; stored(&mut files, alloc, "a"), "stored");
-    assert_eq!(rt; found(&mut files, alloc, "a"), "text");
-    assert_eq!(rt; found(&mut files, alloc, "b"), "none");
-    assert_eq!(rt; files.has(alloc, "b"), Ok(false));
-    Ok(())
-}
-
-#[test]
-fn failing_files(rt: HostRuntime) -> Result<(), Fail> {
-    let alloc = rt.alloc();
-    let mut files = MemFiles::new(alloc, &[2, 3, 5])?;
-    files.add("a", b"old")?;
-    assert_eq!(rt; files.has(alloc, "a"), Ok(true));
-    assert_eq!(rt; found(&mut files, alloc, "a"), "failed");
-    assert_eq!(rt; stored(&mut files, alloc, "a"), "failed");
-    assert_eq!(rt; stored(&mut files, alloc, "a"), "stored");
-    assert_eq!(rt; files.has(alloc, "a"), Err(FileFault::Failed));
-    assert_eq!(rt; found(&mut files, alloc, "a"), "text");
-    Ok(())
-}
-
-#[test]
-fn output_in_memory(rt: HostRuntime) -> Result<(), Fail> {
-    let alloc = rt.alloc();
-    let mut sure = SureOut::new(alloc);
-    let mut failing = MemOut::new(alloc, &[2])?;
-    for (bytes, answer) in [
-        (b"abc", Ok(())),
-        (b"def", Err(OutFault::Failed)),
-        (b"ghi", Ok(())),
-    ] {
-        assert_eq!(rt; sure.write(alloc, bytes), Ok(()));
-        assert_eq!(rt; failing.write(alloc, bytes), answer);
+// What `has` says.
+fn had<F: Files>(files: &mut F, alloc: Global, uri: &str) -> &'static str {
+    match files.has(alloc, uri) {
+        Ok(true) => "there",
+        Ok(false) => "absent",
+        Err(FileFault::Failed) => "failed",
+        Err(FileFault::NoMemory) => "no memory",
     }
-    assert_eq!(rt; sure.bytes(), b"abcdefghi".as_slice());
-    assert_eq!(rt; failing.bytes(), b"abcdghi".as_slice());
-    Ok(())
+}
+
+pub fn finds<F: Files>(files: &mut F, alloc: Global, uri: &str, wanted: &str) -> bool {
+    found(files, alloc, uri) == wanted
+}
+
+pub fn stores<F: Files>(files: &mut F, alloc: Global, uri: &str, wanted: &str) -> bool {
+    stored(files, alloc, uri) == wanted
+}
+
+pub fn has<F: Files>(files: &mut F, alloc: Global, uri: &str, wanted: &str) -> bool {
+    had(files, alloc, uri) == wanted
+}
+
+// Whether files that never fail are replaced.
+fn sure_are_replaced(alloc: Global) -> bool {
+    let mut files = SureFiles::new(alloc);
+    files.add("a", b"old").is_ok()
+        && finds(&mut files, alloc, "a", "other")
+        && stores(&mut files, alloc, "a", "stored")
+        && finds(&mut files, alloc, "a", "text")
+        && finds(&mut files, alloc, "b", "none")
+        && has(&mut files, alloc, "b", "absent")
+}
+
+#[test]
+fn sure_files(rt: HostRuntime) {
+    assert!(rt; sure_are_replaced(rt.alloc()));
+}
+
+// Whether the calls that are to fail do, and no other.
+fn fail(alloc: Global, files: &mut MemFiles) -> bool {
+    files.add("a", b"old").is_ok()
+        && has(files, alloc, "a", "there")
+        && finds(files, alloc, "a", "failed")
+        && stores(files, alloc, "a", "failed")
+        && stores(files, alloc, "a", "stored")
+        && has(files, alloc, "a", "failed")
+        && finds(files, alloc, "a", "text")
+}
+
+fn are_failing(alloc: Global) -> bool {
+    match MemFiles::new(alloc, &[2, 3, 5]) {
+        Ok(mut files) => fail(alloc, &mut files),
+        Err(_) => false,
+    }
+}
+
+#[test]
+fn failing_files(rt: HostRuntime) {
+    assert!(rt; are_failing(rt.alloc()));
+}
+
+// What becomes of a write.
+fn written<O: Out>(out: &mut O, alloc: Global, bytes: &[u8]) -> &'static str {
+    match out.write(alloc, bytes) {
+        Ok(()) => "written",
+        Err(OutFault::Failed) => "failed",
+        Err(OutFault::NoMemory) => "no memory",
+    }
+}
+
+fn writes<O: Out>(out: &mut O, alloc: Global, bytes: &[u8], wanted: &str) -> bool {
+    written(out, alloc, bytes) == wanted
+}
+
+// Whether three writes are taken, and the second of them, too, or not.
+fn three_written<O: Out>(out: &mut O, alloc: Global, second: &str) -> bool {
+    writes(out, alloc, b"abc", "written")
+        && writes(out, alloc, b"def", second)
+        && writes(out, alloc, b"ghi", "written")
+}
+
+fn sure_holds_all(alloc: Global) -> bool {
+    let mut out = SureOut::new(alloc);
+    three_written(&mut out, alloc, "written") && out.bytes() == b"abcdefghi".as_slice()
+}
+
+fn failing_lacks_one(alloc: Global) -> bool {
+    match MemOut::new(alloc, &[2]) {
+        Ok(mut out) => {
+            three_written(&mut out, alloc, "failed") && out.bytes() == b"abcdghi".as_slice()
+        }
+        Err(_) => false,
+    }
+}
+
+#[test]
+fn output_in_memory(rt: HostRuntime) {
+    assert!(rt; sure_holds_all(rt.alloc()));
+    assert!(rt; failing_lacks_one(rt.alloc()));
 }

@@ -2,6 +2,7 @@
 
 use nx_host::files::FileFault;
 use nx_host::streams::{READ_TURNS, read_all};
+use std::alloc::Global;
 use std::io;
 use std::io::{Error, ErrorKind, Read};
 
@@ -29,17 +30,28 @@ impl Read for Pieces {
     }
 }
 
+// What is read to such an end.
+fn told(alloc: Global, end: Option<ErrorKind>) -> &'static str {
+    match read_all(alloc, &mut Pieces { calls: 0, end }) {
+        Ok(bytes) if bytes.as_slice() == b"tt".as_slice() => "tt",
+        Ok(_) => "other",
+        Err(FileFault::Failed) => "failed",
+        Err(FileFault::NoMemory) => "no memory",
+    }
+}
+
+fn tells(alloc: Global, end: Option<ErrorKind>, wanted: &str) -> bool {
+    told(alloc, end) == wanted
+}
+
+fn all_told(alloc: Global) -> bool {
+    tells(alloc, None, "tt")
+        && tells(alloc, Some(ErrorKind::OutOfMemory), "no memory")
+        && tells(alloc, Some(ErrorKind::NotFound), "failed")
+}
+
 #[test]
 fn reads_to_the_end(rt: HostRuntime) {
-    for (end, fault) in [
-        (None, None),
-        (Some(ErrorKind::OutOfMemory), Some(FileFault::NoMemory)),
-        (Some(ErrorKind::NotFound), Some(FileFault::Failed)),
-    ] {
-        match read_all(rt.alloc(), &mut Pieces { calls: 0, end }) {
-            Ok(bytes) => assert!(rt; fault.is_none() && bytes.as_slice() == b"tt".as_slice()),
-            Err(answer) => assert!(rt; fault == Some(answer)),
-        }
-    }
-    assert_eq!(rt; READ_TURNS, 1_099_511_627_776);
+    assert!(rt; all_told(rt.alloc()));
+    assert!(rt; READ_TURNS == 1_099_511_627_776);
 }
