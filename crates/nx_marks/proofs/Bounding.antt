@@ -7,7 +7,7 @@ use Rattle.nx_base.specs.Running.{CutsTo, after_all}
 use Rattle.nx_marks.specs.Chain.{FirstMeans, Chain, AreWhole, reach, Kept, frontier_of}
 use Rattle.nx_marks.specs.Editing.{split}
 use Rattle.nx_marks.specs.Right.{IsRight}
-use Rattle.nx_marks.specs.Taking.{begun, took, let_go, joined}
+use Rattle.nx_marks.specs.Taking.{begun, took, let_go, row_joined}
 use Rattle.nx_marks.specs.Bound.{row_len, WillReach}
 use Rattle.nx_marks.specs.declared.mark.Mark.{Mark}
 use Rattle.nx_marks.proofs.Places.{reaches, next}
@@ -74,7 +74,7 @@ module _ {S M : Type 0} (is_state : S → Type 0) (means : S → M) (r : Rules M
 
   -- with no token left, the states mean the same, and all is kept behind the row
   pub joined_all : IsUtf8 t → (k : Kept S) (y : Mark S) (ys : List (Mark S)) (n end : ℕ) → k.aside ≡ y ∷ ys → k.here.len ≡ 0 → WillReach means r t n end k →
-      (means y.state ≡ means k.here.state) × (frontier_of (joined means r k y ys) ≡ end)
+      (means y.state ≡ means k.here.state) × (frontier_of (row_joined means r k y ys) ≡ end)
   joined_all utf8 k y ys n end aside_is none w =
       let no : w.left ≡ [] = none-left utf8 (frontier_of k) (frontier_of k + k.here.len) w.left (omega arith) w.cuts in
       let P : List Lexeme → Type 0 = λ l. FirstMeans means (after_all r (means k.here.state) l) k.aside in
@@ -82,7 +82,7 @@ module _ {S M : Type 0} (is_state : S → Type 0) (means : S → M) (r : Rules M
       let R : List (Mark S) → Type 0 = λ l. frontier_of k + k.here.len + row_len l ≡ end in
       let same_front : reach (split true y ys).front ≡ reach (split k.marked y ys).front = ap reach (front-alike true k.marked y ys) in
       let row : frontier_of k + k.here.len + reach (split true y ys).front ≡ end = subst R aside_is w.row in
-      let all : frontier_of (joined means r k y ys) ≡ frontier_of k + reach (split k.marked y ys).front = reach-append k.front (split k.marked y ys).front in
+      let all : frontier_of (row_joined means r k y ys) ≡ frontier_of k + reach (split k.marked y ys).front = reach-append k.front (split k.marked y ys).front in
       (subst A aside_is (subst P no w.first), omega arith)
 
   -- marks aside that are passed may go

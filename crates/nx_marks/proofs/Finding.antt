@@ -6,14 +6,14 @@ use Rattle.nx_base.specs.Rules.{IsWithin}
 use Rattle.nx_base.specs.Shifting.{placed}
 use Rattle.nx_base.specs.declared.fault.Fault.{Fault}
 use Rattle.nx_marks.specs.Before.{marks_with, marks_of, IsLast, LiesInFront}
-use Rattle.nx_marks.specs.Chain.{FaultsFit, Kept, all_of, faults_in, frontier_of, reach}
+use Rattle.nx_marks.specs.Chain.{FaultsFit, Kept, faults_in, frontier_of, reach}
 use Rattle.nx_marks.specs.Joined.{but_last, last, seen}
 use Rattle.nx_marks.specs.Stack.{faulty_count, some_count}
 use Rattle.nx_marks.specs.declared.mark.Mark.{Mark}
 use Rattle.nx_marks.proofs.Backs.{reach-append}
 use Rattle.nx_marks.proofs.Listing.{all-wider, faults-append, none}
 use Rattle.nx_marks.proofs.Marking.{found_front}
-use Rattle.nx_marks.proofs.Seen.{parts, reversed, lowest-but-last, lowest-last}
+use Rattle.nx_marks.proofs.Seen.{parts, reversed, lowest-but-last}
 use Rattle.nx_marks.proofs.Stacks.{faulty-append}
 
 -- the topmost of a stack comes next

@@ -1,5 +1,5 @@
 -- Marks that move from one stack to the other have room there, and reach no further.
-use Rattle.std.proofs.Common.{◌≡◌, ℕ, ◌+◌, ◌-◌, ◌^◌, ◌<◌, ◌≤◌, List, [], ◌∷◌, ◌++◌, length, reverse, refl, sym, ap, ◌∙◌, arith}
+use Rattle.std.proofs.Common.{◌≡◌, ℕ, ◌+◌, ◌-◌, ◌^◌, ◌<◌, ◌≤◌, List, [], ◌∷◌, ◌++◌, length, reverse, refl, sym, ap, arith}
 use Rattle.std.proofs.lemmas.List.{length-append, reverse-append}
 use Rattle.nx_marks.specs.Chain.{reach}
 use Rattle.std.specs.Prelude.{slice_get, slice_index_or, Some, true, false, nat_lt}

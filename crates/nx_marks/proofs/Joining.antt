@@ -7,7 +7,7 @@ use Rattle.nx_marks.specs.Chain.{FirstMeans, Chain, reach, Kept, all_of}
 use Rattle.nx_marks.specs.Ruling.{is_due}
 use Rattle.nx_marks.specs.Editing.{split}
 use Rattle.nx_marks.specs.Right.{tags_behind, MarkRule, NonePends, IsRight}
-use Rattle.nx_marks.specs.Taking.{let_go, marked_behind, join_with, joined}
+use Rattle.nx_marks.specs.Taking.{let_go, marked_behind, join_with, row_joined}
 use Rattle.nx_marks.specs.declared.mark.Mark.{Mark}
 use Rattle.nx_marks.proofs.Splits.{split-is, split-whole, split-ends}
 use Rattle.nx_marks.proofs.Taking.{chain-tail, chain-with, first-with, open-link, whole-append}
@@ -94,7 +94,7 @@ module _ {S M : Type 0} (is_state : S → Type 0) (means : S → M) (r : Rules M
 
   -- the row that begins at the frontier, in a state that means the same, is joined
   pub joined_right : RulesLaws r → (k : Kept S) (y : Mark S) (ys : List (Mark S)) → k.aside ≡ y ∷ ys → k.here.len ≡ 0 → means y.state ≡ means k.here.state →
-      IsRight is_state means r t k → IsRight is_state means r t (joined means r k y ys)
+      IsRight is_state means r t k → IsRight is_state means r t (row_joined means r k y ys)
   joined_right laws k y ys aside_is here_is same h =
       let row = split k.marked y ys in
       let at : ℕ = 0 + reach k.front in

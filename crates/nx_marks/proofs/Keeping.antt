@@ -14,7 +14,7 @@ use Rattle.nx_marks.specs.Keeping.{places_from, places_of, next_of, IsAmong, Sta
 use Rattle.nx_marks.specs.Right.{IsRight, tags_behind}
 use Rattle.nx_marks.specs.Ruling.{is_due}
 use Rattle.nx_marks.specs.Tags.{tags_in}
-use Rattle.nx_marks.specs.Taking.{begun, longer, took, let_go, marked_behind, joined}
+use Rattle.nx_marks.specs.Taking.{begun, longer, took, let_go, marked_behind, row_joined}
 use Rattle.nx_marks.specs.declared.mark.Mark.{Mark}
 use Rattle.nx_marks.proofs.Places.{next, reaches}
 use Rattle.nx_marks.proofs.Edits.{whole-link}
@@ -592,12 +592,12 @@ module _ {S M : Type 0} (is_state : S → Type 0) (means : S → M) (r : Rules M
             (called-stood r t stood (last_of 0 (places_of k)) (next_of k + z.len) zs stands)
             (called-end (last_of (last_of 0 (places_of k)) rest) last (λ both. (let n = ap length (sym f ∙ both.1) in omega arith))))
 
-  pub keeps_joined : (k : Kept S) (y : Mark S) (ys : List (Mark S)) → k.aside ≡ y ∷ ys → k.here.len ≡ 0 → IsRight is_state means r t k → IsRight is_state means r t (joined means r k y ys) → KeepsMarks means r t k (joined means r k y ys)
+  pub keeps_joined : (k : Kept S) (y : Mark S) (ys : List (Mark S)) → k.aside ≡ y ∷ ys → k.here.len ≡ 0 → IsRight is_state means r t k → IsRight is_state means r t (row_joined means r k y ys) → KeepsMarks means r t k (row_joined means r k y ys)
   keeps_joined k y ys aside_is here was h =
       let row : Kept S = split k.marked y ys in
       let tail = chain-tail is_state means r t 0 (0 + reach k.front) k.front (k.here ∷ k.aside) refl was.holds.chain in
       let A : List (Mark S) → Type 0 = λ l. Chain is_state means r t (0 + reach k.front + k.here.len) l in
-      keeps-row k row (joined means r k y ys) (next_of k + reach row.front) (record {
+      keeps-row k row (row_joined means r k y ys) (next_of k + reach row.front) (record {
         list = aside_is ∙ sym (split-is k.marked y ys);
         at = omega arith;
         wholes = split-whole k.marked y ys;

@@ -3,7 +3,7 @@ use Rattle.std.proofs.Common.{◌≡◌, ◌⊎◌, inl, inr, ℕ, suc, ◌+◌,
 use Rattle.std.specs.Prelude.{if◌then◌else◌}
 use Rattle.nx_base.specs.Rules.{Rules, LaterLaws}
 use Rattle.nx_base.specs.Running.{CutsTo, after_all}
-use Rattle.nx_marks.specs.Bound.{row_len, WillJoin}
+use Rattle.nx_marks.specs.Bound.{row_len, WillReach}
 use Rattle.nx_marks.specs.Chain.{FirstMeans, Link, Chain, AreWhole, Kept, all_of, frontier_of, reach}
 use Rattle.nx_marks.specs.Editing.{place_after, stays, is_apart, first_kept, broken, kept_mark, kept_marks, edit_all, split, split_all, noted, edit_noted, edit_kept}
 use Rattle.nx_marks.specs.Keeping.{places_from, places_of, next_of, IsAmong, Stands, AreCalledFor, last_of, LeadsTo, AreUsed, KeepsMarks}
@@ -163,8 +163,8 @@ module _ {S M : Type 0} (f : S → M) (r : Rules M) (t : List ℕ) where
   row_by (x ∷ xs) = ap (λ (k : Kept M). reach k.front) (split_by f true x xs) ∙ reach_by f (split true x xs).front
 
   -- where meanings will be joined, states will
-  pub joins_by : (n : ℕ) (k : Kept S) → WillJoin itself r t n (kept_by f k) → WillJoin f r t n k
-  joins_by n k w =
+  pub will_by : (n end : ℕ) (k : Kept S) → WillReach itself r t n end (kept_by f k) → WillReach f r t n end k
+  will_by n end k w =
       let at : frontier_of (kept_by f k) ≡ frontier_of k = reach_by f k.front in
       let C : ℕ → Type 0 = λ p. CutsTo t p w.left (p + k.here.len) in
       record {

@@ -1,14 +1,14 @@
 -- How far the frontier moves.
-use Rattle.std.proofs.Common.{◌≡◌, ◌⊎◌, inl, inr, ℕ, ◌+◌, ◌-◌, ◌^◌, ◌<◌, ◌≤◌, List, [], ◌∷◌, ◌++◌, length, refl, sym, ap, subst, ◌∙◌, arith}
+use Rattle.std.proofs.Common.{◌≡◌, ◌⊎◌, inl, inr, ℕ, ◌+◌, ◌-◌, ◌^◌, ◌<◌, ◌≤◌, true, List, [], ◌∷◌, ◌++◌, length, refl, sym, ap, subst, ◌∙◌, arith}
 use Rattle.std.specs.Prelude.{IsUtf8, OnErr, Result, Ok, Err}
 use Rattle.nx_base.specs.Rules.{Rules, RulesLaws, Lexeme, lexeme_of}
 use Rattle.nx_base.specs.Running.{CutsTo, after_all}
 use Rattle.nx_base.specs.Text.{IsPlace, edited}
 use Rattle.nx_base.specs.Tokens.{cut}
 use Rattle.nx_base.specs.declared.token.Token.{Token}
-use Rattle.nx_marks.specs.Bound.{WillJoin, WillReach, ReachesIn}
-use Rattle.nx_marks.specs.Chain.{Kept, FirstMeans, frontier_of, reach}
-use Rattle.nx_marks.specs.Editing.{edit_noted, place_after}
+use Rattle.nx_marks.specs.Bound.{WillJoin, WillReach, ReachesIn, row_len}
+use Rattle.nx_marks.specs.Chain.{Chain, Kept, FirstMeans, frontier_of, reach}
+use Rattle.nx_marks.specs.Editing.{edit_noted, place_after, split}
 use Rattle.nx_marks.specs.Frontier.{IsBorder, MovesOver}
 use Rattle.nx_marks.specs.Rejoining.{Rejoins}
 use Rattle.nx_marks.specs.Right.{IsRight}
@@ -16,7 +16,8 @@ use Rattle.nx_marks.specs.Walking.{Fits}
 use Rattle.nx_marks.specs.declared.mark.Mark.{Mark}
 use Rattle.nx_marks.proofs.Places.{reaches, next, edited-length, moved-behind}
 use Rattle.nx_marks.proofs.Ends.{edit_row}
-use Rattle.nx_marks.proofs.Reading.{cuts-append, front-led, frontier_place}
+use Rattle.nx_marks.proofs.Reading.{cuts-append, front-led, frontier_place, led}
+use Rattle.nx_marks.proofs.Splits.{split-is, split-whole}
 use Rattle.nx_marks.proofs.Bounding.{none-left, gone_right}
 use Rattle.nx_marks.proofs.Joining.{gone, Gone}
 use Rattle.nx_marks.proofs.Passing.{go_idle, gone_from}
@@ -83,10 +84,67 @@ between t p a b (k ∷ ks) (l ∷ ls) utf8 h g le =
     let P : Lexeme → Type 0 = λ i. CutsTo t (p + length i.bytes) ls b in
     between t (p + length k.bytes) a b ks ls utf8 h.1.1.1 (subst P same g.1.1.1) le
 
+pub from_border : (t : List ℕ) (a b : ℕ) → IsUtf8 t → IsBorder t a → IsBorder t b → a ≤ b → MovesOver t a 0 b
+from_border t a b utf8 first second le = between t 0 a b first.tokens second.tokens utf8 first.cuts second.cuts le
+
+-- the tokens that are taken since a row was joined lie behind it
+pub over_joined : (t : List ℕ) (end count taken now via to : ℕ) → IsUtf8 t → IsBorder t end → IsBorder t to → (count ≤ taken → MovesOver t end (taken - count) via) → MovesOver t via 1 to → now ≡ taken + 1 → (count ≤ now → end ≤ to) → count ≤ now →
+    MovesOver t end (now - count) to
+over_joined t end count taken now via to utf8 row border before one more there le = by (earlier count taken)
+  where
+    P : ℕ → Type 0
+    P n = MovesOver t end n to
+
+    earlier : (a b : ℕ) → (a ≤ b) ⊎ (b < a)
+    earlier a b = grind arith
+
+    by : (count ≤ taken) ⊎ (taken < count) → MovesOver t end (now - count) to
+    by (inl was) = let e : taken - count + 1 ≡ now - count = omega arith in subst P e (moves_on t end (taken - count) via 1 to (before was) one)
+    by (inr first) = let e : 0 ≡ now - count = omega arith in subst P e (from_border t end to utf8 row border (there le))
+
+-- where a row reaches the text's end, no token is taken behind it
+pub none_behind : (t : List ℕ) (count taken to : ℕ) → IsUtf8 t → to ≤ length t → (count ≤ taken → MovesOver t (length t) (taken - count) to) → taken ≤ count
+none_behind t count taken to utf8 within behind = by (order count taken)
+  where
+    order : (a b : ℕ) → (a ≤ b) ⊎ (b ≤ a)
+    order a b = grind arith
+
+    by : (count ≤ taken) ⊎ (taken ≤ count) → taken ≤ count
+    by (inr le) = le
+    by (inl le) = let m = behind le in let bytes = no_more_than_bytes t (length t) to m.tokens utf8 m.cuts in let counted = m.counted in omega arith
+
 module _ {S M : Type 0} (is_state : S → Type 0) (means : S → M) (r : Rules M) (laws : RulesLaws r) (t : List ℕ) (utf8 : IsUtf8 t) where
   -- the frontier is a border
   pub border_of : (k : Kept S) → IsRight is_state means r t k → IsBorder t (frontier_of k)
   border_of k h = let l = front-led is_state means r t laws k h in record { tokens = l.tokens; cuts = l.cuts }
+
+  -- so is the end of a row that tokens lead to
+  pub end_border : (k : Kept S) (n end : ℕ) → IsRight is_state means r t k → WillReach means r t n end k → IsBorder t end
+  end_border k n end h w = by k.aside refl
+    where
+      by : (l : List (Mark S)) → k.aside ≡ l → IsBorder t end
+      by [] e = absurd (let F : List (Mark S) → Type 0 = λ l. FirstMeans means (after_all r (means k.here.state) w.left) l in subst F e w.first)
+      by (y ∷ ys) e =
+          let row = split true y ys in
+          let at : ℕ = 0 + reach k.front in
+          let b = border_of k h in
+          let tail = chain-tail is_state means r t 0 at k.front (k.here ∷ k.aside) refl h.holds.chain in
+          let C : List (Mark S) → Type 0 = λ l. Chain is_state means r t (at + k.here.len) l in
+          let F : List (Mark S) → Type 0 = λ l. FirstMeans means (means y.state) l in
+          let is = split-is true y ys in
+          let l = led is_state means r t laws (at + k.here.len) (means y.state) row.front (at + k.here.len + reach row.front) row.here row.aside refl (split-whole true y ys) (subst F (sym is) refl) (subst C (sym is) (subst C e tail.1.1)) in
+          let R : List (Mark S) → Type 0 = λ l. frontier_of k + k.here.len + row_len l ≡ end in
+          let there = subst R e w.row in
+          let P : ℕ → Type 0 = λ n. CutsTo t n l.tokens (at + k.here.len + reach row.front) in
+          let Q : ℕ → Type 0 = λ n. CutsTo t (frontier_of k + k.here.len) l.tokens n in
+          let near : at + k.here.len ≡ frontier_of k + k.here.len = omega arith in
+          let far : at + k.here.len + reach row.front ≡ end = omega arith in
+          record {
+            tokens = (b.tokens ++ w.left) ++ l.tokens;
+            cuts = cuts-append t 0 (frontier_of k + k.here.len) end (b.tokens ++ w.left) l.tokens
+                (cuts-append t 0 (frontier_of k) (frontier_of k + k.here.len) b.tokens w.left b.cuts w.cuts)
+                (subst Q far (subst P near l.cuts));
+          }
 
   pub over_between : (k j : Kept S) → IsRight is_state means r t k → IsRight is_state means r t j → frontier_of k ≤ frontier_of j → MovesOver t (frontier_of k) 0 (frontier_of j)
   over_between k j h g le =

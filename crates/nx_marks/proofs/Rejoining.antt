@@ -10,7 +10,7 @@ use Rattle.nx_marks.specs.Keeping.{KeepsMarks}
 use Rattle.nx_marks.specs.Rejoining.{Joins, RejoinsOne, Rejoins}
 use Rattle.nx_marks.specs.Right.{IsRight, IsRightForSome, NonePends, tags_behind}
 use Rattle.nx_marks.specs.Ruling.{is_due}
-use Rattle.nx_marks.specs.Taking.{joined, marked_behind}
+use Rattle.nx_marks.specs.Taking.{row_joined, marked_behind}
 use Rattle.nx_marks.specs.Walking.{PassesNext, TakesNext, Follows, farther}
 use Rattle.nx_marks.specs.declared.mark.Mark.{Mark}
 use Rattle.nx_marks.proofs.Taking.{chain-tail, chain-with, first-with, open-link}
@@ -109,7 +109,7 @@ module _ {S M : Type 0} (is_state : S → Type 0) (means : S → M) (r : Rules M
   -- the state at the row's end is the machine's
   pub end_own : (t : List ℕ) (k a b : Kept S) (n : TakesNext k a) → Follows a b → k.here.len ≡ 0 → FirstMeans means (means k.here.state) k.aside → IsRight is_state means r t k → is_state b.here.state
   end_own t k a b n f here same h =
-      let j = joined means r k n.mark n.behind in
+      let j = row_joined means r k n.mark n.behind in
       let right = joined_right is_state means r t laws k n.mark n.behind n.are here (first-of k n.mark n.behind (means k.here.state) n.are same) h in
       let P : Mark S → Type 0 = λ x. is_state x.state in
       subst P (sym (ap (λ (i : Kept S). i.here) (followed_row k a b n f))) (own_states is_state means r t j right).here

@@ -1,7 +1,6 @@
 -- What is seen of a line where all that is aside is in front of the frontier.
-use Rattle.std.proofs.Common.{◌≡◌, ◌⊎◌, inl, inr, ℕ, ◌+◌, ◌-◌, ◌^◌, ◌<◌, ◌≤◌, Bool, true, false, List, [], ◌∷◌, ◌++◌, length, reverse, refl, sym, ap, subst, ◌∙◌, arith, append_assoc}
+use Rattle.std.proofs.Common.{◌≡◌, ◌⊎◌, inl, inr, ℕ, ◌+◌, ◌<◌, ◌≤◌, Bool, true, false, List, [], ◌∷◌, ◌++◌, length, reverse, refl, sym, ap, subst, ◌∙◌, arith, append_assoc}
 use Rattle.std.proofs.lemmas.List.{reverse-append, length-append}
-use Rattle.nx_marks.specs.Before.{marks_with, marks_of, IsLast, LiesInFront}
 use Rattle.nx_marks.specs.Chain.{AreWhole, Kept, all_of, frontier_of, reach}
 use Rattle.nx_marks.specs.Editing.{noted, split}
 use Rattle.nx_marks.specs.Joined.{but_last, last, seen}

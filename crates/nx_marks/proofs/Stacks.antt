@@ -1,8 +1,7 @@
 -- What marks in a stack come to.
-use Rattle.std.proofs.Common.{◌≡◌, ℕ, ◌+◌, ◌-◌, ◌≤◌, Bool, true, false, List, [], ◌∷◌, ◌++◌, length, refl, sym, ap, subst, ◌∙◌, arith}
+use Rattle.std.proofs.Common.{◌≡◌, ℕ, ◌+◌, ◌-◌, ◌≤◌, Bool, true, false, List, [], ◌∷◌, ◌++◌, length, refl, ap, arith}
 use Rattle.std.specs.Prelude.{if◌then◌else◌, slice_get, Some, nat_eq, IsTrue}
 use Rattle.std.proofs.lemmas.Bool.Decides.{nat_tests}
-use Rattle.nx_base.specs.declared.fault.Fault.{Fault}
 use Rattle.nx_marks.specs.Chain.{AreWhole, reach}
 use Rattle.nx_marks.specs.Stack.{ComeTo, end_count, faulty_count, some_count}
 use Rattle.nx_marks.specs.declared.mark.Mark.{Mark}

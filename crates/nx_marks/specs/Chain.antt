@@ -49,7 +49,8 @@ reach [] = 0
 reach (x ∷ xs) = x.len + reach xs
 
 -- what is kept: the marks up to the frontier, the state there, whether it is a mark, and the marks aside.
--- The segment of the last mark of the front ends at the frontier, and `here.len` is how far the first mark aside is
+-- The segment of the last mark of the front ends at the frontier, and `here.len` is how far the first mark aside is; where none
+-- is aside it says nothing
 pub record Kept (S : Type 0) : Type 0 where
   pub front : List (Mark S)
   pub here : Mark S

@@ -18,7 +18,7 @@ kept_by means k = record {
   aside = marks_by means k.aside;
 }
 
--- any meaning is one
+-- any meaning is a state of its own
 abbrev pub is_any : {M : Type 0} → M → Type 0
 is_any m = Unit {0}
 

@@ -5,7 +5,7 @@ use Rattle.nx_marks.specs.Bound.{WillReach}
 use Rattle.nx_marks.specs.Chain.{Kept, frontier_of}
 use Rattle.nx_marks.specs.Keeping.{KeepsMarks}
 use Rattle.nx_marks.specs.Right.{IsRight}
-use Rattle.nx_marks.specs.Taking.{joined}
+use Rattle.nx_marks.specs.Taking.{row_joined}
 use Rattle.nx_marks.specs.declared.mark.Mark.{Mark}
 
 -- the first row aside is joined
@@ -13,7 +13,7 @@ pub record Joins {S M : Type 0} (means : S → M) (r : Rules M) (old new : Kept 
   pub mark : Mark S
   pub behind : List (Mark S)
   pub are : old.aside ≡ mark ∷ behind
-  pub is : new ≡ joined means r old mark behind
+  pub is : new ≡ row_joined means r old mark behind
 
 -- one mark aside, or its row, is joined, or the mark is dropped; where no token was left before a row, it is
 -- joined

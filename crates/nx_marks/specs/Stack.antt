@@ -1,5 +1,5 @@
 -- Marks in a stack, and what they come to.
-use Rattle.std.specs.Prelude.{◌≡◌, ℕ, ◌+◌, true, false, List, [], ◌∷◌, if◌then◌else◌}
+use Rattle.std.specs.Prelude.{◌≡◌, ℕ, ◌+◌, false, List, [], ◌∷◌, if◌then◌else◌}
 use Rattle.nx_marks.specs.Chain.{reach}
 use Rattle.nx_marks.specs.declared.mark.Mark.{Mark}
 

@@ -75,5 +75,5 @@ join_with means r k row = record {
   aside = row.aside;
 }
 
-abbrev pub joined : {S M : Type 0} → (S → M) → Rules M → Kept S → Mark S → List (Mark S) → Kept S
-joined means r k y ys = join_with means r k (split k.marked y ys)
+abbrev pub row_joined : {S M : Type 0} → (S → M) → Rules M → Kept S → Mark S → List (Mark S) → Kept S
+row_joined means r k y ys = join_with means r k (split k.marked y ys)

@@ -1,6 +1,6 @@
 //! What is kept of a run: a line of marks, and how far along it the frontier is.
 
-ghost use Rattle.std.specs.Prelude.{◌≡◌, ◌⊎◌, ℕ, ◌+◌, ◌<◌, ◌≤◌, ◌^◌, [], length, true, false, IfOk};
+ghost use Rattle.std.specs.Prelude.{◌≡◌, ◌<◌, ◌≤◌, length, false, IfOk};
 ghost use Rattle.nx_marks.specs.Chain.{AreWhole, FaultsFit, faults_in, frontier_of};
 ghost use Rattle.nx_marks.specs.Editing.{edit_noted, noted};
 ghost use Rattle.nx_marks.specs.Frontier.{FrontierAfterEdit};

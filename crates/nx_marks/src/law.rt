@@ -4,7 +4,7 @@ ghost use Rattle.std.specs.Prelude.{◌≡◌, ℕ, ◌+◌, ◌<◌, ◌≤◌,
 ghost use Rattle.nx_base.specs.Rules.{Lexeme};
 ghost use Rattle.nx_base.specs.Running.{CutsTo, after_all};
 ghost use Rattle.nx_base.specs.Text.{IsPlace, edited};
-ghost use Rattle.nx_marks.specs.Bound.{WillJoin};
+ghost use Rattle.nx_marks.specs.Bound.{WillJoin, WillReach};
 ghost use Rattle.nx_marks.specs.Chain.{AreWhole, FirstMeans, Kept, frontier_of};
 ghost use Rattle.nx_marks.specs.Editing.{EditAt, EditBehind, edit_kept, noted};
 ghost use Rattle.nx_marks.specs.Frontier.{IsBorder};
@@ -80,9 +80,10 @@ pub fn reading_on_keeps_meanings<A: Machine>()
         → KeepsMarks itself (A.rules earlier) text (kept_by (A.means earlier) old) (kept_by (A.means now) new) }
 {}
 
-/// Where meanings will be joined in so many tokens, their states will.
-pub fn meanings_join_as_states<A: Machine>()
-    ensures { (machine : A) (text : List ℕ) (count : ℕ) (kept : Kept A.State)
-        → WillJoin itself (A.rules machine) text count (kept_by (A.means machine) kept)
-        → WillJoin (A.means machine) (A.rules machine) text count kept }
+/// Where so many tokens lead to the first meaning aside, whose row ends at a place, they lead to the first state aside, and its row
+/// ends there.
+pub fn meanings_reach_as_states<A: Machine>()
+    ensures { (machine : A) (text : List ℕ) (count end : ℕ) (kept : Kept A.State)
+        → WillReach itself (A.rules machine) text count end (kept_by (A.means machine) kept)
+        → WillReach (A.means machine) (A.rules machine) text count end kept }
 {}

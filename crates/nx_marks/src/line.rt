@@ -1,10 +1,10 @@
 //! Marks in a line, parted at a place.
 
-ghost use Rattle.std.specs.Prelude.{◌≡◌, ◌⊎◌, ℕ, ◌+◌, ◌-◌, ◌<◌, ◌≤◌, ◌^◌, [], ◌∷◌, length, true, false, reverse, IsTrue, ◌↔◌, ◌++◌, ◌∷◌, IfOk, OnOk, OnErr};
+ghost use Rattle.std.specs.Prelude.{◌≡◌, ◌⊎◌, ℕ, ◌+◌, ◌-◌, ◌<◌, ◌≤◌, ◌^◌, [], ◌∷◌, length, true, false, reverse, IsTrue, ◌↔◌, ◌++◌, IfOk, OnOk, OnErr};
 ghost use Rattle.std.specs.List.{AllByRecursion};
 ghost use Rattle.nx_base.specs.Rules.{IsWithin};
 ghost use Rattle.nx_base.specs.Shifting.{placed};
-ghost use Rattle.nx_marks.specs.Chain.{AreWhole, FirstMeans, FaultsFit, OwnStates, all_of, faults_in, frontier_of, reach};
+ghost use Rattle.nx_marks.specs.Chain.{AreWhole, FirstMeans, FaultsFit, OwnStates, faults_in, frontier_of, reach};
 ghost use Rattle.nx_marks.specs.Editing.{edit_noted, noted};
 ghost use Rattle.nx_marks.specs.Frontier.{FrontierAfterEdit};
 ghost use Rattle.nx_marks.specs.Right.{IsRight, tags_behind};

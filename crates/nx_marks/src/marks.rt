@@ -131,7 +131,7 @@ impl<A: Machine> Marks<A> {
             → IsRight (A.is_state a) (A.means a) (A.rules a) text self.old.kept
             → self.new.kept ≡ edit_kept edit.now.from edit.now.to edit.now.added self.old.kept }
         ensures frontier { FrontierAfterEdit edit.now.from (frontier_of self.old.kept) (frontier_of self.new.kept) }
-        ensures marks { edit.now.from ≤ edit.now.to → Fits edit.now.from edit.now.to edit.now.added self.old.kept
+        ensures fits { edit.now.from ≤ edit.now.to → Fits edit.now.from edit.now.to edit.now.added self.old.kept
             → AreWhole self.old.kept.front
             → self.old.kept.here.whole ≡ false → self.new.kept ≡ edit_kept edit.now.from edit.now.to edit.now.added self.old.kept }
         ensures taken { self.new.taken ≡ self.old.taken }
@@ -189,10 +189,11 @@ impl<A: Machine> Marks<A> {
         ensures frontier { frontier_of self.old.kept ≤ frontier_of self.new.kept }
         ensures on { OnOk result (MovesOver text.now (frontier_of self.old.kept) self.new.taken (frontier_of self.new.kept)) }
         ensures enough { OnOk result ((self.new.taken ≡ n) ⊎ (frontier_of self.new.kept ≡ length text.now)) }
-        ensures bound { OnOk result ((count : ℕ) → WillJoin (A.means machine.old) (A.rules machine.old) text.now count self.old.kept
-            → self.new.taken ≤ count) }
         ensures joined { OnOk result ((count end : ℕ) → WillReach (A.means machine.old) (A.rules machine.old) text.now count end self.old.kept
-            → count ≤ self.new.taken → end ≤ frontier_of self.new.kept) }
+            → count ≤ self.new.taken → MovesOver text.now end (self.new.taken - count) (frontier_of self.new.kept)) }
+        ensures few { OnOk result ((count : ℕ) → WillJoin (A.means machine.old) (A.rules machine.old) text.now count self.old.kept
+            → self.new.taken ≤ count) }
+        ensures none_aside { frontier_of self.new.kept ≡ length text.now → self.new.kept.aside ≡ [] }
         ensures settled { OnOk result ((0 < self.new.kept.here.len) ⊎ (self.new.kept.aside ≡ [])) }
         ensures keeps { KeepsMarks (A.means machine.old) (A.rules machine.old) text.now self.old.kept self.new.kept }
     {
@@ -220,7 +221,9 @@ impl<A: Machine> Marks<A> {
         ensures frontier { frontier_of self.old.kept ≤ frontier_of self.new.kept }
         ensures on { OnOk result (MovesOver text.now (frontier_of self.old.kept) self.new.taken (frontier_of self.new.kept)) }
         ensures all { OnOk result (frontier_of self.new.kept ≡ length text.now) }
-        ensures none_aside { OnOk result (self.new.kept.aside ≡ []) }
+        ensures none_aside { frontier_of self.new.kept ≡ length text.now → self.new.kept.aside ≡ [] }
+        ensures joined { OnOk result ((count end : ℕ) → WillReach (A.means machine.old) (A.rules machine.old) text.now count end self.old.kept
+            → count ≤ self.new.taken → MovesOver text.now end (self.new.taken - count) (frontier_of self.new.kept)) }
         ensures bound { OnOk result ((count : ℕ) → WillJoin (A.means machine.old) (A.rules machine.old) text.now count self.old.kept
             → self.new.taken ≤ token_count text.now (frontier_of self.old.kept) (frontier_of self.old.kept + self.old.kept.here.len)) }
         ensures few { OnOk result ((count : ℕ) → WillJoin (A.means machine.old) (A.rules machine.old) text.now count self.old.kept

@@ -1,7 +1,7 @@
 //! Joins the marks aside that the frontier reaches.
 
-ghost use Rattle.std.specs.Prelude.{◌≡◌, ◌⊎◌, ℕ, ◌+◌, ◌<◌, ◌≤◌, ◌^◌, ◌||◌, [], length};
-ghost use Rattle.nx_marks.specs.Chain.{FirstMeans, frontier_of};
+ghost use Rattle.std.specs.Prelude.{◌≡◌, ◌<◌, ◌||◌, length};
+ghost use Rattle.nx_marks.specs.Chain.{FirstMeans};
 ghost use Rattle.nx_marks.specs.Right.{IsRightForSome};
 ghost use Rattle.nx_marks.specs.Joined.{seen};
 ghost use Rattle.nx_marks.specs.Ruling.{is_due};

@@ -1,6 +1,6 @@
 //! Marks in a stack.
 
-ghost use Rattle.std.specs.Prelude.{◌≡◌, ℕ, ◌+◌, ◌<◌, ◌≤◌, ◌^◌, ◌==◌, [], ◌∷◌, ◌++◌, List, length, true, false, IsTrue, OnOk};
+ghost use Rattle.std.specs.Prelude.{◌≡◌, ◌+◌, ◌<◌, ◌≤◌, ◌^◌, ◌==◌, [], ◌∷◌, ◌++◌, List, length, false, IsTrue, OnOk};
 ghost use Rattle.nx_marks.specs.Chain.{AreWhole, reach};
 ghost use Rattle.nx_marks.specs.Stack.{Stacked, end_count, faulty_count, unsaved};
 ghost use Rattle.nx_marks.specs.declared.mark.Mark.{Mark};

@@ -17,7 +17,7 @@ use Rattle.nx_session.specs.Reading.{rules_for}
 use Rattle.rng_core.specs.declared.grammar.Grammar.{Grammar}
 
 pub one_edit_takes_few : OneEditTakesFew
-one_edit_takes_few before after_it last from to added faults left utf8 added_utf8 f u ordered short right all none changed told reads cuts first =
+one_edit_takes_few before after_it last from to added faults left added_utf8 f u ordered short right all none changed told reads cuts first =
     let r : Rules Recovered = rules_for before.editor.schema in
     let k : Kept Recovered = before.marks in
     let text : List ℕ = edited before.editor.text from to added in
@@ -27,7 +27,7 @@ one_edit_takes_few before after_it last from to added faults left utf8 added_utf
     let C : Kept Recovered → Type 0 = λ j. CutsTo text (frontier_of j) left (next_of j) in
     let G : Option Grammar → Type 0 = λ g. FirstMeans itself (after_all (rules_for g) after_it.marks.here.state left) after_it.marks.aside in
     let F : Kept Recovered → Type 0 = λ j. FirstMeans itself (after_all r j.here.state left) j.aside in
-    let will = will_join is_any itself r before.editor.text added from to (noted k) left utf8 added_utf8 f u ordered
+    let will = will_join is_any itself r before.editor.text added from to (noted k) left right.utf8 added_utf8 f u ordered
     (note_right is_any itself r before.editor.text k right.right) (sym right.frontier ∙ all) none short
     (subst C told (subst T is_text cuts)) (subst F told (subst G is_schema first)) in
     let W : Kept Recovered → Type 0 = λ j. WillJoin itself r text (length left) j in

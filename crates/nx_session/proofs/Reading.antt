@@ -18,7 +18,7 @@ use Rattle.nx_scan.proofs.OwnBytes.{cut-own}
 use Rattle.nx_events.specs.Items.{items_of_text}
 use Rattle.nx_events.specs.Texts.{ItemsAreText}
 use Rattle.nx_events.proofs.TextItems.{all_text}
-use Rattle.nx_marks.specs.Bound.{WillJoin}
+use Rattle.nx_marks.specs.Bound.{WillReach}
 use Rattle.nx_marks.specs.Chain.{Kept}
 use Rattle.nx_marks.specs.Keeping.{KeepsMarks}
 use Rattle.nx_marks.specs.Meant.{is_any, itself}
@@ -89,10 +89,10 @@ reads_marks matcher text old new keeps =
     let P : Rules Recovered → Type 0 = λ r. KeepsMarks itself r text old new in
     subst P (same_rules matcher) keeps
 
-pub will_join : (matcher : Option Pool) (text : List ℕ) (count : ℕ) (marks : Kept Recovered) → WillJoin itself (rules_for (grammar_of matcher)) text count marks
-    → WillJoin itself (recover_rules (followed matcher)) text count marks
-will_join matcher text count marks will =
-    let P : Rules Recovered → Type 0 = λ r. WillJoin itself r text count marks in
+pub will_reach : (matcher : Option Pool) (text : List ℕ) (count end : ℕ) (marks : Kept Recovered) → WillReach itself (rules_for (grammar_of matcher)) text count end marks
+    → WillReach itself (recover_rules (followed matcher)) text count end marks
+will_reach matcher text count end marks will =
+    let P : Rules Recovered → Type 0 = λ r. WillReach itself r text count end marks in
     subst P (sym (same_rules matcher)) will
 
 pub marks_right : (matcher : Option Pool) (text : List ℕ) (marks : Kept Recovered) → IsRight is_any itself (recover_rules (followed matcher)) text marks

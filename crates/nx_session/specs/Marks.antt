@@ -1,13 +1,14 @@
 -- What a command does to the marks, which a session keeps from one command to the next.
-use Rattle.std.specs.Prelude.{◌≡◌, ℕ, ◌+◌, ◌<◌, ◌≤◌, List, [], length, IsUtf8}
+use Rattle.std.specs.Prelude.{◌≡◌, ℕ, ◌-◌, ◌<◌, ◌≤◌, List, [], length, IsUtf8}
 use Rattle.nx_base.specs.Rules.{Lexeme}
 use Rattle.nx_base.specs.Running.{CutsTo, after_all}
 use Rattle.nx_base.specs.Text.{IsPlace}
 use Rattle.nx_base.specs.declared.edit.Edit.{Edit}
 use Rattle.nx_base.specs.declared.fault.Fault.{Fault}
-use Rattle.nx_marks.specs.Bound.{WillJoin}
+use Rattle.nx_marks.specs.Bound.{WillJoin, WillReach}
 use Rattle.nx_marks.specs.Chain.{FirstMeans, frontier_of}
 use Rattle.nx_marks.specs.Editing.{edit_kept}
+use Rattle.nx_marks.specs.Frontier.{MovesOver}
 use Rattle.nx_marks.specs.Keeping.{KeepsMarks, next_of}
 use Rattle.nx_marks.specs.Meant.{is_any, itself}
 use Rattle.nx_marks.specs.Right.{IsRight}
@@ -24,8 +25,9 @@ use Rattle.nx_session.specs.Editor.{SessionState, edit_of}
 use Rattle.nx_session.specs.Reading.{rules_for}
 use Rattle.nx_session.specs.Viewing.{whole_edit}
 
--- the marks are right for the text and the schema, and the text is read as far as they tell
+-- the text is UTF-8, the marks are right for it and the schema, and it is read as far as they tell
 pub record MarksAreRight (now : SessionState) : Type 0 where
+  pub utf8 : IsUtf8 now.editor.text
   pub right : IsRight is_any itself (rules_for now.editor.schema) now.editor.text now.marks
   pub frontier : now.editor.frontier ≡ frontier_of now.marks
 
@@ -37,8 +39,8 @@ abbrev pub EditsMarks : Edit → SessionState → Reply → SessionState → Typ
 EditsMarks edit old (Refused cause) new = SameMarks old new
 EditsMarks edit old reply new = new.marks ≡ edit_kept edit.from edit.to edit.added old.marks
 
--- reading goes on from the marks: those up to the frontier stay, those aside are joined where tokens lead to them, and none is
--- saved where none is due
+-- reading goes on from the marks: those up to the frontier stay, those aside go as far as it is read, each to stand there or since
+-- tokens don't lead to it, and none is saved where none is due
 abbrev pub ReadsMarksOn : SessionState → SessionState → Type 0
 ReadsMarksOn old new = KeepsMarks itself (rules_for old.editor.schema) old.editor.text old.marks new.marks
 
@@ -46,13 +48,18 @@ ReadsMarksOn old new = KeepsMarks itself (rules_for old.editor.schema) old.edito
 abbrev pub TakesFew : SessionState → SessionState → Type 0
 TakesFew old new = (count : ℕ) → WillJoin itself (rules_for old.editor.schema) old.editor.text count old.marks → new.editor.taken ≤ count
 
+-- where so many tokens lead to the first mark aside, its row is joined: of the tokens that are taken the others lie behind the row
+abbrev pub JoinsRow : SessionState → SessionState → Type 0
+JoinsRow old new = (count end : ℕ) → WillReach itself (rules_for old.editor.schema) old.editor.text count end old.marks →
+    count ≤ new.editor.taken → MovesOver old.editor.text end (new.editor.taken - count) new.editor.frontier
+
 -- where the text is read to its end, nothing is left aside
 abbrev pub LeavesNone : SessionState → Type 0
 LeavesNone new = new.editor.frontier ≡ length new.editor.text → new.marks.aside ≡ []
 
 abbrev pub ReadsMarks : SessionState → Reply → SessionState → Type 0
-ReadsMarks old (Refused cause) new = ReadsMarksOn old new
-ReadsMarks old reply new = ReadsMarksOn old new × TakesFew old new × LeavesNone new
+ReadsMarks old (Refused cause) new = ReadsMarksOn old new × LeavesNone new
+ReadsMarks old reply new = ReadsMarksOn old new × TakesFew old new × JoinsRow old new × LeavesNone new
 
 -- with another schema all begins anew, where the command is done
 abbrev pub BeginsMarks : SessionState → Reply → SessionState → Type 0
@@ -83,11 +90,12 @@ MarksStep old (View index) reply new = SameMarks old new
 MarksStep old (Close index) reply new = SameMarks old new
 MarksStep old (Make seed pieces) reply new = EditsMarks (whole_edit old.editor new.editor) old reply new
 
--- the text is read to its end; one edit, which ends before the text's end, is told; then all is read. So many tokens of the new text
--- lead from the last mark before the edit, or from the start, to the first mark behind it, and to what its state means. No more are taken
+-- the text is read to its end, as it is behind an `errors` that isn't refused, and so nothing is aside; one edit, which ends before the
+-- text's end, is told; then all is read. So many tokens of the new text lead from the last mark before the edit, or from the start, to
+-- the first mark behind it, and to what its state means. No more are taken
 abbrev pub OneEditTakesFew : Type 0
 OneEditTakesFew = (before edited after : SessionState) (from to : ℕ) (added : List ℕ) (faults : List Fault) (left : List Lexeme) →
-    IsUtf8 before.editor.text → IsUtf8 added → IsPlace before.editor.text from → IsPlace before.editor.text to → from ≤ to →
+    IsUtf8 added → IsPlace before.editor.text from → IsPlace before.editor.text to → from ≤ to →
     to < length before.editor.text → MarksAreRight before → before.editor.frontier ≡ length before.editor.text → before.marks.aside ≡ [] →
     IsEdited from to added before.editor edited.editor → EditsMarks (edit_of from to added) before Silent edited →
     ReadsMarks edited (reply.Errors faults) after →

@@ -17,7 +17,7 @@ use Rattle.rng_core.specs.Soundness.{IsSound}
 use Rattle.rng_core.specs.declared.grammar.Grammar.{Grammar}
 use Rattle.rng_kept.specs.Live.{IsLive}
 
--- the grammar that a matcher follows, and the same without its memory
+-- the grammar that a matcher follows, and its language
 abbrev pub grammar_of : Option Pool → Option Grammar
 grammar_of matcher = option_map (λ (pool : Pool). pool.schema.grammar) matcher
 

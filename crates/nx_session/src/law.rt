@@ -1,8 +1,8 @@
 //! Laws of the editor. Nothing here runs.
 
 ghost use Rattle.nx_session.specs.Done.{AllowedCommandsAreDone, AllowedLinesAreDone, FaultsAreCounted};
-ghost use Rattle.nx_session.specs.Marks.{OneEditTakesFew};
 ghost use Rattle.nx_session.specs.Faults.{TextsGiveText};
+ghost use Rattle.nx_session.specs.Marks.{OneEditTakesFew};
 ghost use Rattle.nx_session.specs.Step.{RefusalsLeaveTheDocument};
 
 use nx_host::uri::joins_is_decided;

@@ -1,10 +1,12 @@
 //! The editor between two commands: what it holds, and which of its parts carries out a command.
 
-ghost use Rattle.std.specs.Prelude.{◌≡◌, length, map, is_some, IfOk};
+ghost use Rattle.std.specs.Prelude.{◌≡◌, length, map, is_some, IfOk, None};
+ghost use Rattle.nx_marks.specs.Starting.{started};
 ghost use Rattle.nx_script.specs.Commands.{HasUtf8Texts};
 ghost use Rattle.nx_script.specs.Replies.{reply_of, ReplyIsText};
 ghost use Rattle.nx_session.specs.Editor.{new_editor, files_state, world};
 ghost use Rattle.nx_session.specs.Marks.{MarksAreRight, MarksStep};
+ghost use Rattle.nx_session.specs.Reading.{rules_for};
 ghost use Rattle.nx_session.specs.Step.{Step};
 ghost use Rattle.nx_session.specs.Viewing.{ViewsAreText};
 
@@ -53,7 +55,7 @@ pub struct Session {
     rules: Option<Bytes>,
     /// Reads the text for its faults.
     machine: Recover<Pool>,
-    /// How far it has read.
+    /// What is kept of its reading: the marks, with the faults between them.
     marks: Marks<Recover<Pool>>,
 }
 
@@ -93,6 +95,7 @@ impl Session {
     /// An editor of the empty text, which is given the URI text of the rules by which schemas are located, or none.
     pub fn new(alloc: Global, rules: Option<Bytes>) -> Result<Session, NoMemory>
         ensures editor { IfOk result (λ session. session.editor ≡ new_editor rules) }
+        ensures marks { IfOk result (λ session. session.marks ≡ started (rules_for None).first) }
         ensures right { IfOk result MarksAreRight }
     {
         let untitled = Vec::from_slice(alloc, UNTITLED.as_bytes())?;
@@ -162,7 +165,7 @@ impl Session {
         ensures { MarksAreRight self.now }
     {
         meanings_are_right::<Recover<Pool>>();
-        let _marks = &self.marks;
+        let _len = self.text.len();
     }
 
     /// What the part of the editor that carries out the command answers.

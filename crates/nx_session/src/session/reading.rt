@@ -1,10 +1,10 @@
 //! The text, read by the machine, and what is kept of that. The machine holds the schema, and reading leaves it.
 
-ghost use Rattle.std.specs.Prelude.{◌≡◌, ◌⊎◌, ℕ, ◌+◌, ◌≤◌, List, [], length, option_map, IsUtf8, IfOk, IfSome, OnOk};
+ghost use Rattle.std.specs.Prelude.{◌≡◌, ◌⊎◌, ℕ, ◌+◌, ◌-◌, ◌≤◌, List, [], length, option_map, IsUtf8, IfOk, IfSome, OnOk};
 ghost use Rattle.std.specs.List.{AllByRecursion};
 ghost use Rattle.nx_base.specs.Text.{IsPlace};
 ghost use Rattle.nx_base.specs.declared.fault.Fault.{Fault};
-ghost use Rattle.nx_marks.specs.Bound.{WillJoin};
+ghost use Rattle.nx_marks.specs.Bound.{WillJoin, WillReach};
 ghost use Rattle.nx_marks.specs.Chain.{frontier_of};
 ghost use Rattle.nx_marks.specs.Frontier.{IsBorder, MovesOver};
 ghost use Rattle.nx_marks.specs.Keeping.{KeepsMarks};
@@ -27,7 +27,7 @@ use nx_complete::law::offers_are_exact;
 use nx_complete::place::offers;
 use nx_marks::law::{
     frontier_is_border, later_machines_keep_it_right, later_machines_mean_the_same,
-    meanings_join_as_states, reading_on_keeps_meanings,
+    meanings_reach_as_states, reading_on_keeps_meanings,
 };
 use nx_marks::marks::Marks;
 use nx_recover::recover::Recover;
@@ -69,13 +69,16 @@ pub(super) fn caught_up<L: Ledger>(
     ensures border { IsBorder text.now (frontier_of marks.new.kept) }
     ensures marks { KeepsMarks itself (rules_for (grammar_of machine.old.matcher)) text.now (meant machine.old.matcher marks.old.kept)
         (meant machine.new.matcher marks.new.kept) }
-    ensures aside { OnOk result (frontier_of marks.new.kept ≡ length text.now → marks.new.kept.aside ≡ []) }
+    ensures aside { frontier_of marks.new.kept ≡ length text.now → marks.new.kept.aside ≡ [] }
     ensures few { OnOk result ((count : ℕ) → WillJoin itself (rules_for (grammar_of machine.old.matcher)) text.now count
         (meant machine.old.matcher marks.old.kept) → marks.new.taken ≤ count) }
+    ensures row { OnOk result ((count end : ℕ) → WillReach itself (rules_for (grammar_of machine.old.matcher)) text.now count end
+        (meant machine.old.matcher marks.old.kept)
+        → count ≤ marks.new.taken → MovesOver text.now end (marks.new.taken - count) (frontier_of marks.new.kept)) }
 {
     frontier_is_border::<Recover<Pool>>();
     reading_on_keeps_meanings::<Recover<Pool>>();
-    meanings_join_as_states::<Recover<Pool>>();
+    meanings_reach_as_states::<Recover<Pool>>();
     let _len = text.len();
     marks.catch_up(machine, text, steps)
 }
@@ -99,13 +102,16 @@ pub(super) fn sliced<L: Ledger>(
     ensures border { IsBorder text.now (frontier_of marks.new.kept) }
     ensures marks { KeepsMarks itself (rules_for (grammar_of machine.old.matcher)) text.now (meant machine.old.matcher marks.old.kept)
         (meant machine.new.matcher marks.new.kept) }
-    ensures aside { OnOk result (frontier_of marks.new.kept ≡ length text.now → marks.new.kept.aside ≡ []) }
+    ensures aside { frontier_of marks.new.kept ≡ length text.now → marks.new.kept.aside ≡ [] }
     ensures few { OnOk result ((count : ℕ) → WillJoin itself (rules_for (grammar_of machine.old.matcher)) text.now count
         (meant machine.old.matcher marks.old.kept) → marks.new.taken ≤ count) }
+    ensures row { OnOk result ((count end : ℕ) → WillReach itself (rules_for (grammar_of machine.old.matcher)) text.now count end
+        (meant machine.old.matcher marks.old.kept)
+        → count ≤ marks.new.taken → MovesOver text.now end (marks.new.taken - count) (frontier_of marks.new.kept)) }
 {
     frontier_is_border::<Recover<Pool>>();
     reading_on_keeps_meanings::<Recover<Pool>>();
-    meanings_join_as_states::<Recover<Pool>>();
+    meanings_reach_as_states::<Recover<Pool>>();
     let _len = text.len();
     marks.slice(machine, text, count, steps)
 }

@@ -1,8 +1,7 @@
-use Rattle.std.proofs.Common.{◌≡◌, ◌⊎◌, ◌<◌, inl, inr, Bool, [], length, refl, ap, subst, sym, arith}
+use Rattle.std.proofs.Common.{◌≡◌, ◌⊎◌, ◌<◌, inr, Bool, [], length, refl, subst, sym}
 use Rattle.nx_marks.specs.Chain.{Kept}
 use Rattle.nx_marks.specs.Joined.{seen}
 use Rattle.nx_marks.specs.Right.{IsRightForSome}
-use Rattle.nx_marks.specs.Rejoining.{RejoinsOne}
 use Rattle.nx_marks.proofs.Rejoining.{Rejoining, rejoin_began, rejoin_more, rejoin_some, rejoin_ended}
 use Rattle.nx_marks.proofs.Seen.{nothing-joined}
 use Rattle.nx_marks.proofs.rows.rejoin.Goals as goal

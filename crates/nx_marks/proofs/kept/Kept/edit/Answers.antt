@@ -1,4 +1,4 @@
-use Rattle.std.proofs.Common.{◌≡◌, ◌+◌, ◌≤◌, false, ap, subst, sym, ◌∙◌, arith}
+use Rattle.std.proofs.Common.{◌≡◌, ◌≤◌, false, ap, subst, ◌∙◌, arith}
 use Rattle.nx_marks.specs.Chain.{AreWhole, Kept, frontier_of}
 use Rattle.nx_marks.specs.Editing.{edit_noted}
 use Rattle.nx_marks.specs.Frontier.{FrontierAfterEdit}

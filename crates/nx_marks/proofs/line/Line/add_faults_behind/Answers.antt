@@ -1,4 +1,4 @@
-use Rattle.std.proofs.Common.{◌≡◌, ◌++◌, List, reverse, refl, ap, subst, sym, ◌∙◌, arith}
+use Rattle.std.proofs.Common.{◌++◌, List, reverse, refl, ap, subst, sym, ◌∙◌, arith}
 use Rattle.nx_marks.specs.Chain.{FaultsFit, Kept, faults_in, frontier_of, reach}
 use Rattle.nx_marks.specs.Joined.{but_last}
 use Rattle.nx_marks.specs.declared.mark.Mark.{Mark}

@@ -1,8 +1,7 @@
-use Rattle.std.proofs.Common.{◌≡◌, ◌⊎◌, inl, inr, ℕ, ◌+◌, ◌-◌, ◌^◌, ◌<◌, [], ◌∷◌, ap, subst, sym, ◌∙◌, arith}
-use Rattle.nx_marks.specs.Chain.{Kept, all_of, frontier_of, reach}
+use Rattle.std.proofs.Common.{◌≡◌, ℕ, ◌+◌, ◌-◌, ap, subst, sym, ◌∙◌, arith}
+use Rattle.nx_marks.specs.Chain.{Kept, frontier_of, reach}
 use Rattle.nx_marks.specs.Walking.{DropsBetween, cut_off}
 use Rattle.nx_marks.specs.Editing.{broken}
-use Rattle.nx_marks.proofs.Backs.{reach-append}
 use Rattle.nx_marks.proofs.Cutting.{cut_there, cut_fits}
 use Rattle.nx_marks.proofs.Holding.{reach-reverse}
 use Rattle.nx_marks.proofs.line.Line.cut_off.Goals as goal

@@ -1,4 +1,4 @@
-use Rattle.std.proofs.Common.{ap, sym, ◌∙◌, reverse}
+use Rattle.std.proofs.Common.{ap, sym, ◌∙◌}
 use Rattle.nx_marks.specs.Chain.{Kept}
 use Rattle.nx_marks.specs.Joined.{last}
 use Rattle.nx_marks.proofs.Seen.{lowest-last}

@@ -1,4 +1,3 @@
-use Rattle.std.proofs.Common.{sym}
 use Rattle.nx_marks.proofs.Walking.{stepped_on}
 use Rattle.nx_marks.proofs.Holding.{moved, turned, room_for, fits_for}
 use Rattle.nx_marks.proofs.line.Line.step_on.Goals as goal

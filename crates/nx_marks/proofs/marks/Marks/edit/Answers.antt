@@ -35,7 +35,7 @@ returns-clause-told g c = λ a t added utf8 added_utf8 f u o long small new h.
 pub returns-clause-frontier : goal.returns-clause-frontier
 returns-clause-frontier g c = frontier_from_noted c.args.edit.now.from c.args.self.now.kept c.note.new.self c.edit.new.self c.note.ensures c.edit.ensures.frontier
 
-pub returns-clause-marks : goal.returns-clause-marks
-returns-clause-marks g c = λ ordered fits whole ends.
+pub returns-clause-fits : goal.returns-clause-fits
+returns-clause-fits g c = λ ordered fits whole ends.
     let edit = c.args.edit.now in
     edited_from_noted edit.from edit.to edit.added c.args.self.now.kept c.note.new.self c.edit.new.self c.note.ensures (c.edit.ensures.edited ordered) fits whole ends

@@ -1,9 +1,9 @@
 use Rattle.std.proofs.Common.{◌≡◌, ℕ, ◌-◌, inr, length, subst, sym, arith}
-use Rattle.nx_marks.specs.Bound.{ReachesIn}
+use Rattle.nx_marks.specs.Bound.{ReachesIn, WillReach}
 use Rattle.nx_marks.specs.Chain.{frontier_of}
 use Rattle.nx_marks.specs.Frontier.{MovesOver}
 use Rattle.nx_marks.proofs.Keeping.{keeps_later}
-use Rattle.nx_marks.proofs.Moving.{moves_on, over_between, over_grows, over_reaches, smaller, within, rejoined, still_some, reached}
+use Rattle.nx_marks.proofs.Moving.{moves_on, over_between, over_grows, over_reaches, smaller, within, rejoined, reached, border_of, end_border, from_border, over_joined, none_behind, none_aside}
 use Rattle.nx_marks.proofs.marks.Marks.slice.Goals as goal
 
 pub loop-self-init : goal.loop-self-init
@@ -15,20 +15,22 @@ loop-self-init g c =
     let k = c.args.self.now.kept in
     let j = c.rejoin.new.kept in
     let right = c.rejoin.ensures.right t utf8 c.requires.right in
+    let near : (count end : ℕ) → WillReach (m.means a) (m.rules a) t count end k → ReachesIn (m.means a) (m.rules a) t (count - 0) end j = λ count end w.
+    (let none : count ≡ count - 0 = omega arith in
+    let P : ℕ → Type 0 = λ n. ReachesIn (m.means a) (m.rules a) t n end j in
+    subst P none (rejoined (m.is_state a) (m.means a) (m.rules a) (g.met.A.Machine.rule_laws a) t utf8 k j count end c.rejoin.ensures w)) in
     record {
       later = g.met.A.Machine.laws.same _;
       right = right;
       over = over_between (m.is_state a) (m.means a) (m.rules a) (g.met.A.Machine.rule_laws a) t utf8 k j c.requires.right right c.rejoin.ensures.further;
       most = omega arith;
       counted = omega arith;
-      bound = λ count w.
-          (let none : count ≡ count - 0 = omega arith in
-          let P : ℕ → Type 0 = λ n. ReachesIn (m.means a) (m.rules a) t n (length t) j in
-          (omega arith, subst P none (rejoined (m.is_state a) (m.means a) (m.rules a) (g.met.A.Machine.rule_laws a) t utf8 k j count (length t) c.rejoin.ensures w)));
-      joined = λ count end w.
-          (let none : count ≡ count - 0 = omega arith in
-          let P : ℕ → Type 0 = λ n. ReachesIn (m.means a) (m.rules a) t n end j in
-          subst P none (rejoined (m.is_state a) (m.means a) (m.rules a) (g.met.A.Machine.rule_laws a) t utf8 k j count end c.rejoin.ensures w));
+      near = near;
+      joined = λ count end w le.
+          (let zero : 0 ≡ 0 - count = omega arith in
+          let P : ℕ → Type 0 = λ n. MovesOver t end n (frontier_of j) in
+          subst P zero (from_border t end (frontier_of j) utf8 (end_border (m.is_state a) (m.means a) (m.rules a) (g.met.A.Machine.rule_laws a) t utf8 k count end c.requires.right w)
+          (border_of (m.is_state a) (m.means a) (m.rules a) (g.met.A.Machine.rule_laws a) t utf8 j right) (reached (m.means a) (m.rules a) t count 0 end j le (near count end w))));
       settled = c.rejoin.ensures.settled;
       keeps = c.rejoin.ensures.keeps t utf8 c.requires.right;
     }
@@ -44,26 +46,27 @@ pub loop-self-preserved : goal.loop-self-preserved
 loop-self-preserved g c =
     let m = g.A.Machine in
     let b = c.go_on.new.machine in
+    let a = c.args.machine.now in
+    let utf8 = c.len-len.ensures.utf8 in
     let P : ℕ → Type 0 = λ n. MovesOver c.args.text.now (frontier_of c.args.self.now.kept) n (frontier_of c.go_on.new.self.kept) in
+    let near : (count end : ℕ) → WillReach (m.means a) (m.rules a) c.args.text.now count end c.args.self.now.kept → ReachesIn (m.means b) (m.rules b) c.args.text.now (count - c.go_on.new.self.taken) end c.go_on.new.self.kept = λ count end w.
+    (let on = c.in_ok-go_on.ensures.near (count - c.loop-self.self.taken) end (c.loop-self.invariant.near count end w) in
+    let same : count - c.loop-self.self.taken - 1 ≡ count - c.go_on.new.self.taken = omega (arith, c.go_on.ensures.taken) in
+    let Q : ℕ → Type 0 = λ n. ReachesIn (m.means b) (m.rules b) c.args.text.now n end c.go_on.new.self.kept in
+    subst Q same on.1) in
     record {
       later = g.met.A.Machine.laws.chain _ _ _ c.loop-self.invariant.later c.go_on.ensures.later;
       right = c.go_on.ensures.right;
       over = subst P (sym c.go_on.ensures.taken) (moves_on c.args.text.now _ c.loop-self.self.taken (frontier_of c.loop-self.self.kept) 1 _ c.loop-self.invariant.over c.in_ok-go_on.ensures.on);
       most = omega arith;
       counted = omega arith;
-      bound = λ count w.
-          (let before = c.loop-self.invariant.bound count w in
-          let on = c.in_ok-go_on.ensures.near (count - c.loop-self.self.taken) (length c.args.text.now) before.1 in
-          let le = before.0 in
-          let some = still_some _ (length c.args.text.now) (frontier_of c.loop-self.self.kept) (omega (arith, c.len-len.ensures.bytes, c.frontier.ensures, c.loop-self-test.true)) on.0 in
-          let same : count - c.loop-self.self.taken - 1 ≡ count - c.go_on.new.self.taken = omega (arith, c.go_on.ensures.taken) in
-          let Q : ℕ → Type 0 = λ n. ReachesIn (m.means b) (m.rules b) c.args.text.now n (length c.args.text.now) c.go_on.new.self.kept in
-          (omega (arith, c.go_on.ensures.taken), subst Q same on.1));
+      near = near;
       joined = λ count end w.
-          (let on = c.in_ok-go_on.ensures.near (count - c.loop-self.self.taken) end (c.loop-self.invariant.joined count end w) in
-          let same : count - c.loop-self.self.taken - 1 ≡ count - c.go_on.new.self.taken = omega (arith, c.go_on.ensures.taken) in
-          let Q : ℕ → Type 0 = λ n. ReachesIn (m.means b) (m.rules b) c.args.text.now n end c.go_on.new.self.kept in
-          subst Q same on.1);
+          over_joined c.args.text.now end count c.loop-self.self.taken c.go_on.new.self.taken (frontier_of c.loop-self.self.kept) (frontier_of c.go_on.new.self.kept) utf8
+          (end_border (m.is_state a) (m.means a) (m.rules a) (g.met.A.Machine.rule_laws a) c.args.text.now utf8 c.args.self.now.kept count end c.requires.right w)
+          (border_of (m.is_state b) (m.means b) (m.rules b) (g.met.A.Machine.rule_laws b) c.args.text.now utf8 c.go_on.new.self.kept c.go_on.ensures.right)
+          (c.loop-self.invariant.joined count end w) c.in_ok-go_on.ensures.on c.go_on.ensures.taken
+          (λ le. reached (m.means b) (m.rules b) c.args.text.now count c.go_on.new.self.taken end c.go_on.new.self.kept le (near count end w));
       settled = c.in_ok-go_on.ensures.settled;
       keeps = keeps_later m.later m.is_state m.means m.rules g.met.A.Machine.laws c.args.machine.now c.loop-self.machine c.args.text.now c.args.self.now.kept c.loop-self.self.kept c.go_on.new.self.kept c.loop-self.invariant.later c.requires.right c.loop-self.invariant.keeps c.go_on.ensures.keeps;
     }
@@ -93,19 +96,36 @@ returns-in_err-go_on-clause-keeps g c =
     keeps_later m.later m.is_state m.means m.rules g.met.A.Machine.laws c.args.machine.now c.loop-self.machine c.args.text.now c.args.self.now.kept c.loop-self.self.kept c.go_on.new.self.kept c.loop-self.invariant.later c.requires.right c.loop-self.invariant.keeps c.go_on.ensures.keeps
 
 pub returns-else-self-n-clause-joined : goal.returns-else-self-n-clause-joined
-returns-else-self-n-clause-joined g c = λ count end w le.
-    let m = g.A.Machine in
-    let b = c.loop-self.machine in
-    reached (m.means b) (m.rules b) c.args.text.now count c.loop-self.self.taken end c.loop-self.self.kept le (c.loop-self.invariant.joined count end w)
+returns-else-self-n-clause-joined g c = c.loop-self.invariant.joined
 
 pub returns-after-loop-self-clause-joined : goal.returns-after-loop-self-clause-joined
-returns-after-loop-self-clause-joined g c = λ count end w le.
+returns-after-loop-self-clause-joined g c = c.loop-self.invariant.joined
+
+pub returns-else-self-n-clause-few : goal.returns-else-self-n-clause-few
+returns-else-self-n-clause-few g c = λ count w.
     let m = g.A.Machine in
     let b = c.loop-self.machine in
-    reached (m.means b) (m.rules b) c.args.text.now count c.loop-self.self.taken end c.loop-self.self.kept le (c.loop-self.invariant.joined count end w)
+    none_behind c.args.text.now count c.loop-self.self.taken (frontier_of c.loop-self.self.kept) c.len-len.ensures.utf8
+    (within (m.is_state b) (m.means b) (m.rules b) (g.met.A.Machine.rule_laws b) c.args.text.now c.len-len.ensures.utf8 c.loop-self.self.kept c.loop-self.invariant.right) (c.loop-self.invariant.joined count (length c.args.text.now) w)
 
-pub returns-else-self-n-clause-bound : goal.returns-else-self-n-clause-bound
-returns-else-self-n-clause-bound g c = λ count w. (c.loop-self.invariant.bound count w).0
+pub returns-after-loop-self-clause-few : goal.returns-after-loop-self-clause-few
+returns-after-loop-self-clause-few g c = λ count w.
+    let m = g.A.Machine in
+    let b = c.loop-self.machine in
+    none_behind c.args.text.now count c.loop-self.self.taken (frontier_of c.loop-self.self.kept) c.len-len.ensures.utf8
+    (within (m.is_state b) (m.means b) (m.rules b) (g.met.A.Machine.rule_laws b) c.args.text.now c.len-len.ensures.utf8 c.loop-self.self.kept c.loop-self.invariant.right) (c.loop-self.invariant.joined count (length c.args.text.now) w)
 
-pub returns-after-loop-self-clause-bound : goal.returns-after-loop-self-clause-bound
-returns-after-loop-self-clause-bound g c = λ count w. (c.loop-self.invariant.bound count w).0
+pub returns-in_err-go_on-clause-none_aside : goal.returns-in_err-go_on-clause-none_aside
+returns-in_err-go_on-clause-none_aside g c = λ all. absurd (let same = c.in_err-go_on.ensures.off in omega (arith, c.len-len.ensures.bytes, c.frontier.ensures, c.loop-self-test.true))
+
+pub returns-else-self-n-clause-none_aside : goal.returns-else-self-n-clause-none_aside
+returns-else-self-n-clause-none_aside g c = λ all.
+    let m = g.A.Machine in
+    let b = c.loop-self.machine in
+    none_aside (m.is_state b) (m.means b) (m.rules b) c.args.text.now c.loop-self.self.kept c.loop-self.invariant.right all c.loop-self.invariant.settled
+
+pub returns-after-loop-self-clause-none_aside : goal.returns-after-loop-self-clause-none_aside
+returns-after-loop-self-clause-none_aside g c = λ all.
+    let m = g.A.Machine in
+    let b = c.loop-self.machine in
+    none_aside (m.is_state b) (m.means b) (m.rules b) c.args.text.now c.loop-self.self.kept c.loop-self.invariant.right all c.loop-self.invariant.settled

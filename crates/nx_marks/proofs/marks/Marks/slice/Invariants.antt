@@ -1,6 +1,6 @@
 use Rattle.std.proofs.Common.{◌≡◌, ◌⊎◌, ℕ, ◌+◌, ◌-◌, ◌<◌, ◌≤◌, List, [], length}
 use Rattle.nx_base.specs.Rules.{Rules}
-use Rattle.nx_marks.specs.Bound.{WillJoin, WillReach, ReachesIn}
+use Rattle.nx_marks.specs.Bound.{WillReach, ReachesIn}
 use Rattle.nx_marks.specs.Chain.{Kept, frontier_of}
 use Rattle.nx_marks.specs.Frontier.{MovesOver}
 use Rattle.nx_marks.specs.Keeping.{KeepsMarks}
@@ -8,7 +8,7 @@ use Rattle.nx_marks.specs.Right.{IsRight}
 use Rattle.nx_marks.proofs.marks.Marks.slice.Given as goal
 
 -- what is kept is right for the later machine, so many tokens lie between the old frontier and this one, and fewer are left up
--- to a row that reaches the end
+-- to a row that is to be joined; where it is joined, the others lie behind it
 pub record GoesOn {Self S M : Type 0} (later_than : Self → Self → Type 0) (is_state : Self → S → Type 0) (means : Self → S → M) (rules : Self → Rules M)
     (first now : Self) (text : List ℕ) (old kept : Kept S) (taken n steps_first steps : ℕ) : Type 0 where
   pub later : later_than first now
@@ -16,8 +16,8 @@ pub record GoesOn {Self S M : Type 0} (later_than : Self → Self → Type 0) (i
   pub over : MovesOver text (frontier_of old) taken (frontier_of kept)
   pub most : taken ≤ n
   pub counted : steps ≡ steps_first + taken
-  pub bound : (count : ℕ) → WillJoin (means first) (rules first) text count old → (taken ≤ count) × ReachesIn (means now) (rules now) text (count - taken) (length text) kept
-  pub joined : (count end : ℕ) → WillReach (means first) (rules first) text count end old → ReachesIn (means now) (rules now) text (count - taken) end kept
+  pub near : (count end : ℕ) → WillReach (means first) (rules first) text count end old → ReachesIn (means now) (rules now) text (count - taken) end kept
+  pub joined : (count end : ℕ) → WillReach (means first) (rules first) text count end old → count ≤ taken → MovesOver text end (taken - count) (frontier_of kept)
   pub settled : (0 < kept.here.len) ⊎ (kept.aside ≡ [])
   pub keeps : KeepsMarks (means first) (rules first) text old kept
 

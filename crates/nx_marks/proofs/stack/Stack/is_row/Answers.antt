@@ -1,7 +1,5 @@
-use Rattle.std.proofs.Common.{◌≡◌, Some, List, [], ◌∷◌, ap, sym, subst, ◌∙◌, arith, nat_eq}
-use Rattle.std.specs.Prelude.{slice_get}
+use Rattle.std.proofs.Common.{◌≡◌, [], ◌∷◌, ap, sym, ◌∙◌}
 use Rattle.nx_marks.specs.Stack.{end_count}
-use Rattle.nx_marks.specs.declared.mark.Mark.{Mark}
 use Rattle.nx_marks.proofs.Stacks.{others_whole, lowest_is, counted}
 use Rattle.nx_marks.proofs.stack.Stack.is_row.Goals as goal
 

@@ -1,4 +1,4 @@
-use Rattle.std.proofs.Common.{◌≡◌, ◌+◌, ◌-◌, [], ◌∷◌, ap, refl, sym, arith}
+use Rattle.std.proofs.Common.{◌-◌, ap, refl, arith}
 use Rattle.nx_marks.proofs.Stacks.{popped, topmost}
 use Rattle.nx_marks.proofs.stack.Stack.pop.Goals as goal
 

@@ -1,4 +1,4 @@
-use Rattle.std.proofs.Common.{◌≡◌, ◌+◌, ◌-◌, [], ◌∷◌, ap, refl, sym, arith}
+use Rattle.std.proofs.Common.{◌+◌, [], ◌∷◌, ap, refl, arith}
 use Rattle.nx_marks.proofs.Stacks.{ends-most, faulty-most, pushed}
 use Rattle.nx_marks.proofs.stack.Stack.push.Goals as goal
 

@@ -1,8 +1,6 @@
-use Rattle.deriv_pool.specs.Later.{IsStateOf, language_in, meaning_of}
-use Rattle.nx_marks.proofs.Moving.{none_aside}
-use Rattle.nx_recover.specs.Machine.{means_by, rules_by, state_by}
+use Rattle.std.proofs.Common.{length}
 use Rattle.nx_session.specs.Reading.{meant}
-use Rattle.nx_session.proofs.Reading.{later_grammar, later_live, later_sound, on_ok, reads_marks, will_join}
+use Rattle.nx_session.proofs.Reading.{later_grammar, later_live, later_sound, on_ok, reads_marks, will_reach}
 use Rattle.nx_session.proofs.session.reading.sliced.Goals as goal
 
 pub returns-clause-well : goal.returns-clause-well
@@ -30,10 +28,13 @@ returns-clause-marks g c =
 pub returns-clause-few : goal.returns-clause-few
 returns-clause-few g c =
     let a = c.args.machine.now in
+    let t = c.args.text.now in
     let k = c.args.marks.now.kept in
-    on_ok c.slice.result (λ most count will. most count (c.meanings_join_as_states.ensures a c.args.text.now count k (will_join a.matcher c.args.text.now count (meant a.matcher k) will))) c.slice.ensures.bound
+    on_ok c.slice.result (λ most count will. most count (c.meanings_reach_as_states.ensures a t count (length t) k (will_reach a.matcher t count (length t) (meant a.matcher k) will))) c.slice.ensures.few
 
-pub returns-clause-aside : goal.returns-clause-aside
-returns-clause-aside g c =
-    let m = c.slice.new.machine.matcher in
-    on_ok c.slice.result (λ settled all. none_aside (state_by IsStateOf m) (means_by meaning_of m) (rules_by language_in m) c.args.text.now c.slice.new.self.kept c.slice.ensures.right all settled) c.slice.ensures.settled
+pub returns-clause-row : goal.returns-clause-row
+returns-clause-row g c =
+    let a = c.args.machine.now in
+    let t = c.args.text.now in
+    let k = c.args.marks.now.kept in
+    on_ok c.slice.result (λ joined count end will. joined count end (c.meanings_reach_as_states.ensures a t count end k (will_reach a.matcher t count end (meant a.matcher k) will))) c.slice.ensures.joined
