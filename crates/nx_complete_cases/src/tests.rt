@@ -97,7 +97,7 @@ fn compare_group<L: Ledger>(
     let Some(matcher) = matcher_of(alloc, schema) else {
         return Ok(write!(wrong, "refused: {schema}\n")?);
     };
-    let mut machine = Recover::new(alloc, Some(matcher));
+    let mut machine = Recover::new(Some(matcher));
     for case in cases.lines() {
         let case = case.strip_prefix("  ").unwrap_or(case);
         compare_case(alloc, &mut machine, case, steps, wrong)?;

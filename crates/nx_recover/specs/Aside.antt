@@ -8,8 +8,8 @@ use Rattle.nx_recover.specs.declared.levels.Open.{Open}
 use Rattle.nx_recover.specs.declared.levels.Levels.{Levels}
 use Rattle.nx_recover.specs.declared.levels.Change.{Change}
 use Rattle.nx_recover.specs.declared.levels.Begun.{Begun}
-use Rattle.nx_recover.specs.declared.event.Taken.{Taken}
-use Rattle.nx_recover.specs.declared.event.Taken.TheVariants as taken
+use Rattle.nx_recover.specs.declared.event.TakenOff.{TakenOff}
+use Rattle.nx_recover.specs.declared.event.TakenOff.TheVariants as taken
 
 -- one element more, where c is the change before and d the one behind
 pub record Pushed {S : Type 0} (b : Begun S) (c d : Change S) (o : Option Flaw) : Type 0 where
@@ -19,7 +19,7 @@ pub record Pushed {S : Type 0} (b : Begun S) (c d : Change S) (o : Option Flaw) 
   pub flaw : o ≡ b.flaw
 
 -- the element that was taken off
-abbrev pub open_of : {S : Type 0} → Taken S → Open S
+abbrev pub open_of : {S : Type 0} → TakenOff S → Open S
 open_of (taken.Aside o) = o
 open_of (taken.Old o) = o.now
 

@@ -41,18 +41,18 @@ fn push<S: Drop>(change: &mut Change<S>, begun: Begun<S>) -> Result<Option<Flaw>
 
 // An open element that was taken off: one that is aside, or an old one, which stays where it is.
 #[derive(Drop)]
-enum Taken<'a, S> {
+enum TakenOff<'a, S> {
     Aside(Open<S>),
     Old(&'a Open<S>),
 }
 
 // The element that was taken off.
-fn open_of<'a, S>(taken: &'a Taken<'a, S>) -> &'a Open<S>
+fn open_of<'a, S>(taken: &'a TakenOff<'a, S>) -> &'a Open<S>
     ensures { result.now ≡ open_of taken.now }
 {
     match taken {
-        Taken::Aside(element) => element,
-        Taken::Old(element) => element,
+        TakenOff::Aside(element) => element,
+        TakenOff::Old(element) => element,
     }
 }
 
@@ -61,18 +61,18 @@ fn pop<'a, M: Matcher>(
     _matcher: &M,
     levels: &'a Levels<M::State>,
     change: &mut Change<M::State>,
-) -> Option<Taken<'a, M::State>>
+) -> Option<TakenOff<'a, M::State>>
     requires { IsChange (M.is_state _matcher.now) levels.now change.old }
     ensures { Popped (M.is_state _matcher.now) (M.means _matcher.now) levels.now change.old change.new (option_map open_of result) }
 {
     if let Some(element) = change.above.pop() {
-        return Some(Taken::Aside(element));
+        return Some(TakenOff::Aside(element));
     }
     if change.kept == 0 {
         return None;
     }
     change.kept -= 1;
-    Some(Taken::Old(&levels.elements[change.kept]))
+    Some(TakenOff::Old(&levels.elements[change.kept]))
 }
 
 // An element begins.

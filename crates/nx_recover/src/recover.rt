@@ -23,8 +23,8 @@ use std::alloc::Global;
 #[derive(Drop)]
 pub struct Recover<M: Matcher> {
     pub matcher: Option<M>,
-    // the memory that the items of one token after another are put in
-    items: Items,
+    // the memory that the items of one token after another are put in, once there is some
+    items: Option<Items>,
 }
 
 // A state without levels.
@@ -42,12 +42,12 @@ fn without_levels<S: Drop>(alloc: Global, events: EventState) -> RecoverState<S>
 
 impl<M: Matcher> Recover<M> {
     /// Recovery over this matcher.
-    pub fn new(alloc: Global, matcher: Option<M>) -> Recover<M>
+    pub fn new(matcher: Option<M>) -> Recover<M>
         ensures { result.matcher ≡ matcher }
     {
         Recover {
             matcher,
-            items: Items::new(alloc),
+            items: None,
         }
     }
 
@@ -107,10 +107,16 @@ impl<M: Matcher> Machine for Recover<M> {
         token: &Token,
         faults: &mut Faults,
     ) -> Result<(), NoMemory> {
-        match &mut self.matcher {
-            Some(matcher) => step_over(alloc, matcher, &mut self.items, state, token, faults),
-            None => step_bare(alloc, &mut self.items, &mut state.events, token, faults),
-        }
+        let mut items = match self.items.take() {
+            Some(items) => items,
+            None => Items::new(alloc),
+        };
+        let answer = match &mut self.matcher {
+            Some(matcher) => step_over(alloc, matcher, &mut items, state, token, faults),
+            None => step_bare(alloc, &mut items, &mut state.events, token, faults),
+        };
+        self.items = Some(items);
+        answer
     }
 
     fn at_end(

@@ -99,7 +99,7 @@ impl Session {
         ensures right { IfOk result MarksAreRight }
     {
         let untitled = Vec::from_slice(alloc, UNTITLED.as_bytes())?;
-        let mut machine = Recover::new(alloc, None);
+        let mut machine = Recover::new(None);
         let marks = begun(alloc, &mut machine)?;
         let session = Session {
             alloc,

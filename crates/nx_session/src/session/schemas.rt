@@ -156,7 +156,7 @@ impl Session {
         ensures stays { OnErr result (self.new ≡ self.old) }
     {
         let _len = self.text.len();
-        let mut machine = Recover::new(self.alloc, matcher);
+        let mut machine = Recover::new(matcher);
         let marks = begun(self.alloc, &mut machine)?;
         self.machine = machine;
         self.marks = marks;

@@ -1,7 +1,4 @@
-use Rattle.std.proofs.Common.{sym, subst}
 use Rattle.nx_recover.specs.Aside.{open_of}
-use Rattle.nx_recover.specs.States.{IsOpen}
-use Rattle.nx_recover.specs.declared.levels.Open.{Open}
 use Rattle.nx_recover.proofs.Tops.{leaves_one}
 use Rattle.nx_recover.proofs.event.take_leave.Goals as goal
 

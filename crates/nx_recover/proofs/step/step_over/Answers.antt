@@ -30,4 +30,4 @@ returns-clause-faults g c =
     let m = g.M.Matcher in
     let s = c.args.state.now in
     let all : c.as_slice.result.now ≡ items_of_token s.events c.args.token.now = from_empty c.as_slice.ensures c.in_ok-declared.ensures.items c.clear.ensures in
-    given (Some (m.language c.args.matcher.now)) (over (m.means c.args.matcher.now) s) c.args.token.now c.args.faults.now c.take_items.new.faults c.install.new.faults c.as_slice.result.now c.requires.place c.in_ok-install.ensures.faults (from_empty refl c.in_ok-change.ensures.faults c.new.ensures) all
+    given (Some (m.language c.args.matcher.now)) (over (m.means c.args.matcher.now) s) c.args.token.now c.args.faults.now c.take_items.new.faults c.install.new.faults c.as_slice.result.now c.requires.place c.in_ok-install.ensures.faults (from_empty refl c.in_ok-change.ensures.faults c.new-more.ensures) all
