@@ -1,34 +1,58 @@
 use nx_text::{Text, TextFault};
-use std::test::Fail;
+use std::alloc::Global;
+
+fn edits(text: &mut Text) -> bool {
+    text.insert(0, "é").is_ok() && text.insert(2, "xy").is_ok() && text.delete(3, 4).is_ok()
+}
+
+/// Whether a copy of the text's front is this one.
+fn holds(text: &Text, front: &str) -> bool {
+    let to = front.len();
+    if !text.is_place(0) || !text.is_place(to) {
+        return false;
+    }
+    match text.copy_range(0, to) {
+        Ok(whole) => whole.as_slice() == front.as_bytes(),
+        Err(_) => false,
+    }
+}
+
+fn has_places(text: &Text) -> bool {
+    !text.is_place(1) && text.is_place(2) && !text.is_place(4)
+}
+
+fn has_bytes(text: &Text) -> bool {
+    text.byte_at(2) == Some(b'x') && text.byte_at(3).is_none()
+}
+
+fn has_chars(text: &Text) -> bool {
+    text.char_at(0) == Some('é') && text.char_at(1).is_none() && text.char_at(3).is_none()
+}
+
+/// Whether an edit is refused for this place, in a text of three bytes.
+fn is_refused(answer: Result<(), TextFault>, place: usize) -> bool {
+    match answer {
+        Err(TextFault::BadPosition { at, len }) => at == place && len == 3,
+        _ => false,
+    }
+}
+
+fn refuses(text: &mut Text) -> bool {
+    is_refused(text.insert(1, "x"), 1)
+        && is_refused(text.delete(3, 2), 3)
+        && is_refused(text.delete(0, 1), 1)
+}
+
+fn reads(text: &Text) -> bool {
+    text.len() == 3 && holds(text, "éx") && has_places(text) && has_bytes(text) && has_chars(text)
+}
+
+fn edits_and_answers(alloc: Global) -> bool {
+    let mut text = Text::new(alloc);
+    edits(&mut text) && reads(&text) && refuses(&mut text) && text.len() == 3
+}
 
 #[test]
-fn edits_and_reads(rt: HostRuntime) -> Result<(), Fail> {
-    let mut text = Text::new(rt.alloc());
-    text.insert(0, "é")?;
-    text.insert(2, "xy")?;
-    text.delete(3, 4)?;
-    let whole = text.copy_range(0, 3).ok().ok_or("no memory")?;
-    assert_eq!(rt; whole.as_slice(), "éx".as_bytes());
-    assert_eq!(rt; text.len(), 3);
-    assert_eq!(rt;
-        (text.is_place(1), text.is_place(2), text.is_place(4)),
-        (false, true, false)
-    );
-    assert_eq!(rt; (text.byte_at(2), text.byte_at(3)), (Some(b'x'), None));
-    assert_eq!(rt;
-        (text.char_at(0), text.char_at(1), text.char_at(3)),
-        (Some('é'), None, None)
-    );
-    for (refused, at) in [
-        (text.insert(1, "x"), 1),
-        (text.delete(3, 2), 3),
-        (text.delete(0, 1), 1),
-    ] {
-        match refused {
-            Err(TextFault::BadPosition { at: place, len }) => assert_eq!(rt; (place, len), (at, 3)),
-            _ => panic!(rt; "an edit at {at}"),
-        }
-    }
-    assert_eq!(rt; text.len(), 3);
-    Ok(())
+fn edits_and_reads(rt: HostRuntime) {
+    assert!(rt; edits_and_answers(rt.alloc()));
 }
