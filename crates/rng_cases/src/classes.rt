@@ -9,146 +9,275 @@ use rng_core::building::{
 use rng_core::grammar::{Def, Pat};
 use rng_core::name_class::{Bearer, NameClass};
 use rng_core::overlap::overlap;
-use std::alloc::{AllocError, Global};
-use std::test::Fail;
+use std::alloc::Global;
 
-fn bytes_of(alloc: Global, text: &str) -> Result<Bytes, AllocError> {
+fn bytes_of(alloc: Global, text: &str) -> Result<Bytes, NoMemory> {
     Ok(Bytes::from_vec(Vec::from_slice(alloc, text.as_bytes())?))
 }
 
-fn name_of(alloc: Global, ns: &str, local: &str) -> Result<Name, AllocError> {
+fn name_of(alloc: Global, ns: &str, local: &str) -> Result<Name, NoMemory> {
     Ok(Name {
         ns: bytes_of(alloc, ns)?,
         local: bytes_of(alloc, local)?,
     })
 }
 
-fn one(alloc: Global, ns: &str, local: &str) -> Result<NameClass, AllocError> {
+fn one(alloc: Global, ns: &str, local: &str) -> Result<NameClass, NoMemory> {
     Ok(NameClass::Name(name_of(alloc, ns, local)?))
 }
 
-fn all_in(alloc: Global, ns: &str) -> Result<NameClass, AllocError> {
+fn all_in(alloc: Global, ns: &str) -> Result<NameClass, NoMemory> {
     Ok(NameClass::NsName(bytes_of(alloc, ns)?))
 }
 
-fn without(alloc: Global, class: NameClass, taken: NameClass) -> Result<NameClass, AllocError> {
-    Ok(NameClass::Except(Box::new(alloc, class)?, Box::new(alloc, taken)?))
+fn without(alloc: Global, class: NameClass, taken: NameClass) -> Result<NameClass, NoMemory> {
+    let class = Box::new(alloc, class)?;
+    Ok(NameClass::Except(class, Box::new(alloc, taken)?))
 }
 
-#[test]
-fn classes_have_names(rt: HostRuntime) -> Result<(), Fail> {
-    let class = without(rt.alloc(), NameClass::AnyName, all_in(rt.alloc(), "u")?)?;
-    for (ns, local, has) in [
-        ("", "a", true),
-        ("v", "a", true),
-        ("u", "a", false),
-        ("v", "1a", false),
-        ("v", "a:b", false),
-        ("http://www.w3.org/2000/xmlns/", "a", false),
-        ("\u{1}", "a", false),
-    ] {
-        let name = name_of(rt.alloc(), ns, local)?;
-        assert_eq!(rt; class.has(&name), has, "{ns} {local}");
+// Any name outside of `u`.
+fn outside_u(alloc: Global) -> Result<NameClass, NoMemory> {
+    without(alloc, NameClass::AnyName, all_in(alloc, "u")?)
+}
+
+// Any name in `u` but `a`.
+fn in_u_but_a(alloc: Global) -> Result<NameClass, NoMemory> {
+    let in_u = all_in(alloc, "u")?;
+    without(alloc, in_u, one(alloc, "u", "a")?)
+}
+
+// The class that the tables write so; any other word is the local part of a name in no namespace.
+fn class_of(alloc: Global, word: &str) -> Result<NameClass, NoMemory> {
+    match word {
+        "any" => Ok(NameClass::AnyName),
+        "bare" => all_in(alloc, ""),
+        "in u" => all_in(alloc, "u"),
+        "outside u" => outside_u(alloc),
+        "in u but a" => in_u_but_a(alloc),
+        "u:a" => one(alloc, "u", "a"),
+        "u:xmlns" => one(alloc, "u", "xmlns"),
+        _ => one(alloc, "", word),
     }
-    Ok(())
+}
+
+// The two parts of a row.
+fn cut(row: &str) -> (&str, &str) {
+    row.split_once("|").unwrap_or((row, ""))
+}
+
+// Whether an element, or an attribute, of the name is of the class, as a word.
+fn had(class: &NameClass, name: &Name, bearer: &str) -> &'static str {
+    let has = if bearer == "attribute" {
+        class.has_attribute(name)
+    } else {
+        class.has(name)
+    };
+    if has { "has" } else { "hasn't" }
+}
+
+// What a class says of the element or attribute of a name.
+fn told_of_name(alloc: Global, class: &str, ns: &str, local: &str, bearer: &str) -> &'static str {
+    match (class_of(alloc, class), name_of(alloc, ns, local)) {
+        (Ok(class), Ok(name)) => had(&class, &name, bearer),
+        _ => "no memory",
+    }
+}
+
+// What a class says, the class, and an element or an attribute by its namespace and its local part.
+const NAMES: &str = "\
+has|outside u|element||a
+has|outside u|element|v|a
+hasn't|outside u|element|u|a
+hasn't|outside u|element|v|1a
+hasn't|outside u|element|v|a:b
+hasn't|outside u|element|http://www.w3.org/2000/xmlns/|a
+hasn't|outside u|element|\u{1}|a
+has|any|element||xmlns
+hasn't|any|attribute||xmlns
+has|any|attribute|u|xmlns";
+
+fn is_told_of_name(alloc: Global, row: &str) -> bool {
+    let (wanted, rest) = cut(row);
+    let (class, rest) = cut(rest);
+    let (bearer, name) = cut(rest);
+    let (ns, local) = cut(name);
+    told_of_name(alloc, class, ns, local, bearer) == wanted
 }
 
 #[test]
-fn classes_overlap(rt: HostRuntime) -> Result<(), Fail> {
-    let any = NameClass::AnyName;
-    let in_u = all_in(rt.alloc(), "u")?;
-    let a_in_u = one(rt.alloc(), "u", "a")?;
-    let outside_u = without(rt.alloc(), NameClass::AnyName, all_in(rt.alloc(), "u")?)?;
-    let u_but_a = without(
-        rt.alloc(),
-        all_in(rt.alloc(), "u")?,
-        one(rt.alloc(), "u", "a")?,
-    )?;
-    assert_eq!(rt; overlap(rt.alloc(), &any, &a_in_u), Ok(true));
-    assert_eq!(rt; overlap(rt.alloc(), &in_u, &a_in_u), Ok(true));
-    assert_eq!(rt;
-        overlap(rt.alloc(), &outside_u, &in_u),
-        Ok::<bool, NoMemory>(false)
-    );
-    assert_eq!(rt; overlap(rt.alloc(), &u_but_a, &a_in_u), Ok(false));
-    assert_eq!(rt; overlap(rt.alloc(), &u_but_a, &in_u), Ok(true));
-    assert_eq!(rt; overlap(rt.alloc(), &outside_u, &u_but_a), Ok(false));
-    Ok(())
+fn classes_have_names(rt: HostRuntime) {
+    for row in NAMES.split("\n") {
+        assert!(rt; is_told_of_name(rt.alloc(), row), "{row}");
+    }
+}
+
+// Whether two classes have a name in common, or one of an element or an attribute, as a word.
+fn met(alloc: Global, a: &NameClass, b: &NameClass, bearer: &str) -> &'static str {
+    let has_common = match bearer {
+        "element" => Ok(a.overlaps(alloc, b, Bearer::Element)),
+        "attribute" => Ok(a.overlaps(alloc, b, Bearer::Attribute)),
+        _ => overlap(alloc, a, b),
+    };
+    match has_common {
+        Ok(true) => "overlap",
+        Ok(false) => "apart",
+        Err(NoMemory) => "no memory",
+    }
+}
+
+fn meet(alloc: Global, a: &NameClass, b: &NameClass, wanted: &str) -> bool {
+    met(alloc, a, b, "") == wanted
+}
+
+fn told_of_two(alloc: Global, a: &str, b: &str, bearer: &str) -> &'static str {
+    match (class_of(alloc, a), class_of(alloc, b)) {
+        (Ok(a), Ok(b)) => met(alloc, &a, &b, bearer),
+        _ => "no memory",
+    }
+}
+
+// What is said of two classes, and of which names: of elements, of attributes, or of any.
+const PAIRS: &str = "\
+overlap|any|u:a|
+overlap|in u|u:a|
+apart|outside u|in u|
+apart|in u but a|u:a|
+overlap|in u but a|in u|
+apart|outside u|in u but a|
+overlap|xmlns|xmlns|element
+apart|xmlns|xmlns|attribute
+apart|any|xmlns|attribute
+overlap|u:xmlns|u:xmlns|attribute
+overlap|bare|bare|attribute";
+
+fn is_told_of_two(alloc: Global, row: &str) -> bool {
+    let (wanted, rest) = cut(row);
+    let (a, rest) = cut(rest);
+    let (b, bearer) = cut(rest);
+    told_of_two(alloc, a, b, bearer) == wanted
 }
 
 #[test]
-fn no_attribute_is_named_xmlns(rt: HostRuntime) -> Result<(), Fail> {
-    let any = NameClass::AnyName;
-    let xmlns = one(rt.alloc(), "", "xmlns")?;
-    let elsewhere = one(rt.alloc(), "u", "xmlns")?;
-    let bare = all_in(rt.alloc(), "")?;
-    let name = name_of(rt.alloc(), "", "xmlns")?;
-    assert!(rt; any.has(&name) && !any.has_attribute(&name));
-    assert!(rt; any.has_attribute(&name_of(rt.alloc(), "u", "xmlns")?));
-    assert!(rt; xmlns.overlaps(rt.alloc(), &xmlns, Bearer::Element));
-    assert!(rt; !xmlns.overlaps(rt.alloc(), &xmlns, Bearer::Attribute));
-    assert!(rt; !any.overlaps(rt.alloc(), &xmlns, Bearer::Attribute));
-    assert!(rt; elsewhere.overlaps(rt.alloc(), &elsewhere, Bearer::Attribute));
-    assert!(rt; bare.overlaps(rt.alloc(), &bare, Bearer::Attribute));
-    Ok(())
+fn classes_overlap(rt: HostRuntime) {
+    for row in PAIRS.split("\n") {
+        assert!(rt; is_told_of_two(rt.alloc(), row), "{row}");
+    }
+}
+
+fn numbered(alloc: Global, prefix: &str, number: u32) -> Result<NameClass, NoMemory> {
+    let local = format!(in alloc; "{prefix}{number}")?;
+    one(alloc, "u", local.as_str())
+}
+
+fn either(alloc: Global, first: NameClass, second: NameClass) -> Result<NameClass, NoMemory> {
+    let first = Box::new(alloc, first)?;
+    Ok(NameClass::Choice(first, Box::new(alloc, second)?))
 }
 
 // A choice of so many names, which nests to the left.
-fn many(alloc: Global, prefix: &str, count: u32) -> Result<NameClass, Fail> {
+fn many(alloc: Global, prefix: &str, count: u32) -> Result<NameClass, NoMemory> {
     let mut class = one(alloc, "u", prefix)?;
     for i in 0..count {
-        let local = format!(in alloc; "{prefix}{i}")?;
-        let last = one(alloc, "u", local.as_str())?;
-        class = NameClass::Choice(Box::new(alloc, class)?, Box::new(alloc, last)?);
+        class = either(alloc, class, numbered(alloc, prefix, i)?)?;
     }
     Ok(class)
 }
 
-#[test]
-fn wide_choices_are_walked(rt: HostRuntime) -> Result<(), Fail> {
-    let class = many(rt.alloc(), "a", 100_000)?.copy(rt.alloc())?;
-    let others = without(
-        rt.alloc(),
-        all_in(rt.alloc(), "u")?,
-        class.copy(rt.alloc())?,
-    )?;
-    let apart = many(rt.alloc(), "b", 100_000)?;
-    let few = many(rt.alloc(), "b", 50)?;
-    assert!(rt; class.same(&class) && !class.same(&apart));
-    assert!(rt; class.has(&name_of(rt.alloc(), "u", "a0")?));
-    assert!(rt; !class.has(&name_of(rt.alloc(), "u", "b")?));
-    assert_eq!(rt; overlap(rt.alloc(), &class, &apart), Ok(false));
-    assert_eq!(rt; overlap(rt.alloc(), &apart, &class), Ok(false));
-    assert_eq!(rt; overlap(rt.alloc(), &few, &others), Ok(true));
-    assert_eq!(rt; overlap(rt.alloc(), &class, &class), Ok(true));
-    Ok(())
+// Whether a class has a name in `u`, or hasn't.
+fn is_had(alloc: Global, class: &NameClass, local: &str, wanted: &str) -> bool {
+    match name_of(alloc, "u", local) {
+        Ok(name) => had(class, &name, "element") == wanted,
+        Err(NoMemory) => false,
+    }
+}
+
+// Whether a class differs from another, and has no name in common with it.
+fn is_apart(alloc: Global, class: &NameClass, other: &NameClass) -> bool {
+    !class.same(other) && meet(alloc, class, other, "apart") && meet(alloc, other, class, "apart")
+}
+
+// All in `u` but the class.
+fn others_in_u(alloc: Global, class: &NameClass) -> Result<NameClass, NoMemory> {
+    let in_u = all_in(alloc, "u")?;
+    without(alloc, in_u, class.copy(alloc)?)
+}
+
+// Whether those have a name of `b` and the 50 from `b0` on.
+fn leaves_others(alloc: Global, class: &NameClass) -> bool {
+    match (many(alloc, "b", 50), others_in_u(alloc, class)) {
+        (Ok(few), Ok(others)) => meet(alloc, &few, &others, "overlap"),
+        _ => false,
+    }
+}
+
+// Whether two wide classes are told apart, and each from itself.
+fn is_walked(alloc: Global, class: &NameClass, other: &NameClass) -> bool {
+    class.same(class)
+        && is_had(alloc, class, "a0", "has")
+        && is_had(alloc, class, "b", "hasn't")
+        && is_apart(alloc, class, other)
+        && leaves_others(alloc, class)
+        && meet(alloc, class, class, "overlap")
+}
+
+// A copy of such a choice.
+fn copy_of_many(alloc: Global, prefix: &str, count: u32) -> Result<NameClass, NoMemory> {
+    many(alloc, prefix, count)?.copy(alloc)
+}
+
+fn are_walked(alloc: Global) -> bool {
+    match (copy_of_many(alloc, "a", 100_000), many(alloc, "b", 100_000)) {
+        (Ok(class), Ok(other)) => is_walked(alloc, &class, &other),
+        _ => false,
+    }
 }
 
 #[test]
-fn copies_patterns(rt: HostRuntime) -> Result<(), Fail> {
-    let body = list_of(rt.alloc(), Pat::Text)?;
-    let attribute = attribute_of(rt.alloc(), one(rt.alloc(), "", "a")?, body)?;
-    let group = group_of(
-        rt.alloc(),
-        attribute,
-        one_or_more_of(rt.alloc(), Pat::Ref(0))?,
-    )?;
-    let mixed = interleave_of(
-        rt.alloc(),
-        Pat::Text,
-        choice_of(rt.alloc(), Pat::Empty, group)?,
-    )?;
+fn wide_choices_are_walked(rt: HostRuntime) {
+    assert!(rt; are_walked(rt.alloc()));
+}
+
+// attribute a { list { text } }
+fn listed(alloc: Global) -> Result<Pat, NoMemory> {
+    let class = one(alloc, "", "a")?;
+    attribute_of(alloc, class, list_of(alloc, Pat::Text)?)
+}
+
+// attribute a { list { text } }, element 0+
+fn attribute_and_elements(alloc: Global) -> Result<Pat, NoMemory> {
+    let attribute = listed(alloc)?;
+    group_of(alloc, attribute, one_or_more_of(alloc, Pat::Ref(0))?)
+}
+
+// text & (empty | (attribute a { list { text } }, element 0+))
+fn mixed(alloc: Global) -> Result<Pat, NoMemory> {
+    let either = choice_of(alloc, Pat::Empty, attribute_and_elements(alloc)?)?;
+    interleave_of(alloc, Pat::Text, either)
+}
+
+// The copy of element * { that }
+fn copied(alloc: Global) -> Result<Def, NoMemory> {
     let definition = Def {
         class: NameClass::AnyName,
-        content: mixed,
+        content: mixed(alloc)?,
     };
-    let copied = definition.copy(rt.alloc())?;
-    assert!(rt; matches!(&copied.content, Pat::Interleave(_, _)));
-    Ok(())
+    definition.copy(alloc)
+}
+
+fn is_interleave(definition: Result<Def, NoMemory>) -> bool {
+    match definition {
+        Ok(copied) => matches!(&copied.content, Pat::Interleave(_, _)),
+        Err(NoMemory) => false,
+    }
+}
+
+#[test]
+fn copies_patterns(rt: HostRuntime) {
+    assert!(rt; is_interleave(copied(rt.alloc())));
 }
 
 // A path of so many nodes, by first sides or by second sides.
-fn deep(alloc: Global, count: u32, second: bool) -> Result<Pat, Fail> {
+fn deep(alloc: Global, count: u32, second: bool) -> Result<Pat, NoMemory> {
     let mut pattern = Pat::Text;
     for _ in 0..count {
         pattern = if second {
@@ -160,20 +289,36 @@ fn deep(alloc: Global, count: u32, second: bool) -> Result<Pat, Fail> {
     Ok(pattern)
 }
 
-#[test]
-fn copies_deep_patterns(rt: HostRuntime) -> Result<(), Fail> {
-    for second in [false, true] {
-        let pattern = deep(rt.alloc(), 7_999, second)?;
-        let copied = pattern.copy(rt.alloc())?;
-        assert!(rt; pattern.same(&copied));
-        assert!(rt; !pattern.same(&deep(rt.alloc(), 7_998, second)?));
+// Whether the copy of a path is the same, and not the same as another one.
+fn differs(alloc: Global, pattern: &Pat, other: &Pat) -> bool {
+    match pattern.copy(alloc) {
+        Ok(copied) => pattern.same(&copied) && !pattern.same(other),
+        Err(NoMemory) => false,
     }
-    Ok(())
+}
+
+fn is_copied(alloc: Global, second: bool) -> bool {
+    match (deep(alloc, 7_999, second), deep(alloc, 7_998, second)) {
+        (Ok(pattern), Ok(shorter)) => differs(alloc, &pattern, &shorter),
+        _ => false,
+    }
 }
 
 #[test]
-fn long_patterns_are_let_go(rt: HostRuntime) -> Result<(), Fail> {
-    let pattern = deep(rt.alloc(), 300_000, true)?;
-    assert!(rt; matches!(&pattern, Pat::Choice(_, _)));
-    Ok(())
+fn copies_deep_patterns(rt: HostRuntime) {
+    assert!(rt; is_copied(rt.alloc(), false));
+    assert!(rt; is_copied(rt.alloc(), true));
+}
+
+// Whether a path is built; it is let go at the end.
+fn is_choice(pattern: Result<Pat, NoMemory>) -> bool {
+    match pattern {
+        Ok(pattern) => matches!(&pattern, Pat::Choice(_, _)),
+        Err(NoMemory) => false,
+    }
+}
+
+#[test]
+fn long_patterns_are_let_go(rt: HostRuntime) {
+    assert!(rt; is_choice(deep(rt.alloc(), 300_000, true)));
 }

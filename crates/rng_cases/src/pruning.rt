@@ -1,9 +1,11 @@
 //! Schemas, built by hand in the simple form, that are pruned, and what is asked of what is left.
 
-ghost use Rattle.std.specs.Prelude.{IsTrue};
+ghost use Rattle.std.specs.Prelude.{IsTrue, IfOk};
 ghost use Rattle.rng_types.specs.WellMade.{is_well_made};
+ghost use Rattle.rng_core.specs.Soundness.{IsSound};
 
 use crate::sound::is_sound;
+use nx_base::memory::NoMemory;
 use nx_base::name::{Name, Names};
 use nx_base::sequence::{Bytes, TryCopy};
 use rng_core::building::{attribute_of, choice_of, group_of, list_of, one_or_more_of};
@@ -16,271 +18,417 @@ use rng_live::prune::prune;
 use rng_live::schema::Schema;
 use rng_restrict::check::check;
 use rng_types::datatype::{Datatype, Excepts, Param};
+use rng_types::fault::TypeFault;
 use std::alloc::Global;
-use std::test::Fail;
 
 const XSD: &str = "http://www.w3.org/2001/XMLSchema-datatypes";
 
+fn bytes(alloc: Global, text: &str) -> Result<Bytes, NoMemory> {
+    Ok(Bytes::from_vec(Vec::from_slice(alloc, text.as_bytes())?))
+}
+
+fn name_of(alloc: Global, ns: &str, local: &str) -> Result<Name, NoMemory> {
+    Ok(Name {
+        ns: bytes(alloc, ns)?,
+        local: bytes(alloc, local)?,
+    })
+}
+
+fn qualified(alloc: Global, ns: &str, local: &str) -> Result<NameClass, NoMemory> {
+    Ok(NameClass::Name(name_of(alloc, ns, local)?))
+}
+
 // A name in no namespace.
-fn named(alloc: Global, local: &str) -> Result<NameClass, Fail> {
-    Ok(NameClass::Name(Name {
-        ns: Bytes::new(alloc),
-        local: Bytes::from_vec(Vec::from_slice(alloc, local.as_bytes())?),
-    }))
+fn named(alloc: Global, local: &str) -> Result<NameClass, NoMemory> {
+    qualified(alloc, "", local)
 }
 
 // Adds element NAME { content }.
-fn add(alloc: Global, defs: &mut Defs, local: &str, content: Pat) -> Result<(), Fail> {
+fn add(alloc: Global, defs: &mut Defs, local: &str, content: Pat) -> Result<(), NoMemory> {
     let class = named(alloc, local)?;
     defs.push(Def { class, content })?;
     Ok(())
 }
 
-// Any number of parts that match the body.
-fn any_number_of(alloc: Global, body: Pat) -> Result<Pat, Fail> {
-    Ok(choice_of(alloc, one_or_more_of(alloc, body)?, Pat::Empty)?)
+// The body, or nothing.
+fn maybe(alloc: Global, body: Pat) -> Result<Pat, NoMemory> {
+    choice_of(alloc, body, Pat::Empty)
 }
 
-// What is left of a grammar, whose types are the given one; none where nothing is valid.
-fn pruned(rt: &HostRuntime, known: &Datatype, grammar: Grammar) -> Result<Option<Schema>, Fail>
+// Any number of parts that match the body.
+fn any_number_of(alloc: Global, body: Pat) -> Result<Pat, NoMemory> {
+    maybe(alloc, one_or_more_of(alloc, body)?)
+}
+
+// What is left of a grammar.
+#[derive(Drop)]
+enum Remains {
+    Some(Schema),
+    // Nothing is valid.
+    Nothing,
+    // There was no memory to prune it.
+    NoMemory,
+    // The grammar isn't one that can be pruned, or there was no memory to make it.
+    Refused,
+}
+
+fn pruned(alloc: Global, grammar: Grammar) -> Remains
+    requires { IsSound grammar }
+{
+    if let Err(_) = check(alloc, &grammar) {
+        return Remains::Refused;
+    }
+    match prune(alloc, grammar) {
+        Ok(schema) => Remains::Some(schema),
+        Err(LiveFault::NothingValid) => Remains::Nothing,
+        Err(LiveFault::NoMemory) => Remains::NoMemory,
+    }
+}
+
+// What is left of the grammar that begins with the first of these definitions, and whose types are the given one.
+fn left(alloc: Global, known: &Datatype, defs: Defs) -> Remains
     requires { IsTrue (is_well_made known.now) }
 {
-    if !is_sound(known, &grammar) {
-        return Err(Fail::new("not in order"));
-    }
-    check(rt.alloc(), &grammar)?;
-    match prune(rt.alloc(), grammar) {
-        Ok(schema) => Ok(Some(schema)),
-        Err(LiveFault::NothingValid) => Ok(None),
-        Err(fault) => Err(Fail::from(fault)),
+    let start = Pat::Ref(0);
+    let grammar = Grammar { start, defs };
+    if is_sound(known, &grammar) {
+        pruned(alloc, grammar)
+    } else {
+        Remains::Refused
     }
 }
 
-// What is left of a grammar that is valid for something and has no other types than the built-in token.
-fn live(rt: &HostRuntime, start: Pat, defs: Defs) -> Result<Schema, Fail> {
-    let token = Datatype::named(rt.alloc(), "", "token", &[])?;
-    match pruned(rt, &token, Grammar { start, defs })? {
-        Some(schema) => Ok(schema),
-        None => Err(Fail::new("nothing is valid")),
+// What is left of definitions that have no other types than the built-in token.
+fn left_of(alloc: Global, defs: Result<Defs, NoMemory>) -> Remains {
+    match (Datatype::named(alloc, "", "token", &[]), defs) {
+        (Ok(token), Ok(defs)) => left(alloc, &token, defs),
+        _ => Remains::Refused,
     }
 }
 
-// The names, each behind its namespace.
-fn line_of_names(alloc: Global, names: &Names) -> Result<String, Fail> {
+// Puts a text between two others behind a line, and answers whether it could.
+fn puts(line: &mut String, open: &str, text: &Bytes, close: &str) -> bool {
+    match str::from_utf8(text.as_slice()) {
+        Ok(text) => write!(line, "{open}{text}{close}").is_ok(),
+        Err(_) => false,
+    }
+}
+
+// Whether the names are these, each behind its namespace.
+fn are_names(alloc: Global, names: Result<Names, NoMemory>, wanted: &str) -> bool {
     let mut line = String::new(alloc);
-    for name in names.as_slice() {
-        line.push_str("{")?;
-        line.push_str(str::from_utf8(name.ns.as_slice())?)?;
-        line.push_str("}")?;
-        line.push_str(str::from_utf8(name.local.as_slice())?)?;
+    match names {
+        Ok(names) => puts_names(&mut line, names.as_slice()) && line.as_str() == wanted,
+        Err(NoMemory) => false,
     }
-    Ok(line)
 }
 
-// The texts, each in brackets.
-fn line_of_texts(alloc: Global, texts: &Values) -> Result<String, Fail> {
+fn puts_names(line: &mut String, names: &[Name]) -> bool {
+    for name in names {
+        if !puts(line, "{", &name.ns, "}") || !puts(line, "", &name.local, "") {
+            return false;
+        }
+    }
+    true
+}
+
+// Whether the texts are these, each in brackets.
+fn are_texts(alloc: Global, texts: Result<Values, NoMemory>, wanted: &str) -> bool {
     let mut line = String::new(alloc);
-    for text in texts.as_slice() {
-        line.push_str("[")?;
-        line.push_str(str::from_utf8(text.as_slice())?)?;
-        line.push_str("]")?;
+    match texts {
+        Ok(texts) => puts_texts(&mut line, texts.as_slice()) && line.as_str() == wanted,
+        Err(NoMemory) => false,
     }
-    Ok(line)
 }
 
-// The names that a schema mentions, its namespaces, and its literals.
-fn names_of(alloc: Global, schema: &Schema) -> Result<String, Fail> {
-    line_of_names(alloc, &schema.mentioned(alloc)?)
+fn puts_texts(line: &mut String, texts: &[Bytes]) -> bool {
+    for text in texts {
+        if !puts(line, "[", text, "]") {
+            return false;
+        }
+    }
+    true
 }
 
-fn namespaces_of(alloc: Global, schema: &Schema) -> Result<String, Fail> {
-    line_of_names(alloc, &schema.namespaces(alloc)?)
+// Whether a schema mentions these names.
+fn mentions(alloc: Global, left: &Remains, names: &str) -> bool {
+    match left {
+        Remains::Some(schema) => are_names(alloc, schema.mentioned(alloc), names),
+        _ => false,
+    }
 }
 
-fn values_of(alloc: Global, schema: &Schema) -> Result<String, Fail> {
-    line_of_texts(alloc, &schema.values(alloc)?)
+// Whether a schema has these namespaces.
+fn has_namespaces(alloc: Global, left: &Remains, namespaces: &str) -> bool {
+    match left {
+        Remains::Some(schema) => are_names(alloc, schema.namespaces(alloc), namespaces),
+        _ => false,
+    }
+}
+
+// Whether a schema has these literals.
+fn has_values(alloc: Global, left: &Remains, values: &str) -> bool {
+    match left {
+        Remains::Some(schema) => are_texts(alloc, schema.values(alloc), values),
+        _ => false,
+    }
+}
+
+// Whether a schema knows an element of a name in no namespace, or doesn't.
+fn knows(alloc: Global, left: &Remains, local: &str, wanted: bool) -> bool {
+    match (left, name_of(alloc, "", local)) {
+        (Remains::Some(schema), Ok(name)) => schema.knows(&name) == wanted,
+        _ => false,
+    }
+}
+
+// attribute id { xsd:NCName }, element title { text }
+fn head(alloc: Global, identifier: &Datatype) -> Result<Pat, NoMemory> {
+    let identifiers = Pat::Typed(identifier.copy()?, Excepts::new(alloc));
+    let id = attribute_of(alloc, named(alloc, "id")?, identifiers)?;
+    group_of(alloc, id, Pat::Ref(1))
+}
+
+// The same, element para*
+fn head_and_paras(alloc: Global, identifier: &Datatype) -> Result<Pat, NoMemory> {
+    let head = head(alloc, identifier)?;
+    group_of(alloc, head, any_number_of(alloc, Pat::Ref(2))?)
+}
+
+// (text | element em)*
+fn mixed(alloc: Global) -> Result<Pat, NoMemory> {
+    let either = choice_of(alloc, Pat::Text, Pat::Ref(3))?;
+    any_number_of(alloc, either)
 }
 
 // element doc { attribute id { xsd:NCName }, element title { text }, element para { (text | element em { text })* }* }
-fn documents(alloc: Global, identifier: &Datatype) -> Result<Grammar, Fail> {
-    let identifiers = Pat::Typed(identifier.copy()?, Excepts::new(alloc));
-    let id = attribute_of(alloc, named(alloc, "id")?, identifiers)?;
-    let paras = any_number_of(alloc, Pat::Ref(2))?;
-    let head = group_of(alloc, id, Pat::Ref(1))?;
+fn documents(alloc: Global, identifier: &Datatype) -> Result<Defs, NoMemory> {
     let mut defs = Defs::new(alloc);
-    add(alloc, &mut defs, "doc", group_of(alloc, head, paras)?)?;
+    add(alloc, &mut defs, "doc", head_and_paras(alloc, identifier)?)?;
     add(alloc, &mut defs, "title", Pat::Text)?;
-    let mixed = any_number_of(alloc, choice_of(alloc, Pat::Text, Pat::Ref(3))?)?;
-    add(alloc, &mut defs, "para", mixed)?;
+    add(alloc, &mut defs, "para", mixed(alloc)?)?;
     add(alloc, &mut defs, "em", Pat::Text)?;
-    Ok(Grammar {
-        start: Pat::Ref(0),
-        defs,
-    })
+    Ok(defs)
+}
+
+// What is left of these.
+fn left_of_documents(alloc: Global) -> Remains {
+    let Ok(identifier) = Datatype::named(alloc, XSD, "NCName", &[]) else {
+        return Remains::Refused;
+    };
+    match documents(alloc, &identifier) {
+        Ok(defs) => left(alloc, &identifier, defs),
+        Err(NoMemory) => Remains::Refused,
+    }
+}
+
+fn lists_documents(alloc: Global) -> bool {
+    let left = left_of_documents(alloc);
+    mentions(alloc, &left, "{}doc{}em{}id{}para{}title")
+        && has_namespaces(alloc, &left, "{}")
+        && has_values(alloc, &left, "")
 }
 
 #[test]
-fn lists_what_a_schema_mentions(rt: HostRuntime) -> Result<(), Fail> {
-    let identifier = Datatype::named(rt.alloc(), XSD, "NCName", &[])?;
-    let grammar = documents(rt.alloc(), &identifier)?;
-    let Some(schema) = pruned(&rt, &identifier, grammar)? else {
-        return Err(Fail::new("nothing is valid"));
-    };
-    assert_eq!(rt;
-        names_of(rt.alloc(), &schema)?.as_str(),
-        "{}doc{}em{}id{}para{}title"
-    );
-    assert_eq!(rt; namespaces_of(rt.alloc(), &schema)?.as_str(), "{}");
-    assert_eq!(rt; values_of(rt.alloc(), &schema)?.as_str(), "");
-    Ok(())
+fn lists_what_a_schema_mentions(rt: HostRuntime) {
+    assert!(rt; lists_documents(rt.alloc()));
 }
 
 // element a { b? }, where b is element b { b }
+fn dead_element(alloc: Global) -> Result<Defs, NoMemory> {
+    let mut defs = Defs::new(alloc);
+    add(alloc, &mut defs, "a", maybe(alloc, Pat::Ref(1))?)?;
+    add(alloc, &mut defs, "b", Pat::Ref(1))?;
+    Ok(defs)
+}
+
+fn lacks_dead_element(alloc: Global) -> bool {
+    let left = left_of(alloc, dead_element(alloc));
+    knows(alloc, &left, "a", true)
+        && knows(alloc, &left, "b", false)
+        && mentions(alloc, &left, "{}a")
+}
+
 #[test]
-fn knows_no_dead_element(rt: HostRuntime) -> Result<(), Fail> {
-    let mut defs = Defs::new(rt.alloc());
-    let maybe = choice_of(rt.alloc(), Pat::Ref(1), Pat::Empty)?;
-    add(rt.alloc(), &mut defs, "a", maybe)?;
-    add(rt.alloc(), &mut defs, "b", Pat::Ref(1))?;
-    let schema = live(&rt, Pat::Ref(0), defs)?;
-    assert!(rt; knows(rt.alloc(), &schema, "a")?);
-    assert!(rt; !knows(rt.alloc(), &schema, "b")?);
-    assert_eq!(rt; names_of(rt.alloc(), &schema)?.as_str(), "{}a");
-    Ok(())
+fn knows_no_dead_element(rt: HostRuntime) {
+    assert!(rt; lacks_dead_element(rt.alloc()));
 }
 
-// Whether an element of a name in no namespace is one of the schema's.
-fn knows(alloc: Global, schema: &Schema, local: &str) -> Result<bool, Fail> {
-    let name = Name {
-        ns: Bytes::new(alloc),
-        local: Bytes::from_vec(Vec::from_slice(alloc, local.as_bytes())?),
-    };
-    Ok(schema.knows(&name))
-}
-
-// The param of a type.
-fn param(alloc: Global, name: &str, value: &str) -> Result<Param, Fail> {
+// A param of a type.
+fn param(alloc: Global, name: &str, value: &str) -> Result<Param, NoMemory> {
     Ok(Param {
-        name: Bytes::from_vec(Vec::from_slice(alloc, name.as_bytes())?),
-        value: Bytes::from_vec(Vec::from_slice(alloc, value.as_bytes())?),
+        name: bytes(alloc, name)?,
+        value: bytes(alloc, value)?,
     })
 }
 
-// element n { xsd:int { minInclusive = "5" maxInclusive = "4" } }
-#[test]
-fn refuses_what_nothing_is_valid_for(rt: HostRuntime) -> Result<(), Fail> {
-    let least = param(rt.alloc(), "minInclusive", "5")?;
-    let most = param(rt.alloc(), "maxInclusive", "4")?;
-    let none = Datatype::named(rt.alloc(), XSD, "int", &[least, most])?;
-    let content = Pat::Typed(none.copy()?, Excepts::new(rt.alloc()));
-    let mut defs = Defs::new(rt.alloc());
-    add(rt.alloc(), &mut defs, "n", content)?;
-    let grammar = Grammar {
-        start: Pat::Ref(0),
-        defs,
+// xsd:int { minInclusive = "5" maxInclusive = "4" }
+fn no_number(alloc: Global) -> Result<Datatype, TypeFault>
+    ensures { IfOk result (λ made. IsTrue (is_well_made made)) }
+{
+    let least = param(alloc, "minInclusive", "5")?;
+    let most = param(alloc, "maxInclusive", "4")?;
+    Datatype::named(alloc, XSD, "int", &[least, most])
+}
+
+// element n { of the type }
+fn element_of_type(alloc: Global, datatype: &Datatype) -> Result<Defs, NoMemory> {
+    let mut defs = Defs::new(alloc);
+    let content = Pat::Typed(datatype.copy()?, Excepts::new(alloc));
+    add(alloc, &mut defs, "n", content)?;
+    Ok(defs)
+}
+
+fn left_of_no_number(alloc: Global) -> Remains {
+    let Ok(none) = no_number(alloc) else {
+        return Remains::Refused;
     };
-    assert!(rt; pruned(&rt, &none, grammar)?.is_none());
-    Ok(())
+    match element_of_type(alloc, &none) {
+        Ok(defs) => left(alloc, &none, defs),
+        Err(NoMemory) => Remains::Refused,
+    }
+}
+
+#[test]
+fn refuses_what_nothing_is_valid_for(rt: HostRuntime) {
+    assert!(rt; matches!(left_of_no_number(rt.alloc()), Remains::Nothing));
 }
 
 // element a { empty }, and element foo { empty } to which nothing refers
+fn unreached(alloc: Global) -> Result<Defs, NoMemory> {
+    let mut defs = Defs::new(alloc);
+    add(alloc, &mut defs, "a", Pat::Empty)?;
+    add(alloc, &mut defs, "foo", Pat::Empty)?;
+    Ok(defs)
+}
+
+fn lacks_unreached(alloc: Global) -> bool {
+    let left = left_of(alloc, unreached(alloc));
+    knows(alloc, &left, "a", true) && knows(alloc, &left, "foo", false)
+}
+
 #[test]
-fn drops_what_is_not_reached(rt: HostRuntime) -> Result<(), Fail> {
-    let mut defs = Defs::new(rt.alloc());
-    add(rt.alloc(), &mut defs, "a", Pat::Empty)?;
-    add(rt.alloc(), &mut defs, "foo", Pat::Empty)?;
-    let schema = live(&rt, Pat::Ref(0), defs)?;
-    assert!(rt; knows(rt.alloc(), &schema, "a")?);
-    assert!(rt; !knows(rt.alloc(), &schema, "foo")?);
-    Ok(())
+fn drops_what_is_not_reached(rt: HostRuntime) {
+    assert!(rt; lacks_unreached(rt.alloc()));
 }
 
 // The literal of the built-in token.
-fn literal(alloc: Global, text: &str) -> Result<Pat, Fail> {
-    let token = Datatype::named(alloc, "", "token", &[])?;
-    let text = Bytes::from_vec(Vec::from_slice(alloc, text.as_bytes())?);
-    Ok(Pat::Value(token, text))
-}
-
-// A name in a namespace.
-fn qualified(alloc: Global, ns: &str, local: &str) -> Result<NameClass, Fail> {
-    Ok(NameClass::Name(Name {
-        ns: Bytes::from_vec(Vec::from_slice(alloc, ns.as_bytes())?),
-        local: Bytes::from_vec(Vec::from_slice(alloc, local.as_bytes())?),
-    }))
+fn literal(alloc: Global, text: &str) -> Result<Pat, NoMemory> {
+    let Ok(token) = Datatype::named(alloc, "", "token", &[]) else {
+        return Err(NoMemory);
+    };
+    Ok(Pat::Value(token, bytes(alloc, text)?))
 }
 
 // attribute b { "y" | "x" }
-fn kinds(alloc: Global) -> Result<Pat, Fail> {
-    let either = choice_of(alloc, literal(alloc, "y")?, literal(alloc, "x")?)?;
-    Ok(attribute_of(alloc, named(alloc, "b")?, either)?)
+fn kinds(alloc: Global) -> Result<Pat, NoMemory> {
+    let first = literal(alloc, "y")?;
+    let either = choice_of(alloc, first, literal(alloc, "x")?)?;
+    attribute_of(alloc, named(alloc, "b")?, either)
 }
 
 // list { first, second }
-fn words(alloc: Global, first: Pat, second: Pat) -> Result<Pat, Fail> {
-    Ok(list_of(alloc, group_of(alloc, first, second)?)?)
+fn words(alloc: Global, first: Pat, second: Pat) -> Result<Pat, NoMemory> {
+    list_of(alloc, group_of(alloc, first, second)?)
+}
+
+// list { "x", "k" }
+fn living(alloc: Global) -> Result<Pat, NoMemory> {
+    let first = literal(alloc, "x")?;
+    words(alloc, first, literal(alloc, "k")?)
+}
+
+// list { "x", "k" } | list { "dead", notAllowed }
+fn living_or_dead(alloc: Global) -> Result<Pat, NoMemory> {
+    let living = living(alloc)?;
+    choice_of(
+        alloc,
+        living,
+        words(alloc, literal(alloc, "dead")?, Pat::NotAllowed)?,
+    )
 }
 
 // w:* - w:c
-fn all_but_one(alloc: Global) -> Result<NameClass, Fail> {
-    let ns = Bytes::from_vec(Vec::from_slice(alloc, b"w".as_slice())?);
-    let whole = Box::new(alloc, NameClass::NsName(ns))?;
-    let taken = Box::new(alloc, qualified(alloc, "w", "c")?)?;
-    Ok(NameClass::Except(whole, taken))
+fn all_but_one(alloc: Global) -> Result<NameClass, NoMemory> {
+    let whole = Box::new(alloc, NameClass::NsName(bytes(alloc, "w")?))?;
+    Ok(NameClass::Except(whole, Box::new(alloc, qualified(alloc, "w", "c")?)?))
+}
+
+// v:e | w:* - w:c
+fn two_classes(alloc: Global) -> Result<NameClass, NoMemory> {
+    let first = Box::new(alloc, qualified(alloc, "v", "e")?)?;
+    Ok(NameClass::Choice(first, Box::new(alloc, all_but_one(alloc)?)?))
 }
 
 // element v:e | w:* - w:c { attribute b { "y" | "x" }, (list { "x", "k" } | list { "dead", notAllowed }) }
-fn elements_of_two(alloc: Global) -> Result<Def, Fail> {
-    let living = words(alloc, literal(alloc, "x")?, literal(alloc, "k")?)?;
-    let dead = words(alloc, literal(alloc, "dead")?, Pat::NotAllowed)?;
-    let content = group_of(alloc, kinds(alloc)?, choice_of(alloc, living, dead)?)?;
-    let first = Box::new(alloc, qualified(alloc, "v", "e")?)?;
-    let class = NameClass::Choice(first, Box::new(alloc, all_but_one(alloc)?)?);
-    Ok(Def { class, content })
+fn elements_of_two(alloc: Global) -> Result<Defs, NoMemory> {
+    let mut defs = Defs::new(alloc);
+    let kinds = kinds(alloc)?;
+    let content = group_of(alloc, kinds, living_or_dead(alloc)?)?;
+    defs.push(Def {
+        class: two_classes(alloc)?,
+        content,
+    })?;
+    Ok(defs)
+}
+
+fn lists_both(alloc: Global) -> bool {
+    let left = left_of(alloc, elements_of_two(alloc));
+    mentions(alloc, &left, "{}b{v}e{w}c")
+        && has_namespaces(alloc, &left, "{}{v}{w}")
+        && has_values(alloc, &left, "[k][x][y]")
 }
 
 #[test]
-fn lists_namespaces_and_literals(rt: HostRuntime) -> Result<(), Fail> {
-    let mut defs = Defs::new(rt.alloc());
-    defs.push(elements_of_two(rt.alloc())?)?;
-    let schema = live(&rt, Pat::Ref(0), defs)?;
-    assert_eq!(rt; names_of(rt.alloc(), &schema)?.as_str(), "{}b{v}e{w}c");
-    assert_eq!(rt; namespaces_of(rt.alloc(), &schema)?.as_str(), "{}{v}{w}");
-    assert_eq!(rt; values_of(rt.alloc(), &schema)?.as_str(), "[k][x][y]");
-    Ok(())
+fn lists_namespaces_and_literals(rt: HostRuntime) {
+    assert!(rt; lists_both(rt.alloc()));
+}
+
+// Adds an element with a number in its name, which holds the element of that number.
+fn add_link(alloc: Global, defs: &mut Defs, number: u32) -> Result<(), NoMemory> {
+    let local = format!(in alloc; "e{number}")?;
+    add(alloc, defs, local.as_str(), Pat::Ref(number))
 }
 
 // So many elements, each of which holds the next; the last one holds itself, or nothing.
-fn chain(alloc: Global, count: u32, last: Pat) -> Result<Defs, Fail> {
+fn chain(alloc: Global, count: u32, last: Pat) -> Result<Defs, NoMemory> {
     let mut defs = Defs::new(alloc);
     for i in 1..count {
-        let local = format!(in alloc; "e{i}")?;
-        add(alloc, &mut defs, local.as_str(), Pat::Ref(i))?;
+        add_link(alloc, &mut defs, i)?;
     }
     add(alloc, &mut defs, "last", last)?;
     Ok(defs)
 }
 
+// Whether a schema has so many definitions, and mentions so many names.
+fn has_count(alloc: Global, left: &Remains, count: usize) -> bool {
+    match left {
+        Remains::Some(schema) => {
+            schema.grammar().defs.len() == count && counts(schema.mentioned(alloc), count)
+        }
+        _ => false,
+    }
+}
+
+fn counts(names: Result<Names, NoMemory>, count: usize) -> bool {
+    match names {
+        Ok(names) => names.len() == count,
+        Err(NoMemory) => false,
+    }
+}
+
 // Each element lives because the next one does, so that rounds over all of them would be as many as there are elements.
 #[test]
-fn prunes_a_long_chain(rt: HostRuntime) -> Result<(), Fail> {
-    let defs = chain(rt.alloc(), 10_000, Pat::Empty)?;
-    let schema = live(&rt, Pat::Ref(0), defs)?;
-    assert_eq!(rt; schema.grammar().defs.len(), 10_000);
-    assert_eq!(rt; schema.mentioned(rt.alloc())?.len(), 10_000);
-    Ok(())
+fn prunes_a_long_chain(rt: HostRuntime) {
+    let left = left_of(rt.alloc(), chain(rt.alloc(), 10_000, Pat::Empty));
+    assert!(rt; has_count(rt.alloc(), &left, 10_000));
 }
 
 // Each element is dead because the next one is.
 #[test]
-fn refuses_a_long_chain(rt: HostRuntime) -> Result<(), Fail> {
-    let token = Datatype::named(rt.alloc(), "", "token", &[])?;
-    let grammar = Grammar {
-        start: Pat::Ref(0),
-        defs: chain(rt.alloc(), 10_000, Pat::Ref(9_999))?,
-    };
-    assert!(rt; pruned(&rt, &token, grammar)?.is_none());
-    Ok(())
+fn refuses_a_long_chain(rt: HostRuntime) {
+    let left = left_of(rt.alloc(), chain(rt.alloc(), 10_000, Pat::Ref(9_999)));
+    assert!(rt; matches!(left, Remains::Nothing));
 }
 
 // A path of so many nodes to an element, by second sides or by first sides.

@@ -1,5 +1,6 @@
 //! Schemas, built by hand in the simple form, that break each restriction, and schemas at the limits of size.
 
+use nx_base::memory::NoMemory;
 use nx_base::name::Name;
 use nx_base::sequence::Bytes;
 use rng_core::building::{
@@ -11,226 +12,300 @@ use rng_restrict::check::check;
 use rng_restrict::fault::RestrictFault;
 use rng_types::datatype::{Datatype, Excepts};
 use std::alloc::Global;
-use std::test::Fail;
 
 const XSD: &str = "http://www.w3.org/2001/XMLSchema-datatypes";
 
-fn named(alloc: Global, local: &str) -> Result<NameClass, Fail> {
+fn named(alloc: Global, local: &str) -> Result<NameClass, NoMemory> {
     Ok(NameClass::Name(Name {
         ns: Bytes::new(alloc),
         local: Bytes::from_vec(Vec::from_slice(alloc, local.as_bytes())?),
     }))
 }
 
-fn text_attribute(alloc: Global, local: &str) -> Result<Pat, Fail> {
-    Ok(attribute_of(alloc, named(alloc, local)?, Pat::Text)?)
+fn text_attribute(alloc: Global, local: &str) -> Result<Pat, NoMemory> {
+    attribute_of(alloc, named(alloc, local)?, Pat::Text)
 }
 
-fn any_attribute(alloc: Global) -> Result<Pat, Fail> {
-    Ok(attribute_of(alloc, NameClass::AnyName, Pat::Text)?)
+fn any_attribute(alloc: Global) -> Result<Pat, NoMemory> {
+    attribute_of(alloc, NameClass::AnyName, Pat::Text)
 }
 
-// What the check answers of element a with this content, beside element b { empty } of number 1, element * { text } of
-// number 2, element x { text } of number 3, and of number 4 an element whose content breaks two restrictions.
-fn judged(alloc: Global, content: Pat) -> Result<Option<RestrictFault>, Fail> {
-    let mut defs = Defs::new(alloc);
-    defs.push(Def {
-        class: named(alloc, "a")?,
-        content,
-    })?;
-    defs.push(Def {
-        class: named(alloc, "b")?,
-        content: Pat::Empty,
-    })?;
+// Adds element NAME { content }.
+fn add(alloc: Global, defs: &mut Defs, local: &str, content: Pat) -> Result<(), NoMemory> {
+    let class = named(alloc, local)?;
+    defs.push(Def { class, content })?;
+    Ok(())
+}
+
+// Adds element * { text }.
+fn add_any(defs: &mut Defs) -> Result<(), NoMemory> {
     defs.push(Def {
         class: NameClass::AnyName,
         content: Pat::Text,
     })?;
-    defs.push(Def {
-        class: named(alloc, "x")?,
-        content: Pat::Text,
-    })?;
-    let wild = group_of(alloc, any_attribute(alloc)?, any_attribute(alloc)?)?;
-    defs.push(Def {
-        class: named(alloc, "y")?,
-        content: wild,
-    })?;
-    let grammar = Grammar {
-        start: Pat::Ref(0),
-        defs,
+    Ok(())
+}
+
+// Adds element y { attribute * { text }, attribute * { text } }.
+fn add_wild(alloc: Global, defs: &mut Defs) -> Result<(), NoMemory> {
+    let first = any_attribute(alloc)?;
+    let wild = group_of(alloc, first, any_attribute(alloc)?)?;
+    add(alloc, defs, "y", wild)
+}
+
+// What the check answers.
+fn answer(alloc: Global, grammar: &Grammar) -> &'static str {
+    match check(alloc, grammar) {
+        Ok(()) => "allowed",
+        Err(RestrictFault::Path) => "Path",
+        Err(RestrictFault::Mixture) => "Mixture",
+        Err(RestrictFault::AttributeOverlap) => "AttributeOverlap",
+        Err(RestrictFault::WildcardOnce) => "WildcardOnce",
+        Err(RestrictFault::InterleaveOverlap) => "InterleaveOverlap",
+        Err(RestrictFault::TextTwice) => "TextTwice",
+        Err(RestrictFault::NoMemory) => "NoMemory",
+    }
+}
+
+// Adds element b { empty } of number 1, element * { text } of number 2, element x { text } of number 3, and of number 4 an
+// element whose content breaks two restrictions.
+fn add_four(alloc: Global, defs: &mut Defs) -> Result<(), NoMemory> {
+    add(alloc, defs, "b", Pat::Empty)?;
+    add_any(defs)?;
+    add(alloc, defs, "x", Pat::Text)?;
+    add_wild(alloc, defs)
+}
+
+// Element a with this content, beside those four.
+fn beside_four(alloc: Global, content: Pat) -> Result<Defs, NoMemory> {
+    let mut defs = Defs::new(alloc);
+    add(alloc, &mut defs, "a", content)?;
+    add_four(alloc, &mut defs)?;
+    Ok(defs)
+}
+
+// What the check answers of a grammar that begins with the element of this number.
+fn judged_from(alloc: Global, number: u32, defs: Result<Defs, NoMemory>) -> &'static str {
+    let start = Pat::Ref(number);
+    match defs {
+        Ok(defs) => answer(alloc, &Grammar { start, defs }),
+        Err(NoMemory) => "no grammar",
+    }
+}
+
+// What the check answers of element a with this content.
+fn judged(alloc: Global, content: Result<Pat, NoMemory>) -> &'static str {
+    match content {
+        Ok(content) => judged_from(alloc, 0, beside_four(alloc, content)),
+        Err(NoMemory) => "no content",
+    }
+}
+
+// list { element b { empty } }
+fn listed_element(alloc: Global) -> Result<Pat, NoMemory> {
+    list_of(alloc, Pat::Ref(1))
+}
+
+// (attribute x { text }, element b { empty })+
+fn repeated_attribute(alloc: Global) -> Result<Pat, NoMemory> {
+    let group = group_of(alloc, text_attribute(alloc, "x")?, Pat::Ref(1))?;
+    one_or_more_of(alloc, group)
+}
+
+// element b { empty }, xsd:int
+fn element_and_data(alloc: Global) -> Result<Pat, NoMemory> {
+    let Ok(int) = Datatype::named(alloc, XSD, "int", &[]) else {
+        return Err(NoMemory);
     };
-    Ok(check(alloc, &grammar).err())
+    group_of(alloc, Pat::Ref(1), Pat::Typed(int, Excepts::new(alloc)))
 }
 
-// element a { list { element b { empty } } }
-#[test]
-fn refuses_a_path(rt: HostRuntime) -> Result<(), Fail> {
-    let content = list_of(rt.alloc(), Pat::Ref(1))?;
-    assert_eq!(rt; judged(rt.alloc(), content)?, Some(RestrictFault::Path));
-    Ok(())
+// attribute NAME { text }, attribute NAME { text }
+fn attribute_twice(alloc: Global, local: &str) -> Result<Pat, NoMemory> {
+    let first = text_attribute(alloc, local)?;
+    group_of(alloc, first, text_attribute(alloc, local)?)
 }
 
-// element a { (attribute x { text }, element b { empty })+ }
-#[test]
-fn refuses_a_repeated_attribute(rt: HostRuntime) -> Result<(), Fail> {
-    let group = group_of(rt.alloc(), text_attribute(rt.alloc(), "x")?, Pat::Ref(1))?;
-    let content = one_or_more_of(rt.alloc(), group)?;
-    assert_eq!(rt; judged(rt.alloc(), content)?, Some(RestrictFault::Path));
-    Ok(())
+// attribute x { text } | attribute x { text }
+fn either_attribute(alloc: Global) -> Result<Pat, NoMemory> {
+    let first = text_attribute(alloc, "x")?;
+    choice_of(alloc, first, text_attribute(alloc, "x")?)
 }
 
-// element a { element b { empty }, xsd:int }
-#[test]
-fn refuses_a_mixture(rt: HostRuntime) -> Result<(), Fail> {
-    let int = Datatype::named(rt.alloc(), XSD, "int", &[])?;
-    let data = Pat::Typed(int, Excepts::new(rt.alloc()));
-    let content = group_of(rt.alloc(), Pat::Ref(1), data)?;
-    assert_eq!(rt; judged(rt.alloc(), content)?, Some(RestrictFault::Mixture));
-    Ok(())
+// attribute * { text }+
+fn repeated_wildcard(alloc: Global) -> Result<Pat, NoMemory> {
+    one_or_more_of(alloc, any_attribute(alloc)?)
 }
 
-// element a { attribute x { text }, attribute x { text } }
+// element * { text } & element x { text }
+fn overlapping_elements(alloc: Global) -> Result<Pat, NoMemory> {
+    interleave_of(alloc, Pat::Ref(2), Pat::Ref(3))
+}
+
+// text & mixed { empty }
+fn text_twice(alloc: Global) -> Result<Pat, NoMemory> {
+    let mixed = interleave_of(alloc, Pat::Text, Pat::Empty)?;
+    interleave_of(alloc, Pat::Text, mixed)
+}
+
+// text & attribute x { text }
+fn text_and_attribute(alloc: Global) -> Result<Pat, NoMemory> {
+    interleave_of(alloc, Pat::Text, text_attribute(alloc, "x")?)
+}
+
 #[test]
-fn refuses_attributes_that_overlap(rt: HostRuntime) -> Result<(), Fail> {
-    let second = text_attribute(rt.alloc(), "x")?;
-    let content = group_of(rt.alloc(), text_attribute(rt.alloc(), "x")?, second)?;
+fn refuses_what_breaks_a_restriction(rt: HostRuntime) {
+    let alloc = rt.alloc();
     assert_eq!(rt;
-        judged(rt.alloc(), content)?,
-        Some(RestrictFault::AttributeOverlap)
+        [
+            judged(alloc, listed_element(alloc)),
+            judged(alloc, repeated_attribute(alloc)),
+            judged(alloc, element_and_data(alloc)),
+            judged(alloc, attribute_twice(alloc, "x")),
+            judged(alloc, any_attribute(alloc)),
+            judged(alloc, overlapping_elements(alloc)),
+            judged(alloc, text_twice(alloc)),
+        ],
+        [
+            "Path",
+            "Path",
+            "Mixture",
+            "AttributeOverlap",
+            "WildcardOnce",
+            "InterleaveOverlap",
+            "TextTwice"
+        ]
     );
-    Ok(())
 }
 
-// element a { attribute xmlns { text }, attribute xmlns { text } }
+// No attribute is named `xmlns`, so two of that name don't overlap.
 #[test]
-fn allows_what_no_attribute_is_named(rt: HostRuntime) -> Result<(), Fail> {
-    let second = text_attribute(rt.alloc(), "xmlns")?;
-    let content = group_of(rt.alloc(), text_attribute(rt.alloc(), "xmlns")?, second)?;
-    assert_eq!(rt; judged(rt.alloc(), content)?, None);
-    Ok(())
-}
-
-// element a { attribute x { text } | attribute x { text } }
-#[test]
-fn allows_a_choice_of_attributes(rt: HostRuntime) -> Result<(), Fail> {
-    let second = text_attribute(rt.alloc(), "x")?;
-    let content = choice_of(rt.alloc(), text_attribute(rt.alloc(), "x")?, second)?;
-    assert_eq!(rt; judged(rt.alloc(), content)?, None);
-    Ok(())
-}
-
-// element a { attribute * { text } }, and the same repeated
-#[test]
-fn refuses_a_wildcard_once(rt: HostRuntime) -> Result<(), Fail> {
-    let once = any_attribute(rt.alloc())?;
+fn allows_what_breaks_none(rt: HostRuntime) {
+    let alloc = rt.alloc();
     assert_eq!(rt;
-        judged(rt.alloc(), once)?,
-        Some(RestrictFault::WildcardOnce)
+        [
+            judged(alloc, attribute_twice(alloc, "xmlns")),
+            judged(alloc, either_attribute(alloc)),
+            judged(alloc, repeated_wildcard(alloc)),
+            judged(alloc, text_and_attribute(alloc)),
+        ],
+        ["allowed"; 4]
     );
-    let repeated = one_or_more_of(rt.alloc(), any_attribute(rt.alloc())?)?;
-    assert_eq!(rt; judged(rt.alloc(), repeated)?, None);
-    Ok(())
 }
 
-// element a { element * { text } & element x { text } }
-#[test]
-fn refuses_elements_that_overlap(rt: HostRuntime) -> Result<(), Fail> {
-    let content = interleave_of(rt.alloc(), Pat::Ref(2), Pat::Ref(3))?;
-    assert_eq!(rt;
-        judged(rt.alloc(), content)?,
-        Some(RestrictFault::InterleaveOverlap)
-    );
-    Ok(())
-}
-
-// element a { text & mixed { empty } }
-#[test]
-fn refuses_text_twice(rt: HostRuntime) -> Result<(), Fail> {
-    let mixed = interleave_of(rt.alloc(), Pat::Text, Pat::Empty)?;
-    let content = interleave_of(rt.alloc(), Pat::Text, mixed)?;
-    assert_eq!(rt;
-        judged(rt.alloc(), content)?,
-        Some(RestrictFault::TextTwice)
-    );
-    Ok(())
-}
-
-// element a { text & attribute x { text } }
-#[test]
-fn allows_text_beside_an_attribute(rt: HostRuntime) -> Result<(), Fail> {
-    let content = interleave_of(rt.alloc(), Pat::Text, text_attribute(rt.alloc(), "x")?)?;
-    assert_eq!(rt; judged(rt.alloc(), content)?, None);
-    Ok(())
+// An attribute with a number in its name.
+fn numbered_attribute(alloc: Global, number: u32) -> Result<Pat, NoMemory> {
+    let local = format!(in alloc; "a{number}")?;
+    text_attribute(alloc, local.as_str())
 }
 
 // So many attributes in a group that nests to the left.
-fn many_attributes(alloc: Global, count: u32) -> Result<Pat, Fail> {
+fn many_attributes(alloc: Global, count: u32) -> Result<Pat, NoMemory> {
     let mut content = Pat::Empty;
     for i in 0..count {
-        let local = format!(in alloc; "a{i}")?;
-        content = group_of(alloc, content, text_attribute(alloc, local.as_str())?)?;
+        content = group_of(alloc, content, numbered_attribute(alloc, i)?)?;
     }
     Ok(content)
 }
 
-#[test]
-fn judges_a_wide_group(rt: HostRuntime) -> Result<(), Fail> {
-    let wide = many_attributes(rt.alloc(), 2_000)?;
-    assert_eq!(rt; judged(rt.alloc(), wide)?, None);
-    let wide = many_attributes(rt.alloc(), 2_000)?;
-    let content = group_of(rt.alloc(), wide, text_attribute(rt.alloc(), "a0")?)?;
-    assert_eq!(rt;
-        judged(rt.alloc(), content)?,
-        Some(RestrictFault::AttributeOverlap)
-    );
-    Ok(())
+// The same, and the first of them once more.
+fn one_too_many(alloc: Global, count: u32) -> Result<Pat, NoMemory> {
+    let wide = many_attributes(alloc, count)?;
+    group_of(alloc, wide, text_attribute(alloc, "a0")?)
 }
 
 #[test]
-fn judges_a_deep_pattern(rt: HostRuntime) -> Result<(), Fail> {
+fn judges_a_wide_group(rt: HostRuntime) {
+    let alloc = rt.alloc();
+    assert_eq!(rt;
+        [
+            judged(alloc, many_attributes(alloc, 2_000)),
+            judged(alloc, one_too_many(alloc, 2_000))
+        ],
+        ["allowed", "AttributeOverlap"]
+    );
+}
+
+// So many groups, each the first side of the next.
+fn left_groups(alloc: Global, count: u32) -> Result<Pat, NoMemory> {
     let mut left = Pat::Text;
-    let mut right = Pat::Ref(1);
-    for _ in 0..7_999 {
-        left = group_of(rt.alloc(), left, Pat::Text)?;
-        right = interleave_of(rt.alloc(), Pat::Empty, right)?;
+    for _ in 0..count {
+        left = group_of(alloc, left, Pat::Text)?;
     }
-    assert_eq!(rt; judged(rt.alloc(), left)?, None);
-    assert_eq!(rt; judged(rt.alloc(), right)?, None);
-    Ok(())
+    Ok(left)
+}
+
+// So many interleaves, each the second side of the next.
+fn right_interleaves(alloc: Global, count: u32) -> Result<Pat, NoMemory> {
+    let mut right = Pat::Ref(1);
+    for _ in 0..count {
+        right = interleave_of(alloc, Pat::Empty, right)?;
+    }
+    Ok(right)
+}
+
+#[test]
+fn judges_a_deep_pattern(rt: HostRuntime) {
+    let alloc = rt.alloc();
+    assert_eq!(rt;
+        [
+            judged(alloc, left_groups(alloc, 7_999)),
+            judged(alloc, right_interleaves(alloc, 7_999))
+        ],
+        ["allowed"; 2]
+    );
+}
+
+// (first | second | third | fourth)+, by the numbers of their elements.
+fn any_of_four(alloc: Global, numbers: [u32; 4]) -> Result<Pat, NoMemory> {
+    let [first, second, third, fourth] = numbers;
+    let front = choice_of(alloc, Pat::Ref(first), Pat::Ref(second))?;
+    let both = choice_of(
+        alloc,
+        front,
+        choice_of(alloc, Pat::Ref(third), Pat::Ref(fourth))?,
+    )?;
+    one_or_more_of(alloc, both)
+}
+
+// Adds an element with a number in its name.
+fn add_numbered(
+    alloc: Global,
+    defs: &mut Defs,
+    letter: &str,
+    number: u32,
+    content: Pat,
+) -> Result<(), NoMemory> {
+    let local = format!(in alloc; "{letter}{number}")?;
+    add(alloc, defs, local.as_str(), content)
 }
 
 // Each definition refers to those of four other numbers.
-fn web(alloc: Global, count: u32) -> Result<Grammar, Fail> {
+fn web(alloc: Global, count: u32) -> Result<Defs, NoMemory> {
     let mut defs = Defs::new(alloc);
     for i in 0..count {
-        let first = choice_of(
-            alloc,
-            Pat::Ref((i + 1) % count),
-            Pat::Ref(i.wrapping_mul(7) % count),
-        )?;
-        let second = choice_of(alloc, Pat::Ref(i.wrapping_mul(31) % count), Pat::Ref(i / 2))?;
-        let content = one_or_more_of(alloc, choice_of(alloc, first, second)?)?;
-        let local = format!(in alloc; "a{i}")?;
-        defs.push(Def {
-            class: named(alloc, local.as_str())?,
-            content,
-        })?;
+        let numbers = [
+            (i + 1) % count,
+            i.wrapping_mul(7) % count,
+            i.wrapping_mul(31) % count,
+            i / 2,
+        ];
+        let content = any_of_four(alloc, numbers)?;
+        add_numbered(alloc, &mut defs, "a", i, content)?;
     }
-    Ok(Grammar {
-        start: Pat::Ref(0),
-        defs,
-    })
+    Ok(defs)
 }
 
 #[test]
-fn judges_many_definitions(rt: HostRuntime) -> Result<(), Fail> {
-    let grammar = web(rt.alloc(), 5_000)?;
-    assert_eq!(rt; check(rt.alloc(), &grammar).err(), None);
-    Ok(())
+fn judges_many_definitions(rt: HostRuntime) {
+    assert_eq!(rt;
+        judged_from(rt.alloc(), 0, web(rt.alloc(), 5_000)),
+        "allowed"
+    );
 }
 
 // A choice of references to the definitions of these numbers.
-fn any_of(alloc: Global, from: u32, to: u32) -> Result<Pat, Fail> {
+fn any_of(alloc: Global, from: u32, to: u32) -> Result<Pat, NoMemory> {
     let mut all = Pat::Ref(from);
     for number in from..to {
         all = choice_of(alloc, all, Pat::Ref(number))?;
@@ -239,37 +314,35 @@ fn any_of(alloc: Global, from: u32, to: u32) -> Result<Pat, Fail> {
 }
 
 // The same choice 4,000 times over.
-fn repeated(alloc: Global, from: u32, to: u32) -> Result<Pat, Fail> {
+fn repeated(alloc: Global, from: u32, to: u32) -> Result<Pat, NoMemory> {
     let mut all = Pat::Ref(from);
     for _ in 0..4_000 {
-        let more = any_of(alloc, from, to)?;
-        all = choice_of(alloc, all, more)?;
+        all = choice_of(alloc, all, any_of(alloc, from, to)?)?;
     }
     Ok(all)
 }
 
+// An interleave of two such choices.
+fn two_repeated(alloc: Global) -> Result<Pat, NoMemory> {
+    let left = repeated(alloc, 0, 20)?;
+    interleave_of(alloc, left, repeated(alloc, 20, 40)?)
+}
+
+// 40 empty elements, and one that holds that interleave.
+fn referring(alloc: Global) -> Result<Defs, NoMemory> {
+    let mut defs = Defs::new(alloc);
+    for i in 0u32..40 {
+        add_numbered(alloc, &mut defs, "e", i, Pat::Empty)?;
+    }
+    add(alloc, &mut defs, "all", two_repeated(alloc)?)?;
+    Ok(defs)
+}
+
 // 80,000 references on each side of an interleave, to 20 definitions.
 #[test]
-fn compares_a_definition_once(rt: HostRuntime) -> Result<(), Fail> {
-    let mut defs = Defs::new(rt.alloc());
-    for i in 0u32..40 {
-        let local = format!(in rt.alloc(); "e{i}")?;
-        defs.push(Def {
-            class: named(rt.alloc(), local.as_str())?,
-            content: Pat::Empty,
-        })?;
-    }
-    let left = repeated(rt.alloc(), 0, 20)?;
-    let right = repeated(rt.alloc(), 20, 40)?;
-    let content = interleave_of(rt.alloc(), left, right)?;
-    defs.push(Def {
-        class: named(rt.alloc(), "all")?,
-        content,
-    })?;
-    let grammar = Grammar {
-        start: Pat::Ref(40),
-        defs,
-    };
-    assert_eq!(rt; check(rt.alloc(), &grammar).err(), None);
-    Ok(())
+fn compares_a_definition_once(rt: HostRuntime) {
+    assert_eq!(rt;
+        judged_from(rt.alloc(), 40, referring(rt.alloc())),
+        "allowed"
+    );
 }

@@ -226,21 +226,39 @@ fn answer(datatype: &Datatype, excepts: &[Except]) -> &'static str
     }
 }
 
+fn push_items(
+    alloc: Global,
+    params: &mut Vec<Param>,
+    excepts: &mut Vec<Except>,
+    items: &str,
+) -> Result<(), Fail> {
+    for item in items.split("|") {
+        if !item.is_empty() {
+            push_item(alloc, params, excepts, item)?;
+        }
+    }
+    Ok(())
+}
+
+// What is told of a type with excepts.
+fn told_of(datatype: &Datatype, excepts: &[Except]) -> &'static str
+    requires { IsTrue (is_well_made datatype.now) }
+{
+    if are_sound(datatype, excepts) {
+        answer(datatype, excepts)
+    } else {
+        "unsound"
+    }
+}
+
 // What is told of a type with params and excepts.
 fn told(alloc: Global, row: &str) -> Result<&'static str, Fail> {
     let (name, items) = row.split_once("|").unwrap_or((row, ""));
     let mut params = Vec::new(alloc);
     let mut excepts = Vec::new(alloc);
-    for item in items.split("|") {
-        if !item.is_empty() {
-            push_item(alloc, &mut params, &mut excepts, item)?;
-        }
-    }
+    push_items(alloc, &mut params, &mut excepts, items)?;
     let datatype = Datatype::named(alloc, XSD, name, params.as_slice())?;
-    if !are_sound(&datatype, excepts.as_slice()) {
-        return Ok("unsound");
-    }
-    Ok(answer(&datatype, excepts.as_slice()))
+    Ok(told_of(&datatype, excepts.as_slice()))
 }
 
 // What is told, a type, and its params and excepts, each with its name before `=`. It is `none` where there is no member,
@@ -302,13 +320,26 @@ fn tells_members(rt: HostRuntime) -> Result<(), Fail> {
     Ok(())
 }
 
+// Whether a type reads a text as this token; as `none`, where it reads none.
+fn is_read(alloc: Global, datatype: &Datatype, text: &str, wanted: &str) -> bool {
+    match datatype.as_one_token(alloc, text) {
+        Ok(Some(token)) => token.as_slice() == wanted.as_bytes(),
+        Ok(None) => wanted == "none",
+        Err(_) => false,
+    }
+}
+
+// The same of a type of the built-in library.
+fn reads(alloc: Global, name: &str, text: &str, wanted: &str) -> bool {
+    match Datatype::named(alloc, "", name, &[]) {
+        Ok(datatype) => is_read(alloc, &datatype, text, wanted),
+        Err(_) => false,
+    }
+}
+
 #[test]
-fn reads_one_token(rt: HostRuntime) -> Result<(), Fail> {
-    let token = Datatype::named(rt.alloc(), "", "token", &[])?;
-    let string = Datatype::named(rt.alloc(), "", "string", &[])?;
-    let read = token.as_one_token(rt.alloc(), " a ")?;
-    assert!(rt; read.is_some_and(|text| text.as_slice() == b"a".as_slice()));
-    assert!(rt; string.as_one_token(rt.alloc(), " a ")?.is_none());
-    assert!(rt; token.as_one_token(rt.alloc(), "a b")?.is_none());
-    Ok(())
+fn reads_one_token(rt: HostRuntime) {
+    assert!(rt; reads(rt.alloc(), "token", " a ", "a"));
+    assert!(rt; reads(rt.alloc(), "string", " a ", "none"));
+    assert!(rt; reads(rt.alloc(), "token", "a b", "none"));
 }
