@@ -1,109 +1,156 @@
 //! Items as text: the place of each, and what it says. Behind each stands a semicolon.
 
-use nx_base::fault::Fault;
+use nx_base::fault::{Fault, Span};
 use nx_base::name::Name;
 use nx_events::item::{Event, Item};
 use nx_events::prefix::TagPrefix;
+use std::alloc::Global;
 use std::test::Fail;
 
-pub(crate) fn print_text(out: &mut String, bytes: &[u8]) -> Result<(), Fail> {
-    Ok(out.push_str(str::from_utf8(bytes)?)?)
+/// What was told so far.
+#[derive(Drop)]
+pub(crate) struct Printer {
+    told: String,
+    /// Whether nothing was left out, for want of memory or because it is no text.
+    is_whole: bool,
 }
 
-pub(crate) fn print_fault(out: &mut String, fault: &Fault) -> Result<(), Fail> {
-    let from = fault.span.from;
-    let to = fault.span.to;
-    let kind = fault.kind;
-    write!(out, "{from}-{to} {kind:?} ")?;
-    print_text(out, fault.detail.as_slice())?;
-    Ok(out.push_str(";")?)
-}
-
-fn print_name(out: &mut String, name: &Name) -> Result<(), Fail> {
-    out.push_str("{")?;
-    print_text(out, name.ns.as_slice())?;
-    out.push_str("}")?;
-    print_text(out, name.local.as_slice())
-}
-
-fn print_named(out: &mut String, word: &str, name: &Name) -> Result<(), Fail> {
-    out.push_str(word)?;
-    print_name(out, name)
-}
-
-fn print_event(out: &mut String, event: &Event) -> Result<(), Fail> {
-    match event {
-        Event::Enter(name) => print_named(out, "Enter ", name),
-        Event::EnterLost => Ok(out.push_str("EnterLost")?),
-        Event::Att(name, value) => {
-            print_named(out, "Att ", name)?;
-            out.push_str("=")?;
-            print_text(out, value.as_slice())
-        }
-        Event::TagEnd => Ok(out.push_str("TagEnd")?),
-        Event::Chars(string) => {
-            out.push_str("Chars ")?;
-            print_text(out, string.as_slice())
-        }
-        Event::Leave => Ok(out.push_str("Leave")?),
-    }
-}
-
-fn print_item(out: &mut String, item: &Item) -> Result<(), Fail> {
-    match item {
-        Item::Fault(fault) => print_fault(out, fault),
-        Item::Event(event, span) => {
-            let from = span.from;
-            let to = span.to;
-            write!(out, "{from}-{to} ")?;
-            print_event(out, event)?;
-            Ok(out.push_str(";")?)
+impl Printer {
+    pub(crate) fn new(alloc: Global) -> Printer {
+        Printer {
+            told: String::new(alloc),
+            is_whole: true,
         }
     }
-}
 
-pub(crate) fn print_items(out: &mut String, items: &[Item]) -> Result<(), Fail> {
-    for item in items {
-        print_item(out, item)?;
-    }
-    Ok(())
-}
-
-/// Writes those of the items that are faults.
-pub(crate) fn print_faults(out: &mut String, items: &[Item]) -> Result<(), Fail> {
-    for item in items {
-        if let Item::Fault(fault) = item {
-            print_fault(out, fault)?;
+    /// All of it, where it is whole.
+    pub(crate) fn finish(self) -> Result<String, Fail> {
+        if self.is_whole {
+            Ok(self.told)
+        } else {
+            Err(Fail::new("not whole"))
         }
     }
-    Ok(())
-}
 
-fn print_name_or_none(out: &mut String, name: &Option<Name>) -> Result<(), Fail> {
-    match name {
-        Some(name) => print_name(out, name),
-        None => Ok(out.push_str("-")?),
+    pub(crate) fn word(&mut self, word: &str) {
+        if self.told.push_str(word).is_err() {
+            self.is_whole = false;
+        }
     }
-}
 
-/// Writes the case of a prefix and what is told of it.
-pub(crate) fn print_prefix(out: &mut String, prefix: &TagPrefix) -> Result<(), Fail> {
-    match prefix {
-        TagPrefix::ElementName => Ok(out.push_str("element")?),
-        TagPrefix::EndName(written) => {
-            out.push_str("end ")?;
-            print_text(out, written.as_slice())
+    pub(crate) fn text(&mut self, bytes: &[u8]) {
+        match str::from_utf8(bytes) {
+            Ok(text) => self.word(text),
+            Err(_) => self.is_whole = false,
         }
-        TagPrefix::AttributeName(items) => {
-            out.push_str("name ")?;
-            print_items(out, items.as_slice())
+    }
+
+    pub(crate) fn number(&mut self, number: usize) {
+        if write!(self.told, "{number}").is_err() {
+            self.is_whole = false;
         }
-        TagPrefix::AttributeValue(items, name) => {
-            out.push_str("value ")?;
-            print_name_or_none(out, name)?;
-            out.push_str(" ")?;
-            print_items(out, items.as_slice())
+    }
+
+    fn span(&mut self, span: &Span) {
+        self.number(span.from);
+        self.word("-");
+        self.number(span.to);
+        self.word(" ");
+    }
+
+    pub(crate) fn fault(&mut self, fault: &Fault) {
+        let kind = fault.kind;
+        self.span(&fault.span);
+        if write!(self.told, "{kind:?} ").is_err() {
+            self.is_whole = false;
         }
-        TagPrefix::Elsewhere => Ok(out.push_str("elsewhere")?),
+        self.text(fault.detail.as_slice());
+        self.word(";");
+    }
+
+    fn name(&mut self, name: &Name) {
+        self.word("{");
+        self.text(name.ns.as_slice());
+        self.word("}");
+        self.text(name.local.as_slice());
+    }
+
+    fn attribute(&mut self, name: &Name, value: &[u8]) {
+        self.word("Att ");
+        self.name(name);
+        self.word("=");
+        self.text(value);
+    }
+
+    fn event(&mut self, event: &Event) {
+        match event {
+            Event::Enter(name) => {
+                self.word("Enter ");
+                self.name(name);
+            }
+            Event::EnterLost => self.word("EnterLost"),
+            Event::Att(name, value) => self.attribute(name, value.as_slice()),
+            Event::TagEnd => self.word("TagEnd"),
+            Event::Chars(string) => {
+                self.word("Chars ");
+                self.text(string.as_slice());
+            }
+            Event::Leave => self.word("Leave"),
+        }
+    }
+
+    fn item(&mut self, item: &Item) {
+        match item {
+            Item::Fault(fault) => self.fault(fault),
+            Item::Event(event, span) => {
+                self.span(span);
+                self.event(event);
+                self.word(";");
+            }
+        }
+    }
+
+    pub(crate) fn items(&mut self, items: &[Item]) {
+        for item in items {
+            self.item(item);
+        }
+    }
+
+    /// Those of the items that are faults.
+    pub(crate) fn faults(&mut self, items: &[Item]) {
+        for item in items {
+            if let Item::Fault(fault) = item {
+                self.fault(fault);
+            }
+        }
+    }
+
+    fn name_or_none(&mut self, name: &Option<Name>) {
+        match name {
+            Some(name) => self.name(name),
+            None => self.word("-"),
+        }
+    }
+
+    /// The case of a prefix and what is told of it.
+    pub(crate) fn prefix(&mut self, prefix: &TagPrefix) {
+        match prefix {
+            TagPrefix::ElementName => self.word("element"),
+            TagPrefix::EndName(written) => {
+                self.word("end ");
+                self.text(written.as_slice());
+            }
+            TagPrefix::AttributeName(items) => {
+                self.word("name ");
+                self.items(items.as_slice());
+            }
+            TagPrefix::AttributeValue(items, name) => {
+                self.word("value ");
+                self.name_or_none(name);
+                self.word(" ");
+                self.items(items.as_slice());
+            }
+            TagPrefix::Elsewhere => self.word("elsewhere"),
+        }
     }
 }

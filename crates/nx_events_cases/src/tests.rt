@@ -1,4 +1,4 @@
-use crate::printer::{print_fault, print_faults, print_items, print_prefix, print_text};
+use crate::printer::Printer;
 use crate::reader::{items_of, prefix_behind, state_behind};
 use crate::tables::{EVENTS, FAULTS, OTHER, PREFIXES, SAME, STATES};
 use nx_base::fault::Faults;
@@ -15,30 +15,38 @@ use std::process::Abort;
 use std::test::Fail;
 
 fn faults_told(alloc: Global, parts: &str) -> Result<String, Fail> {
-    let mut told = String::new(alloc);
-    print_faults(&mut told, items_of(alloc, parts)?.as_slice())?;
-    Ok(told)
+    let mut printer = Printer::new(alloc);
+    printer.faults(items_of(alloc, parts)?.as_slice());
+    printer.finish()
 }
 
 fn items_told(alloc: Global, parts: &str) -> Result<String, Fail> {
-    let mut told = String::new(alloc);
-    print_items(&mut told, items_of(alloc, parts)?.as_slice())?;
-    Ok(told)
+    let mut printer = Printer::new(alloc);
+    printer.items(items_of(alloc, parts)?.as_slice());
+    printer.finish()
 }
 
 fn state_told(alloc: Global, parts: &str) -> Result<String, Fail> {
-    let mut told = String::new(alloc);
+    let mut printer = Printer::new(alloc);
     let state = state_behind(alloc, parts)?;
-    let open = depth(&state);
-    write!(told, "{open}")?;
+    printer.number(depth(&state));
     if pending(&state) {
-        told.push_str(" pending")?;
+        printer.word(" pending");
     }
     if let Some(string) = run_of(&state)? {
-        told.push_str(" ")?;
-        print_text(&mut told, string.as_slice())?;
+        printer.word(" ");
+        printer.text(string.as_slice());
     }
-    Ok(told)
+    printer.finish()
+}
+
+/// What is told of a text: its faults, its items, or the state behind its tokens.
+fn told(alloc: Global, what: &str, parts: &str) -> Result<String, Fail> {
+    match what {
+        "faults" => faults_told(alloc, parts),
+        "items" => items_told(alloc, parts),
+        _ => state_told(alloc, parts),
+    }
 }
 
 /// Adds what was told of a text, where that isn't what was wanted.
@@ -49,63 +57,69 @@ fn compare(wrong: &mut String, parts: &str, told: &str, want: &str) -> Result<()
     Ok(())
 }
 
+fn compare_told(
+    alloc: Global,
+    wrong: &mut String,
+    what: &str,
+    parts: &str,
+    want: &str,
+) -> Result<(), Fail> {
+    let told = told(alloc, what, parts)?;
+    compare(wrong, parts, told.as_str(), want)
+}
+
+/// The rows of which something else is told than what is wanted.
+fn differences(alloc: Global, what: &str, rows: &[(&str, &str)]) -> Result<String, Fail> {
+    let mut wrong = String::new(alloc);
+    for (parts, want) in rows {
+        compare_told(alloc, &mut wrong, what, parts, want)?;
+    }
+    Ok(wrong)
+}
+
 #[test]
 fn faults(rt: HostRuntime) -> Result<(), Fail> {
-    let mut wrong = String::new(rt.alloc());
-    for (parts, want) in &FAULTS {
-        compare(
-            &mut wrong,
-            parts,
-            faults_told(rt.alloc(), parts)?.as_str(),
-            want,
-        )?;
-    }
+    let wrong = differences(rt.alloc(), "faults", &FAULTS)?;
     assert_eq!(rt; wrong.as_str(), "");
     Ok(())
 }
 
 #[test]
 fn events(rt: HostRuntime) -> Result<(), Fail> {
-    let mut wrong = String::new(rt.alloc());
-    for (parts, want) in &EVENTS {
-        compare(
-            &mut wrong,
-            parts,
-            items_told(rt.alloc(), parts)?.as_str(),
-            want,
-        )?;
-    }
+    let wrong = differences(rt.alloc(), "items", &EVENTS)?;
     assert_eq!(rt; wrong.as_str(), "");
     Ok(())
 }
 
 #[test]
 fn states(rt: HostRuntime) -> Result<(), Fail> {
-    let mut wrong = String::new(rt.alloc());
-    for (parts, want) in &STATES {
-        compare(
-            &mut wrong,
-            parts,
-            state_told(rt.alloc(), parts)?.as_str(),
-            want,
-        )?;
-    }
+    let wrong = differences(rt.alloc(), "states", &STATES)?;
     assert_eq!(rt; wrong.as_str(), "");
     Ok(())
 }
 
 fn prefix_told(alloc: Global, parts: &str, text: &str) -> Result<String, Fail> {
-    let mut told = String::new(alloc);
-    print_prefix(&mut told, &prefix_behind(alloc, parts, text)?)?;
-    Ok(told)
+    let mut printer = Printer::new(alloc);
+    printer.prefix(&prefix_behind(alloc, parts, text)?);
+    printer.finish()
+}
+
+fn compare_prefix(
+    alloc: Global,
+    wrong: &mut String,
+    parts: &str,
+    text: &str,
+    want: &str,
+) -> Result<(), Fail> {
+    let told = prefix_told(alloc, parts, text)?;
+    compare(wrong, text, told.as_str(), want)
 }
 
 #[test]
 fn prefixes(rt: HostRuntime) -> Result<(), Fail> {
     let mut wrong = String::new(rt.alloc());
     for (parts, text, want) in &PREFIXES {
-        let told = prefix_told(rt.alloc(), parts, text)?;
-        compare(&mut wrong, text, told.as_str(), want)?;
+        compare_prefix(rt.alloc(), &mut wrong, parts, text, want)?;
     }
     assert_eq!(rt; wrong.as_str(), "");
     Ok(())
@@ -146,9 +160,14 @@ fn deep_parts(alloc: Global) -> Result<String, Fail> {
 #[test]
 fn deep(rt: HostRuntime) -> Result<(), Fail> {
     let told = faults_told(rt.alloc(), deep_parts(rt.alloc())?.as_str())?;
-    assert_eq!(rt; told.as_str().matches("MissingEnd p:b;").count(), 40);
-    assert_eq!(rt; told.as_str().matches("ExtraEnd c;").count(), 40);
-    assert_eq!(rt; told.as_str().matches(";").count(), 80);
+    assert_eq!(rt;
+        [
+            told.as_str().matches("MissingEnd p:b;").count(),
+            told.as_str().matches("ExtraEnd c;").count(),
+            told.as_str().matches(";").count(),
+        ],
+        [40, 40, 80]
+    );
     Ok(())
 }
 
@@ -157,11 +176,11 @@ fn bare_told(alloc: Global) -> Result<String, Fail> {
     let mut faults = Faults::new(alloc);
     let state = machine.start(alloc)?;
     machine.at_end(alloc, &state, 0, &mut faults)?;
-    let mut told = String::new(alloc);
+    let mut printer = Printer::new(alloc);
     for fault in faults.as_slice() {
-        print_fault(&mut told, fault)?;
+        printer.fault(fault);
     }
-    Ok(told)
+    printer.finish()
 }
 
 // What the machine without a schema tells of the empty text.
@@ -180,9 +199,9 @@ fn whole_text_told(alloc: Global) -> Result<String, Fail> {
         bytes: Bytes::from_vec(Vec::from_slice(alloc, b"<a/>")?),
     }];
     let items = items_of_tokens(alloc, &tokens, 4)?.copy()?;
-    let mut told = String::new(alloc);
-    print_items(&mut told, items.as_slice())?;
-    Ok(told)
+    let mut printer = Printer::new(alloc);
+    printer.items(items.as_slice());
+    printer.finish()
 }
 
 #[test]

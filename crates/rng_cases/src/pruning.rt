@@ -432,7 +432,7 @@ fn refuses_a_long_chain(rt: HostRuntime) {
 }
 
 // A path of so many nodes to an element, by second sides or by first sides.
-fn deep(alloc: Global, count: usize, second: bool) -> Result<Pat, Fail> {
+fn deep(alloc: Global, count: usize, second: bool) -> Result<Pat, NoMemory> {
     let mut pattern = Pat::Ref(1);
     for _ in 1..count {
         pattern = if second {
@@ -445,37 +445,32 @@ fn deep(alloc: Global, count: usize, second: bool) -> Result<Pat, Fail> {
 }
 
 // Two elements, of which the first one holds the second at the end of such a path.
-fn deep_grammar(alloc: Global, count: usize, second: bool) -> Result<Grammar, Fail> {
+fn deep_elements(alloc: Global, count: usize, second: bool) -> Result<Defs, NoMemory> {
     let mut defs = Defs::new(alloc);
     add(alloc, &mut defs, "a", deep(alloc, count, second)?)?;
     add(alloc, &mut defs, "b", Pat::Empty)?;
-    Ok(Grammar {
-        start: Pat::Ref(0),
-        defs,
-    })
+    Ok(defs)
 }
 
-// How many names are left of them; none where pruning is refused for want of memory.
-fn names_left(rt: &HostRuntime, count: usize, second: bool) -> Result<Option<usize>, Fail> {
-    let token = Datatype::named(rt.alloc(), "", "token", &[])?;
-    let grammar = deep_grammar(rt.alloc(), count, second)?;
-    if !is_sound(&token, &grammar) {
-        return Err(Fail::new("not in order"));
+// Whether two names are left of them.
+fn leaves_two(alloc: Global, count: usize, second: bool) -> bool {
+    match left_of(alloc, deep_elements(alloc, count, second)) {
+        Remains::Some(schema) => counts(schema.mentioned(alloc), 2),
+        _ => false,
     }
-    check(rt.alloc(), &grammar)?;
-    match prune(rt.alloc(), grammar) {
-        Ok(schema) => Ok(Some(schema.mentioned(rt.alloc())?.len())),
-        Err(LiveFault::NoMemory) => Ok(None),
-        Err(fault) => Err(Fail::from(fault)),
-    }
+}
+
+// Whether pruning them is refused for want of memory.
+fn lacks_memory(alloc: Global, count: usize, second: bool) -> bool {
+    let left = left_of(alloc, deep_elements(alloc, count, second));
+    matches!(left, Remains::NoMemory)
 }
 
 // The longest path that pruning takes, and one that is a node longer.
 #[test]
-fn prunes_deep_patterns(rt: HostRuntime) -> Result<(), Fail> {
+fn prunes_deep_patterns(rt: HostRuntime) {
     for second in [false, true] {
-        assert_eq!(rt; names_left(&rt, MOST_NODES_ON_A_PATH, second)?, Some(2));
-        assert_eq!(rt; names_left(&rt, MOST_NODES_ON_A_PATH + 1, second)?, None);
+        assert!(rt; leaves_two(rt.alloc(), MOST_NODES_ON_A_PATH, second));
+        assert!(rt; lacks_memory(rt.alloc(), MOST_NODES_ON_A_PATH + 1, second));
     }
-    Ok(())
 }
