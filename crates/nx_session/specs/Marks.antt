@@ -58,7 +58,7 @@ abbrev pub LeavesNone : SessionState → Type 0
 LeavesNone new = new.editor.frontier ≡ length new.editor.text → new.marks.aside ≡ []
 
 abbrev pub ReadsMarks : SessionState → Reply → SessionState → Type 0
-ReadsMarks old (Refused cause) new = ReadsMarksOn old new × LeavesNone new
+ReadsMarks old (Refused cause) new = ReadsMarksOn old new
 ReadsMarks old reply new = ReadsMarksOn old new × TakesFew old new × JoinsRow old new × LeavesNone new
 
 -- with another schema all begins anew, where the command is done

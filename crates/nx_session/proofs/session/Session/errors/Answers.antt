@@ -36,18 +36,3 @@ returns-clause-marks g c =
     let matcher = c.self.inside.machine.matcher in
     let K : Kept Recovered → Type 0 = λ k. KeepsMarks itself (rules_for (grammar_of matcher)) c.self.inside.text (meant matcher c.self.inside.marks.kept) k in
     rw (← c.self.view_is) (subst K (sym c.found.ensures.marks) c.caught_up.ensures.marks, c.in_ok-caught_up.ensures.few, c.in_ok-caught_up.ensures.row, λ all. ap (marks_by (means_by meaning_of c.found.new.machine.matcher)) (c.caught_up.ensures.aside all))
-
-pub returns-in_err-caught_up-clause-marks : goal.returns-in_err-caught_up-clause-marks
-returns-in_err-caught_up-clause-marks g c = rw (← c.self.view_is) (c.caught_up.ensures.marks, λ all. ap (marks_by (means_by meaning_of c.caught_up.new.machine.matcher)) (c.caught_up.ensures.aside all))
-
-pub returns-in_err-faults-clause-marks : goal.returns-in_err-faults-clause-marks
-returns-in_err-faults-clause-marks g c =
-    let matcher = c.self.inside.machine.matcher in
-    let K : Kept Recovered → Type 0 = λ k. KeepsMarks itself (rules_for (grammar_of matcher)) c.self.inside.text (meant matcher c.self.inside.marks.kept) k in
-    rw (← c.self.view_is) (subst K (sym c.found.ensures.marks) c.caught_up.ensures.marks, λ all. ap (marks_by (means_by meaning_of c.found.new.machine.matcher)) (c.caught_up.ensures.aside all))
-
-pub returns-in_err-refresh-clause-marks : goal.returns-in_err-refresh-clause-marks
-returns-in_err-refresh-clause-marks g c =
-    let matcher = c.self.inside.machine.matcher in
-    let K : Kept Recovered → Type 0 = λ k. KeepsMarks itself (rules_for (grammar_of matcher)) c.self.inside.text (meant matcher c.self.inside.marks.kept) k in
-    rw (← c.self.view_is) (subst K (sym c.found.ensures.marks) c.caught_up.ensures.marks, λ all. ap (marks_by (means_by meaning_of c.found.new.machine.matcher)) (c.caught_up.ensures.aside all))

@@ -7,6 +7,3 @@ use Rattle.nx_session.proofs.session.Session.slice.Goals as goal
 pub returns-clause-marks : goal.returns-clause-marks
 returns-clause-marks g c =
     rw (← c.self.view_is) (c.sliced.ensures.marks, c.in_ok-sliced.ensures.few, c.in_ok-sliced.ensures.row, λ all. ap (marks_by (means_by meaning_of c.sliced.new.machine.matcher)) (c.sliced.ensures.aside all))
-
-pub returns-in_err-sliced-clause-marks : goal.returns-in_err-sliced-clause-marks
-returns-in_err-sliced-clause-marks g c = rw (← c.self.view_is) (c.sliced.ensures.marks, λ all. ap (marks_by (means_by meaning_of c.sliced.new.machine.matcher)) (c.sliced.ensures.aside all))
