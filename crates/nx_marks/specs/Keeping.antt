@@ -61,8 +61,8 @@ AreUsed means r t now place (x ∷ xs) =
     (is_mark x ≡ true → IsAmong place now ⊎ (LeadsTo means r t place x.state → ⊥)) × AreUsed means r t now (place + x.len) xs
 
 -- the marks up to the old frontier stay where they are, and none is saved behind it but where one stood aside to which tokens
--- lead, or where one is due. Of what is aside the first ones go: a mark to stand up to the frontier or since tokens don't lead to
--- it, the state at which a row ends freely; the others stay with their segments
+-- lead, or where one is due. Of what is aside the first ones go. A mark goes only where it stands among the new ones, or where tokens
+-- don't lead to it; a state at which a row ends may always go. The others stay with their segments
 pub record KeepsMarks {S M : Type 0} (means : S → M) (r : Rules M) (t : List ℕ) (old new : Kept S) : Type 0 where
   pub more : List ℕ
   pub stay : places_of new ≡ places_of old ++ more

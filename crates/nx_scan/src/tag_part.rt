@@ -66,8 +66,8 @@ fn stay_len(seen: TagState, piece: &[u8], from: usize) -> usize
     }
 }
 
-/// The tag read on from a place, up to a `>`, or a character that has more bytes, with which it is lost, or that lies in
-/// another piece.
+/// The tag read on from a place as far as this can be done at once: to the first character that may end it or lose it, to one that
+/// has more than one byte, or to the end of the piece in which the place lies. Whoever goes on reads character by character.
 pub(crate) fn read_on(text: &Text, place: usize, seen: TagState) -> TagPart
     requires utf8 { IsUtf8 text.now }
     requires place { IsPlace text.now place }

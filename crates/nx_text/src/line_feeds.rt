@@ -91,10 +91,10 @@ pub(crate) fn move_gaps(bytes: &mut GapBuffer<u8>, feeds: &mut GapBuffer<usize>,
     bytes.move_gap(at);
 }
 
-/// How many bytes are counted in one byte.
+/// How many bytes are counted at once: fewer than 256, so that their count is a byte, and a multiple of what a register holds.
 const CHUNK: usize = 192;
 
-/// How many line feeds a few bytes have. So many are counted at once as fit into a register's bytes.
+/// How many line feeds there are in so few bytes that their count is a byte.
 fn count_few(bytes: &[u8]) -> u8
     requires { length bytes.now ≤ 192 }
     ensures { result ≡ count_by is_line_feed bytes.now }
