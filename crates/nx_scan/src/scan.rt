@@ -225,7 +225,7 @@ fn token_end(text: &Text, at: usize) -> End
             kind: TokenKind::Bom,
             place: 3,
         }
-    } else if stands_at(text, at, b"<") {
+    } else if byte_is(text, at, b'<') {
         markup_end(text, at)
     } else {
         End {
