@@ -56,13 +56,12 @@ module _ {S M : Type 0} (is_state : S → Type 0) (means : S → M) (r : Rules M
   took_nearer k before x token s n end is front_is same some w = nearer k before x token s n end w.left is front_is same some w.cuts w.first w.row w.count
 
   -- the frontier's mark may be begun
-  pub begun_near : (k : Kept S) (s : S) (n end : ℕ) → means s ≡ means k.here.state → WillReach means r t n end k → WillReach means r t n end (begun k s)
-  begun_near k s n end same w =
+  pub begun_near : (k : Kept S) (s : S) (n end : ℕ) → WillReach means r t n end k → WillReach means r t n end (begun k s)
+  begun_near k s n end w =
       let at : frontier_of k ≡ frontier_of (begun k s) = (let e : reach k.front ≡ reach k.front + (0 + 0) = omega arith in e) ∙ sym (reach-append k.front _) in
       let P : ℕ → Type 0 = λ a. CutsTo t a w.left (a + k.here.len) in
-      let F : M → Type 0 = λ m. FirstMeans means (after_all r m w.left) k.aside in
       let R : ℕ → Type 0 = λ a. a + k.here.len + row_len k.aside ≡ end in
-      record { left = w.left; cuts = subst P at w.cuts; first = subst F (sym same) w.first; row = subst R at w.row; count = w.count }
+      record { left = w.left; cuts = subst P at w.cuts; first = w.first; row = subst R at w.row; count = w.count }
 
   pub none-left : IsUtf8 t → (p q : ℕ) (ks : List Lexeme) → p ≡ q → CutsTo t p ks q → ks ≡ []
   none-left utf8 p q [] e h = refl

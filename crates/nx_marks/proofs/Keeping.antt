@@ -214,7 +214,7 @@ module _ {S M : Type 0} (means : S → M) (r : Rules M) (t : List ℕ) where
   -- a mark goes to the front
   pub keeps_begun : (k : Kept S) (s : S) → k.marked ≡ true → KeepsMarks means r t k (begun k s)
   keeps_begun k s e =
-      let mark : Mark S = record { state = k.here.state; len = 0; tags = 0; faults = []; whole = true; saved = true } in
+      let mark : Mark S = record { state = s; len = 0; tags = 0; faults = []; whole = true; saved = true } in
       let far : reach (k.front ++ mark ∷ []) ≡ reach k.front + 0 = reach-append k.front (mark ∷ []) ∙ (let z : reach k.front + (0 + 0) ≡ reach k.front + 0 = omega arith in z) in
       keeps_same k (begun k s)
       (places-append 0 k.front (mark ∷ []) ∙ (let z : 0 + reach k.front ≡ reach k.front = omega arith in ap (λ n. places_from 0 k.front ++ n ∷ []) z) ∙ sym (standing-is k.front k.here k.marked ∙ ap (λ b. standing k.front b) e))

@@ -211,7 +211,7 @@ took_is means r k before x token s front len tags gap fs due e l g f a d =
 
 pub begun_at : {S : Type 0} (k : Kept S) (s : S) → frontier_of (begun k s) ≡ frontier_of k
 begun_at {S = S} k s =
-    let mark : Mark S = record { state = k.here.state; len = 0; tags = 0; faults = []; whole = true; saved = true } in
+    let mark : Mark S = record { state = s; len = 0; tags = 0; faults = []; whole = true; saved = true } in
     let e : reach (k.front ++ mark ∷ []) ≡ reach k.front + (0 + 0) = reach-append k.front (mark ∷ []) in
     omega arith
 

@@ -126,25 +126,24 @@ module _ {S M : Type 0} (is_state : S → Type 0) (means : S → M) (r : Rules M
   -- the frontier's mark goes to the front
   pub begun_right : (k : Kept S) (s : S) → is_state s → means s ≡ means k.here.state → k.marked ≡ true → IsRight is_state means r t k → IsRight is_state means r t (begun k s)
   begun_right k s own same e h =
-      let mark : Mark S = record { state = k.here.state; len = 0; tags = 0; faults = []; whole = true; saved = true } in
-      let here : Mark S = record { state = s; len = k.here.len; tags = k.here.tags; faults = k.here.faults; whole = k.here.whole; saved = k.here.saved } in
+      let mark : Mark S = record { state = s; len = 0; tags = 0; faults = []; whole = true; saved = true } in
       let at : ℕ = 0 + reach k.front in
       let tail = chain-tail 0 at k.front (k.here ∷ k.aside) refl h.holds.chain in
       let P : List (Mark S) → Type 0 = λ l. FirstMeans means r.first l in
       let Q : List (Mark S) → Type 0 = λ l. Chain is_state means r t 0 l in
-      let list = assoc k.front mark here k.aside in
-      let on : Chain is_state means r t (at + 0) (here ∷ k.aside) = other-here at (at + 0) k.here here k.aside h.holds.ends h.holds.ends own (omega arith) tail in
+      let list = assoc k.front mark k.here k.aside in
+      let on : Chain is_state means r t (at + 0) (k.here ∷ k.aside) = other-here at (at + 0) k.here k.here k.aside h.holds.ends h.holds.ends tail.0 (omega arith) tail in
       let cut_here : at ≡ at + 0 = omega arith in
       record {
         holds = record {
-          first = subst P (sym list) (first-with k.front k.here mark k.aside (here ∷ k.aside) r.first refl h.holds.first);
-          chain = subst Q (sym list) (chain-with 0 at k.front k.here mark k.aside (here ∷ k.aside) refl refl h.holds.chain
-              (tail.0, (([], (record { back = h.rule.mark e; cuts = cut_here; tags_are = refl; faults_are = refl; sparse = tt }, same)), on)));
+          first = subst P (sym list) (first-with k.front k.here mark k.aside (k.here ∷ k.aside) r.first same h.holds.first);
+          chain = subst Q (sym list) (chain-with 0 at k.front k.here mark k.aside (k.here ∷ k.aside) refl same h.holds.chain
+              (own, (([], (record { back = ap r.back same ∙ h.rule.mark e; cuts = cut_here; tags_are = refl; faults_are = refl; sparse = tt }, sym same)), on)));
           whole = whole-append k.front (mark ∷ []) h.holds.whole (refl, tt);
           ends = h.holds.ends;
         };
         rule = record {
-          rule = λ _. ap (is_due r (means s)) (tags-snoc k.front mark) ∙ not-due (means s);
+          rule = λ _. ap (is_due r (means k.here.state)) (tags-snoc k.front mark) ∙ not-due (means k.here.state);
           some = λ _. some-snoc k.front mark;
           mark = λ x. absurd (cc);
           saved = h.rule.saved;

@@ -10,11 +10,11 @@ use Rattle.nx_marks.specs.Editing.{split}
 use Rattle.nx_marks.specs.Right.{tags_behind}
 use Rattle.nx_marks.specs.declared.mark.Mark.{Mark}
 
--- the frontier's mark becomes the last of the front, with nothing behind it, and a copy of its state goes on
+-- a mark with a copy of the frontier's state becomes the last of the front, with nothing behind it, and the frontier is no mark
 abbrev pub begun : {S : Type 0} → Kept S → S → Kept S
 begun k s = record {
-  front = k.front ++ record { state = k.here.state; len = 0; tags = 0; faults = []; whole = true; saved = true } ∷ [];
-  here = record { state = s; len = k.here.len; tags = k.here.tags; faults = k.here.faults; whole = k.here.whole; saved = k.here.saved };
+  front = k.front ++ record { state = s; len = 0; tags = 0; faults = []; whole = true; saved = true } ∷ [];
+  here = k.here;
   marked = false;
   aside = k.aside;
 }

@@ -528,7 +528,8 @@ impl<S: Drop> Line<S> {
         Ok(())
     }
 
-    /// Saves the state at the frontier as a mark, and goes on from there with a state that means the same.
+    /// Saves a state that means what the one at the frontier does as a mark there. The mark gets the copy, which has no more memory
+    /// than it needs; the state that goes on has grown, and may grow.
     pub(crate) fn begin(&mut self, alloc: Global, state: S) -> Result<(), NoMemory>
         ensures ok { OnOk result (self.new ≡ begun self.old state) }
         ensures err { OnErr result (self.new ≡ self.old) }
@@ -536,9 +537,8 @@ impl<S: Drop> Line<S> {
         let fresh = Stored::new(alloc, state)?;
         self.front.reserve(self.aside.len() + 1)?;
         self.aside.reserve(self.front.len() + 1)?;
-        let mark = mem::replace(&mut self.here.state, fresh);
         self.front.push(Mark {
-            state: mark,
+            state: fresh,
             len: 0,
             tags: 0,
             faults: Faults::new(alloc),
@@ -571,7 +571,7 @@ pub(crate) fn is_due<A: Machine>(machine: &A, state: &Stored<A::State>, tags: us
     machine.may_mark(state) && machine.depth(state).max(16) <= tags
 }
 
-/// Saves the state at the frontier where a mark stands there, and goes on with a copy.
+/// Saves a copy of the state at the frontier where a mark stands there.
 pub(crate) fn begin_here<A: Machine>(
     alloc: Global,
     machine: &A,

@@ -33,8 +33,7 @@ returns-clause-near g c = λ n end w.
     let m = g.A.Machine in
     let a = c.args.machine.now in
     let P : Kept _ → Type 0 = λ k. WillReach (m.means a) (m.rules a) c.args.text.now n end k in
-    let meaning = c.in_ok-state.ensures.meaning ∙ ap (λ (k : Kept _). m.means a k.here.state) c.line.view_is in
-    subst P (sym c.in_ok-begin.ensures.ok) (begun_near (m.is_state a) (m.means a) (m.rules a) c.args.text.now c.args.line.now c.in_ok-state.state n end meaning w)
+    subst P (sym c.in_ok-begin.ensures.ok) (begun_near (m.is_state a) (m.means a) (m.rules a) c.args.text.now c.args.line.now c.in_ok-state.state n end w)
 
 pub returns-clause-keeps : goal.returns-clause-keeps
 returns-clause-keeps g c =
