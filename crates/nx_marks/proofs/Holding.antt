@@ -114,7 +114,7 @@ unsaved_held xs here x ys marks more xr yr yr' h e f g =
     let d = ap reach f in
     record { in_front = (let i = h.in_front in omega arith); in_aside = (let i = h.in_aside in omega arith); fits = (let i = h.fits in omega arith) }
 
--- the last of the front is taken off and put back, longer by what the next mark is nearer
+-- the last of the front is longer by what the next mark is nearer
 pub refilled : {S : Type 0} (xs : List (Mark S)) (here : Mark S) (ys xs' more : List (Mark S)) (x x' next : Mark S) (n xr yr less_room more_room : ℕ) → Held xs here ys xr yr → xs ≡ xs' ++ x ∷ [] → less_room ≡ xr →
     n ≤ here.len → x'.len ≡ x.len + n → next.len ≡ here.len - n → more ≡ xs' ++ x' ∷ [] → more_room ≡ less_room → Held more next ys more_room yr
 refilled xs here ys xs' more x x' next n xr yr less_room more_room h e f le long near g i =
@@ -123,12 +123,6 @@ refilled xs here ys xs' more x x' next n xr yr less_room more_room h e f le long
     let c = longer more xs' x' g in
     let d = further more xs' x' g in
     record { in_front = (let j = h.in_front in omega arith); in_aside = (let j = h.in_aside in omega arith); fits = (let j = h.fits in omega arith) }
-
-pub room_again : {S : Type 0} (xs : List (Mark S)) (here : Mark S) (ys xs' : List (Mark S)) (x : Mark S) (xr yr less_room : ℕ) → Held xs here ys xr yr → xs ≡ xs' ++ x ∷ [] → less_room ≡ xr → length xs' < less_room
-room_again xs here ys xs' x xr yr less_room h e f = let a = longer xs xs' x e in let j = h.in_front in omega arith
-
-pub fits_again : {S : Type 0} (xs : List (Mark S)) (here : Mark S) (ys xs' : List (Mark S)) (x : Mark S) (n xr yr : ℕ) → Held xs here ys xr yr → xs ≡ xs' ++ x ∷ [] → n ≤ here.len → reach xs' + (x.len + n) < 2 ^ 64
-fits_again xs here ys xs' x n xr yr h e le = let b = further xs xs' x e in let j = h.fits in omega arith
 
 none_reaches : {S : Type 0} (xs : List (Mark S)) → length xs ≡ 0 → reach xs ≡ 0
 none_reaches [] e = refl

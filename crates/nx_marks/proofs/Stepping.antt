@@ -15,10 +15,10 @@ use Rattle.nx_scan.proofs.Every.{cut-is_token}
 use Rattle.nx_scan.proofs.OwnBytes.{cut-own}
 use Rattle.nx_marks.specs.Bound.{WillReach}
 use Rattle.nx_marks.specs.Chain.{FirstMeans, IsFirst, OwnStates, Chain, AreWhole, Kept, all_of, frontier_of, reach}
-use Rattle.nx_marks.specs.Right.{IsRight}
+use Rattle.nx_marks.specs.Right.{IsRight, tags_behind}
 use Rattle.nx_marks.specs.Ruling.{is_due}
 use Rattle.nx_marks.specs.Tags.{tag_of, tags_in}
-use Rattle.nx_marks.specs.Taking.{begun, took}
+use Rattle.nx_marks.specs.Taking.{begun, longer, took}
 use Rattle.nx_marks.specs.declared.mark.Mark.{Mark}
 use Rattle.nx_marks.proofs.Places.{size, cuts-size, next}
 use Rattle.nx_marks.proofs.Edits.{whole-link}
@@ -27,6 +27,7 @@ use Rattle.nx_marks.proofs.Reading.{frontier_place, front-led}
 use Rattle.nx_marks.proofs.Later.{right_later}
 use Rattle.nx_marks.proofs.Refused.{same_right}
 use Rattle.nx_marks.proofs.Bounding.{took_nearer}
+use Rattle.nx_marks.proofs.Stacks.{parted, tags-last}
 
 pub tag-one : (k : TokenKind) → tag_of k ≤ 1
 tag-one kind.Bom = omega arith
@@ -224,3 +225,43 @@ back_within is_state means r laws t utf8 k h =
     let zero = laws.first_back in
     let same = ap r.back l.meaning in
     omega arith
+
+-- before a step: what is kept is right, and the token is the next one; the last mark of the front and those before it
+pub record Standing {S M : Type 0} (is_state : S → Type 0) (means : S → M) (r : Rules M) (t : List ℕ) (k : Kept S) (token : Token) : Type 0 where
+  pub right : IsRight is_state means r t k
+  pub rest : frontier_of k < length t
+  pub is : token ≡ cut t (frontier_of k)
+  pub far : length token.bytes ≤ k.here.len
+  pub unmarked : k.marked ≡ false
+  pub before : List (Mark S)
+  pub last : Mark S
+  pub front_is : k.front ≡ before ++ last ∷ []
+  pub ready : Ready is_state means r t k before last token
+
+pub standing : {S M : Type 0} (is_state : S → Type 0) (means : S → M) (r : Rules M) (t : List ℕ) (k j : Kept S) (token : Token) → k ≡ j → RulesLaws r → IsUtf8 t → IsRight is_state means r t j → frontier_of j < length t →
+    token ≡ cut t (frontier_of j) → length token.bytes ≤ j.here.len → j.marked ≡ false → Standing is_state means r t k token
+standing {S = S} is_state means r t k j token e laws utf8 right rest is far unmarked =
+    let P : Kept S → Type 0 = λ i. Standing is_state means r t i token in
+    let p = parted j.front (right.rule.some unmarked) in
+    subst P (sym e) (record {
+      right = right;
+      rest = rest;
+      is = is;
+      far = far;
+      unmarked = unmarked;
+      before = p.before;
+      last = p.last;
+      front_is = p.are;
+      ready = ready is_state means r t j p.before p.last token laws utf8 right p.are rest is;
+    })
+
+-- what the step leaves is what was to be taken, where the last segment of the front got longer by the token
+pub lengthened_is : {Self S M : Type 0} (later : Self → Self → Type 0) (is_state : Self → S → Type 0) (means : Self → S → M) (rules : Self → Rules M) → LaterLaws later is_state means rules → ((s : Self) → RulesLaws (rules s)) →
+    (a b : Self) (k : Kept S) (before : List (Mark S)) (x : Mark S) (token : Lexeme) (s : S) (front : List (Mark S)) (gap tags : ℕ) (due : Bool) → later a b → is_state a k.here.state →
+    front ≡ before ++ longer x token (placed (x.len - (rules a).back (means a k.here.state)) ((rules a).gives (means a k.here.state) token)) ∷ [] → gap ≡ k.here.len - length token.bytes → tags ≡ tags_behind front →
+    due ≡ is_due (rules b) (means b s) tags → kept_with front s gap k.here due k.aside ≡ took (means b) (rules b) k before x token s
+lengthened_is later is_state means rules laws rule_laws a b k before x token s front gap tags due l own front_is g t d =
+    let more = placed (x.len - (rules a).back (means a k.here.state)) ((rules a).gives (means a k.here.state) token) in
+    took_is (means b) (rules b) k before x token s front (x.len + length token.bytes) (x.tags + tag_of token.kind) gap (x.faults ++ more) due front_is refl refl
+    (ap (λ fs. x.faults ++ fs) (faults_later later is_state means rules laws rule_laws a b k x.len token l own)) g
+    (d ∙ ap (is_due (rules b) (means b s)) (t ∙ ap tags_behind front_is ∙ tags-last before (longer x token more)))

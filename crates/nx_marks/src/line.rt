@@ -13,7 +13,6 @@ ghost use Rattle.nx_marks.specs.Joined.{but_last, last, seen};
 ghost use Rattle.nx_marks.specs.Bound.{WillReach};
 ghost use Rattle.nx_marks.specs.Keeping.{KeepsMarks};
 ghost use Rattle.nx_marks.specs.Ruling.{is_due};
-ghost use Rattle.nx_marks.specs.Tags.{tag_of};
 ghost use Rattle.nx_base.specs.Tokens.{cut};
 ghost use Rattle.nx_marks.specs.Starting.{started};
 ghost use Rattle.nx_marks.specs.Taking.{begun, let_go};
@@ -21,14 +20,14 @@ ghost use Rattle.nx_marks.specs.Walking.{StepsBack, StepsOn, DropsNext, DropsBet
 ghost use Rattle.nx_marks.specs.Walking.{GoesBack, GoesOn, ComesBack, Follows, Fits, cut_off};
 
 use crate::mark::Mark;
-use crate::stack::Stack;
-use crate::stored::{Stored, copied, step_stored};
+use crate::stack::{Stack, lengthen_topmost};
+use crate::stored::{Stored, copied};
 use nx_base::edit::Edit;
 use nx_base::fault::Faults;
 use nx_base::machine::Machine;
 use nx_base::memory::NoMemory;
 use nx_base::sequence::TryCopy;
-use nx_base::token::{Token, TokenKind};
+use nx_base::token::Token;
 use nx_text::text::Text;
 use std::alloc::Global;
 use std::marker::Model;
@@ -596,16 +595,6 @@ pub(crate) fn begin_here<A: Machine>(
     Ok(())
 }
 
-/// How many tags a token of a kind is.
-fn tags_of(kind: TokenKind) -> usize
-    ensures { result ≡ tag_of kind }
-{
-    match kind {
-        TokenKind::Start | TokenKind::Empty | TokenKind::End => 1,
-        _ => 0,
-    }
-}
-
 /// Steps over the token at the frontier, which no mark aside lies in, and gives its memory back. A mark stands behind it where
 /// one is due.
 pub(crate) fn step<A: Machine>(
@@ -630,28 +619,14 @@ pub(crate) fn step<A: Machine>(
 {
     let _len = text.len();
     let mut token = token;
-    let mut last = line.front.pop();
-    // The faults of a segment are counted from its mark.
-    token.from = last.len;
-    match step_stored(
+    let tags = lengthen_topmost(
         alloc,
         machine,
         &mut line.here.state,
-        &token,
-        &mut last.faults,
-    ) {
-        Ok(()) => {
-            let len = token.bytes.len();
-            last.len += len;
-            last.tags += tags_of(token.kind);
-            line.here.len -= len;
-            line.marked = is_due(machine, &line.here.state, last.tags);
-            line.front.push(last);
-            Ok(token.bytes.into_vec())
-        }
-        Err(error) => {
-            line.front.push(last);
-            Err(error)
-        }
-    }
+        &mut token,
+        &mut line.front,
+    )?;
+    line.here.len -= token.bytes.len();
+    line.marked = is_due(machine, &line.here.state, tags);
+    Ok(token.bytes.into_vec())
 }

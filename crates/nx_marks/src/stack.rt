@@ -1,12 +1,19 @@
 //! Marks in a stack.
 
-ghost use Rattle.std.specs.Prelude.{◌≡◌, ◌+◌, ◌<◌, ◌≤◌, ◌^◌, ◌==◌, [], ◌∷◌, ◌++◌, List, length, false, IsTrue, OnOk};
+ghost use Rattle.std.specs.Prelude.{◌≡◌, ◌+◌, ◌-◌, ◌<◌, ◌≤◌, ◌^◌, ◌==◌, [], ◌∷◌, ◌++◌, List, length, false, IfOk, IsTrue, IsUtf8, OnErr, OnOk};
+ghost use Rattle.nx_base.specs.Rules.{lexeme_of, IsLexeme};
+ghost use Rattle.nx_base.specs.Shifting.{placed};
 ghost use Rattle.nx_marks.specs.Chain.{AreWhole, reach};
+ghost use Rattle.nx_marks.specs.Right.{tags_behind};
 ghost use Rattle.nx_marks.specs.Stack.{Stacked, end_count, faulty_count, unsaved};
+ghost use Rattle.nx_marks.specs.Taking.{longer};
 ghost use Rattle.nx_marks.specs.declared.mark.Mark.{Mark};
 
-use crate::mark::Mark;
+use crate::mark::{Mark, lengthen};
+use crate::stored::Stored;
+use nx_base::machine::Machine;
 use nx_base::memory::NoMemory;
+use nx_base::token::Token;
 use std::alloc::Global;
 use std::marker::Model;
 
@@ -155,4 +162,45 @@ impl<S: Drop> Stack<S> {
         self.faulty -= faulty_of(&mark);
         mark
     }
+}
+
+/// Has the machine take one more token, and makes the segment of the topmost mark longer by it, with its faults. How many tags lie
+/// behind that mark then.
+pub(crate) fn lengthen_topmost<A: Machine>(
+    alloc: Global,
+    machine: &mut A,
+    state: &mut Stored<A::State>,
+    token: &mut Token,
+    stack: &mut Stack<A::State>,
+) -> Result<usize, NoMemory>
+    requires some { 0 < length stack.old.marks }
+    requires state { A.is_state machine.old state.old }
+    requires place { (before : List (Mark A.State)) (x : Mark A.State) → stack.old.marks ≡ before ++ x ∷ []
+        → (A.rules machine.old).back (A.means machine.old state.old) ≤ x.len }
+    requires room { reach stack.old.marks + length token.old.bytes < 2 ^ 64 }
+    requires tags { tags_behind stack.old.marks + 1 < 2 ^ 64 }
+    requires text { IsUtf8 token.old.bytes }
+    requires kind { IsLexeme (lexeme_of token.old) }
+    ensures later { A.later machine.old machine.new }
+    ensures state { A.is_state machine.new state.new }
+    ensures after { OnOk result (A.means machine.new state.new
+        ≡ (A.rules machine.old).after (A.means machine.old state.old) (lexeme_of token.old)) }
+    ensures longer { OnOk result ((before : List (Mark A.State)) (x : Mark A.State) → stack.old.marks ≡ before ++ x ∷ []
+        → stack.new.marks ≡ before ++ longer x (lexeme_of token.old)
+        (placed (x.len - (A.rules machine.old).back (A.means machine.old state.old))
+        ((A.rules machine.old).gives (A.means machine.old state.old) (lexeme_of token.old))) ∷ []) }
+    ensures tags { IfOk result (λ tags. tags ≡ tags_behind stack.new.marks) }
+    ensures room { stack.new.room ≡ stack.old.room }
+    ensures bytes { token.new.bytes ≡ token.old.bytes }
+    ensures unchanged { OnErr result (A.means machine.new state.new ≡ A.means machine.old state.old) }
+    ensures same { OnErr result (stack.new.marks ≡ stack.old.marks) }
+{
+    let count = token.bytes.len();
+    let top = stack.items.len() - 1;
+    let before = faulty_of(&stack.items[top]);
+    lengthen(alloc, machine, state, token, &mut stack.items[top])?;
+    let faulty = faulty_of(&stack.items[top]);
+    stack.reach += count;
+    stack.faulty = stack.faulty - before + faulty;
+    Ok(stack.items[top].tags)
 }
