@@ -102,6 +102,17 @@ impl<T: Named + Drop> Stack<T> {
         }
     }
 
+    // The empty list, with room for so many things and no more.
+    fn with_room(alloc: Global, len: usize) -> Result<Self, NoMemory>
+        ensures { IfOk result (λ stack. stack ≡ []) }
+    {
+        Ok(Stack {
+            alloc,
+            items: Sequence::from_vec(Vec::with_capacity(alloc, len)?),
+            inner: NamePlaces::new(alloc),
+        })
+    }
+
     /// The things, in order.
     pub(crate) fn as_slice(&self) -> &[T]
         ensures { result.now ≡ self.now }
@@ -197,8 +208,9 @@ impl<T: Named + TryCopy + Drop> Stack<T> {
 }
 
 impl<T: Named + TryCopy + Drop> TryCopy for Stack<T> {
+    // States are kept by the ten thousand, so a copy takes no more room than it needs.
     fn copy(&self) -> Result<Self, NoMemory> {
-        let mut copied = Stack::new(self.alloc);
+        let mut copied = Stack::with_room(self.alloc, self.len())?;
         copied.append(self.items.as_slice())?;
         Ok(copied)
     }
