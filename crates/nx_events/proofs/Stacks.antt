@@ -1,12 +1,14 @@
 -- Lists of things with names: the names behind the first 32, and where names stand.
-use Rattle.std.proofs.Common.{◌≡◌, ℕ, suc, ◌+◌, ◌-◌, ◌<◌, ◌≤◌, Bool, true, false, cond, Option, Some, None, List, [], ◌∷◌, ◌++◌, length, take, drop, map, get_or, refl, ap, sym, ◌∙◌, arith}
-use Rattle.std.specs.Prelude.{nat_le, slice_get, IfSome, ◌^◌}
+use Rattle.std.proofs.Common.{◌≡◌, ◌↔◌, ℕ, suc, ◌+◌, ◌-◌, ◌<◌, ◌≤◌, Bool, true, false, cond, Option, Some, None, inl, inr, List, [], ◌∷◌, ◌++◌, length, take, drop, map, get_or, refl, ap, sym, ◌∙◌, arith}
+use Rattle.std.specs.Prelude.{nat_le, slice_get, IfSome, IsTrue, ◌^◌}
 use Rattle.std.specs.Option.{option_and_then, option_map}
 use Rattle.std.specs.Str.{bytes_eq}
 use Rattle.std.proofs.Math.Seq.{take-suc}
+use Rattle.std.proofs.lemmas.Bool.{cases_Bool}
 use Rattle.std.proofs.lemmas.Bool.Decides.{nat_tests}
 use Rattle.std.proofs.lemmas.Grind.{common_steps}
 use Rattle.std.proofs.lemmas.Option.{slice_get-get_or}
+use Rattle.std.proofs.lemmas.Slice.Eq.{bytes_eq-Decides}
 use Rattle.std.proofs.lemmas.List.{map-append, length-append, length-map, length-drop, length-take-le, take-append-le, take-append-drop, drop-append-le}
 use Rattle.nx_events.specs.Items.{one_more, around_innermost}
 use Rattle.nx_events.specs.Scopes.{or_else, last_uri}
@@ -80,6 +82,15 @@ module _ {T : Type 0} (f : T → List ℕ) where
       ∙ last_place-push name (map f (take (n - 1) xs)) (f x)
       ∙ ap (λ (u : Bool). cond u (Some (length (map f (take (n - 1) xs)))) (last_place name (map f (take (n - 1) xs)))) g
       ∙ ap (λ (m : ℕ). cond t (Some m) (last_place name (map f (take (n - 1) xs)))) size
+
+-- names that were compared one way or the other
+pub same_is : (xs ys : List ℕ) (t : Bool) → (IsTrue t ↔ (xs ≡ ys)) → bytes_eq xs ys ≡ t
+same_is xs ys true h = (bytes_eq-Decides xs ys).1 (h.0 refl)
+same_is xs ys false h =
+    elim (cases_Bool (bytes_eq xs ys)) [
+      | inl e ↦ absurd (let bad : false ≡ true = h.1 ((bytes_eq-Decides xs ys).0 e) in cc)
+      | inr e ↦ e
+    ]
 
 pub last_of_none : (name : List ℕ) → last_place name [] ≡ None
 unfolding last_place

@@ -11,7 +11,7 @@ ghost use Rattle.nx_events.specs.SeenNames.{AreKept, new_of};
 use crate::flaw::{Flaw, Resolved};
 use crate::item::{Event, Item, Items};
 use crate::namespace::{is_declaration, push_flaw};
-use crate::qname::{is_qname, prefix_of};
+use crate::qname::{parted, prefix_of};
 use crate::scope::{Bindings, expand_attribute, expand_element};
 use crate::tag::{Attribute, copy_of};
 use crate::tag_names::TagNames;
@@ -59,11 +59,11 @@ pub(crate) fn element_resolved(
         let resolved = flawed(alloc, Kind::SecondRoot, written)?;
         return Ok(resolved);
     }
-    if !is_qname(written) {
+    let Some(parts) = parted(written) else {
         let resolved = flawed(alloc, Kind::BadName, written)?;
         return Ok(resolved);
-    }
-    let name = expand_element(alloc, outer, own, written)?;
+    };
+    let name = expand_element(alloc, outer, own, parts.prefix, parts.local)?;
     let resolved = declared_or_flaw(alloc, name, written)?;
     Ok(resolved)
 }
@@ -124,11 +124,11 @@ fn attribute_declared(
 ) -> Result<Resolved, NoMemory>
     ensures { IfOk result (λ resolved. resolved ≡ attribute_declared (outer.now ++ own.now) written.now) }
 {
-    if !is_qname(written) {
+    let Some(parts) = parted(written) else {
         let resolved = flawed(alloc, Kind::BadName, written)?;
         return Ok(resolved);
-    }
-    let name = expand_attribute(alloc, outer, own, written)?;
+    };
+    let name = expand_attribute(alloc, outer, own, parts.prefix, parts.local)?;
     let declared = declared_or_flaw(alloc, name, written)?;
     Ok(declared)
 }

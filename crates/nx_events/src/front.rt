@@ -48,10 +48,15 @@ pub(crate) fn is_between(b: u8) -> bool
     is_space(b) || b == b'/' || b == b'>'
 }
 
-/// Whether the byte may stand behind a name in a tag.
+/// Whether the byte may stand behind a name in a tag. No such byte is behind `>` in ASCII, as letters are: for these one
+/// comparison tells.
+#[tactic(auto, unfolding(nx_base::specs::Characters::is_space))]
 pub(crate) fn ends_name(b: u8) -> bool
     ensures { result ≡ ends_name b }
 {
+    if b > b'>' {
+        return false;
+    }
     is_between(b) || b == b'='
 }
 

@@ -35,6 +35,7 @@ mod element;
 mod end_tag;
 pub mod equal;
 pub mod fold;
+mod inner_names;
 pub mod item;
 pub mod law;
 mod name_places;

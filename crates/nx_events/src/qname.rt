@@ -1,6 +1,6 @@
 //! Qualified names (Namespaces in XML 1.0, sections 3 and 4).
 
-ghost use Rattle.std.specs.Prelude.{◌≡◌, ◌≤◌, ◌<◌, length};
+ghost use Rattle.std.specs.Prelude.{◌≡◌, ◌≤◌, ◌<◌, true, false, length, MatchOption};
 ghost use Rattle.std.specs.List.{list_all};
 ghost use Rattle.std.specs.Str.{chars};
 ghost use Rattle.nx_events.specs.Names.{has_colon, begins_unprefixed, goes_on_unprefixed, is_ncname, prefix_of, local_of, is_qname};
@@ -54,12 +54,6 @@ fn is_ncname(name: &[u8]) -> bool
     begins_unprefixed(front_char(name)) && go_on_unprefixed(&name[len..])
 }
 
-fn has_colon(name: &[u8]) -> bool
-    ensures { result ≡ has_colon name.now }
-{
-    byte_place(name, b':') < name.len()
-}
-
 /// What stands before the first colon, and nothing where there is none.
 #[tactic(auto, unfolding(crate::specs::Names::prefix_of))]
 pub(crate) fn prefix_of(name: &[u8]) -> &[u8]
@@ -73,23 +67,44 @@ pub(crate) fn prefix_of(name: &[u8]) -> &[u8]
     }
 }
 
-/// What stands behind the first colon, or all where there is none.
-#[tactic(auto, unfolding(crate::specs::Names::local_of))]
-pub(crate) fn local_of(name: &[u8]) -> &[u8]
-    ensures { result.now ≡ local_of name.now }
+/// A qualified name, parted at its first colon.
+#[derive(Clone, Copy)]
+pub(crate) struct QName<'a> {
+    /// What stands before the colon, and nothing where there is none.
+    pub(crate) prefix: &'a [u8],
+    /// What stands behind the colon, or all where there is none.
+    pub(crate) local: &'a [u8],
+}
+
+/// The name in its parts, where it has the form of a qualified name.
+#[tactic(auto, unfolding(crate::specs::Names::is_qname, crate::specs::Names::prefix_of, crate::specs::Names::local_of))]
+pub(crate) fn parted(name: &[u8]) -> Option<QName<'_>>
+    ensures { MatchOption result (is_qname name.now ≡ false) (λ parts. (is_qname name.now ≡ true)
+        × (parts.prefix.now ≡ prefix_of name.now) × (parts.local.now ≡ local_of name.now)) }
 {
     let colon = byte_place(name, b':');
-    if colon < name.len() {
-        &name[colon + 1..]
+    if colon == name.len() {
+        return if is_ncname(name) {
+            Some(QName {
+                prefix: &[],
+                local: name,
+            })
+        } else {
+            None
+        };
+    }
+    let prefix = &name[..colon];
+    let local = &name[colon + 1..];
+    if is_ncname(prefix) && is_ncname(local) {
+        Some(QName { prefix, local })
     } else {
-        name
+        None
     }
 }
 
 /// Whether the name has the form of a qualified name.
-#[tactic(auto, unfolding(crate::specs::Names::is_qname))]
 pub(crate) fn is_qname(name: &[u8]) -> bool
     ensures { result ≡ is_qname name.now }
 {
-    (!has_colon(name) || is_ncname(prefix_of(name))) && is_ncname(local_of(name))
+    parted(name).is_some()
 }

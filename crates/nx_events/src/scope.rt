@@ -1,9 +1,8 @@
 //! Namespace declarations in force (Namespaces in XML 1.0, sections 3, 5 and 6).
 
 ghost use Rattle.std.specs.Prelude.{◌≡◌, ◌++◌, IfOk, option_copied};
-ghost use Rattle.nx_events.specs.Scopes.{last_uri, bound_uri, element_uri, attribute_uri, named_by, expand_element, expand_attribute};
+ghost use Rattle.nx_events.specs.Scopes.{last_uri, bound_uri, element_uri, attribute_uri, named_by};
 
-use crate::qname::{local_of, prefix_of};
 use crate::stack::{Named, Stack};
 use crate::tag::copy_of;
 use nx_base::memory::NoMemory;
@@ -114,15 +113,12 @@ pub(crate) fn expand_element(
     alloc: Global,
     outer: &Bindings,
     own: &Bindings,
-    written: &[u8],
+    prefix: &[u8],
+    local: &[u8],
 ) -> Result<Option<Name>, NoMemory>
-    ensures { IfOk result (λ name. name ≡ expand_element (outer.now ++ own.now) written.now) }
+    ensures { IfOk result (λ name. name ≡ named_by (element_uri (outer.now ++ own.now) prefix.now) local.now) }
 {
-    let name = named_by(
-        alloc,
-        element_uri(outer, own, prefix_of(written)),
-        local_of(written),
-    )?;
+    let name = named_by(alloc, element_uri(outer, own, prefix), local)?;
     Ok(name)
 }
 
@@ -131,14 +127,11 @@ pub(crate) fn expand_attribute(
     alloc: Global,
     outer: &Bindings,
     own: &Bindings,
-    written: &[u8],
+    prefix: &[u8],
+    local: &[u8],
 ) -> Result<Option<Name>, NoMemory>
-    ensures { IfOk result (λ name. name ≡ expand_attribute (outer.now ++ own.now) written.now) }
+    ensures { IfOk result (λ name. name ≡ named_by (attribute_uri (outer.now ++ own.now) prefix.now) local.now) }
 {
-    let name = named_by(
-        alloc,
-        attribute_uri(outer, own, prefix_of(written)),
-        local_of(written),
-    )?;
+    let name = named_by(alloc, attribute_uri(outer, own, prefix), local)?;
     Ok(name)
 }

@@ -4,7 +4,8 @@ ghost use Rattle.std.specs.Prelude.{◌≡◌, ◌-◌, ◌<◌, ◌≤◌, ◌+
 ghost use Rattle.std.specs.Prelude.{OnErr};
 ghost use Rattle.nx_events.specs.Places.{last_place, last_named, one_name_more, one_name_less};
 
-use crate::name_places::NamePlaces;
+use crate::inner_names::InnerNames;
+use nx_base::equal::same_each;
 use nx_base::memory::NoMemory;
 use nx_base::sequence::{Sequence, TryCopy};
 use std::alloc::Global;
@@ -29,7 +30,7 @@ pub struct Stack<T: Named> {
     alloc: Global,
     items: Sequence<T>,
     /// The names of those behind the first ones.
-    inner: NamePlaces,
+    inner: InnerNames,
 }
 
 impl<T: Named> Model for Stack<T> {
@@ -44,7 +45,7 @@ impl<T: Named> Model for Stack<T> {
 }
 
 // Adds the name of a thing that is pushed onto a list of this length.
-fn push_name(inner: &mut NamePlaces, alloc: Global, name: &[u8], len: usize) -> Result<(), NoMemory>
+fn push_name(inner: &mut InnerNames, alloc: Global, name: &[u8], len: usize) -> Result<(), NoMemory>
     ensures ok { OnOk result (inner.new ≡ one_name_more len inner.old name.now) }
     ensures err { OnErr result (inner.new ≡ inner.old) }
 {
@@ -55,7 +56,7 @@ fn push_name(inner: &mut NamePlaces, alloc: Global, name: &[u8], len: usize) -> 
 }
 
 // Takes the name of a thing off that was the last one behind a list of this length.
-fn pop_name(inner: &mut NamePlaces, len: usize)
+fn pop_name(inner: &mut InnerNames, len: usize)
     ensures { inner.new ≡ one_name_less len inner.old }
 {
     if LOOKED_THROUGH <= len {
@@ -72,7 +73,8 @@ fn last_place_in<T: Named>(items: &[T], name: &[u8]) -> Option<usize>
     while n > 0 {
         n -= 1;
         let item = &items[n];
-        if item.name() == name {
+        // Names are short: byte by byte they are compared sooner than by words.
+        if same_each(item.name(), name) {
             return Some(n);
         }
     }
@@ -98,7 +100,7 @@ impl<T: Named + Drop> Stack<T> {
         Stack {
             alloc,
             items: Sequence::new(alloc),
-            inner: NamePlaces::new(alloc),
+            inner: InnerNames::new(),
         }
     }
 
@@ -109,7 +111,7 @@ impl<T: Named + Drop> Stack<T> {
         Ok(Stack {
             alloc,
             items: Sequence::from_vec(Vec::with_capacity(alloc, len)?),
-            inner: NamePlaces::new(alloc),
+            inner: InnerNames::new(),
         })
     }
 

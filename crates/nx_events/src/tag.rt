@@ -87,6 +87,10 @@ fn attribute_extent(bytes: &[u8]) -> Option<Extent>
 pub(crate) fn copy_of(alloc: Global, bytes: &[u8]) -> Result<Bytes, NoMemory>
     ensures { IfOk result (λ copied. copied ≡ bytes.now) }
 {
+    // Most names have no namespace: nothing is copied sooner than a slice.
+    if bytes.is_empty() {
+        return Ok(Bytes::new(alloc));
+    }
     Ok(Bytes::from_vec(Vec::from_slice(alloc, bytes)?))
 }
 
