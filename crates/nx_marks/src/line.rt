@@ -388,7 +388,8 @@ impl<S: Drop> Line<S> {
         }
     }
 
-    /// Where the last mark of all lies.
+    /// Where the last mark of all lies. It stands outside of the loop over tokens, which seldom asks.
+    #[inline(never)]
     fn end(&self) -> usize
         ensures { result ≡ frontier_of (seen true self.now) }
     {
@@ -595,38 +596,30 @@ pub(crate) fn begin_here<A: Machine>(
     Ok(())
 }
 
-/// Steps over the token at the frontier, which no mark aside lies in, and gives its memory back. A mark stands behind it where
-/// one is due.
+/// Steps over the token at the frontier, which no mark aside lies in. A mark stands behind it where one is due.
 pub(crate) fn step<A: Machine>(
     alloc: Global,
     machine: &mut A,
     text: &Text,
     line: &mut Line<A::State>,
-    token: Token,
-) -> Result<Vec<u8>, NoMemory>
+    token: &mut Token,
+) -> Result<(), NoMemory>
     requires right { IsRight (A.is_state machine.old) (A.means machine.old) (A.rules machine.old) text.now line.old }
     requires unmarked { line.old.marked ≡ false }
     requires rest { frontier_of line.old < length text.now }
-    requires token { token ≡ cut text.now (frontier_of line.old) }
-    requires far { length token.bytes ≤ line.old.here.len }
+    requires token { token.old ≡ cut text.now (frontier_of line.old) }
+    requires far { length token.old.bytes ≤ line.old.here.len }
     ensures later { A.later machine.old machine.new }
     ensures right { IsRight (A.is_state machine.new) (A.means machine.new) (A.rules machine.new) text.now line.new }
-    ensures on { OnOk result (frontier_of line.new ≡ frontier_of line.old + length token.bytes) }
+    ensures on { OnOk result (frontier_of line.new ≡ frontier_of line.old + length token.old.bytes) }
     ensures near { OnOk result ((n end : ℕ) → WillReach (A.means machine.old) (A.rules machine.old) text.now n end line.old
         → 0 < line.old.here.len → (0 < n) × WillReach (A.means machine.new) (A.rules machine.new) text.now (n - 1) end line.new) }
     ensures off { OnErr result (frontier_of line.new ≡ frontier_of line.old) }
     ensures keeps { KeepsMarks (A.means machine.old) (A.rules machine.old) text.now line.old line.new }
 {
     let _len = text.len();
-    let mut token = token;
-    let tags = lengthen_topmost(
-        alloc,
-        machine,
-        &mut line.here.state,
-        &mut token,
-        &mut line.front,
-    )?;
+    let tags = lengthen_topmost(alloc, machine, &mut line.here.state, token, &mut line.front)?;
     line.here.len -= token.bytes.len();
     line.marked = is_due(machine, &line.here.state, tags);
-    Ok(token.bytes.into_vec())
+    Ok(())
 }

@@ -42,21 +42,21 @@ pub struct Marks<A: Machine> {
     buffer: Vec<u8>,
 }
 
-/// Takes the token at the frontier, where the line is parted, and gives its memory back. Marks aside that it passes are dropped.
+/// Takes the token at the frontier, where the line is parted. Marks aside that it passes are dropped.
 fn take_here<A: Machine>(
     alloc: Global,
     machine: &mut A,
     text: &Text,
     line: &mut Line<A::State>,
-    token: Token,
-) -> Result<Vec<u8>, NoMemory>
+    token: &mut Token,
+) -> Result<(), NoMemory>
     requires right { IsRight (A.is_state machine.old) (A.means machine.old) (A.rules machine.old) text.now line.old }
     requires rest { frontier_of line.old < length text.now }
-    requires token { token ≡ cut text.now (frontier_of line.old) }
+    requires token { token.old ≡ cut text.now (frontier_of line.old) }
     requires settled { (0 < line.old.here.len) ⊎ (line.old.aside ≡ []) }
     ensures later { A.later machine.old machine.new }
     ensures right { IsRight (A.is_state machine.new) (A.means machine.new) (A.rules machine.new) text.now line.new }
-    ensures on { OnOk result (frontier_of line.new ≡ frontier_of line.old + length token.bytes) }
+    ensures on { OnOk result (frontier_of line.new ≡ frontier_of line.old + length token.old.bytes) }
     ensures near { OnOk result ((n end : ℕ) → WillReach (A.means machine.old) (A.rules machine.old) text.now n end line.old
         → 0 < line.old.here.len → (0 < n) × WillReach (A.means machine.new) (A.rules machine.new) text.now (n - 1) end line.new) }
     ensures off { OnErr result (frontier_of line.new ≡ frontier_of line.old) }
@@ -66,25 +66,24 @@ fn take_here<A: Machine>(
     begin_here(alloc, machine, text, line)?;
     let count = token.bytes.len();
     line.let_go(count);
-    let buffer = step(alloc, machine, text, line, token)?;
-    Ok(buffer)
+    step(alloc, machine, text, line, token)
 }
 
-/// Takes the token at the frontier, and gives its memory back. Marks aside that it passes are dropped.
+/// Takes the token at the frontier. Marks aside that it passes are dropped.
 fn take<A: Machine>(
     alloc: Global,
     machine: &mut A,
     text: &Text,
     kept: &mut Kept<A::State>,
-    token: Token,
-) -> Result<Vec<u8>, NoMemory>
+    token: &mut Token,
+) -> Result<(), NoMemory>
     requires right { IsRight (A.is_state machine.old) (A.means machine.old) (A.rules machine.old) text.now kept.old }
     requires rest { frontier_of kept.old < length text.now }
-    requires token { token ≡ cut text.now (frontier_of kept.old) }
+    requires token { token.old ≡ cut text.now (frontier_of kept.old) }
     requires settled { (0 < kept.old.here.len) ⊎ (kept.old.aside ≡ []) }
     ensures later { A.later machine.old machine.new }
     ensures right { IsRight (A.is_state machine.new) (A.means machine.new) (A.rules machine.new) text.now kept.new }
-    ensures on { OnOk result (frontier_of kept.new ≡ frontier_of kept.old + length token.bytes) }
+    ensures on { OnOk result (frontier_of kept.new ≡ frontier_of kept.old + length token.old.bytes) }
     ensures near { OnOk result ((n end : ℕ) → WillReach (A.means machine.old) (A.rules machine.old) text.now n end kept.old
         → 0 < kept.old.here.len → (0 < n) × WillReach (A.means machine.new) (A.rules machine.new) text.now (n - 1) end kept.new) }
     ensures off { OnErr result (frontier_of kept.new ≡ frontier_of kept.old) }
@@ -164,10 +163,11 @@ impl<A: Machine> Marks<A> {
         let _len = text.len();
         let at = self.kept.frontier();
         let buffer = mem::replace(&mut self.buffer, Vec::new(self.alloc));
-        let Some(token) = scan_token_into(text, at, buffer, steps)? else {
+        let Some(mut token) = scan_token_into(text, at, buffer, steps)? else {
             return Ok(());
         };
-        self.buffer = take(self.alloc, machine, text, &mut self.kept, token)?;
+        take(self.alloc, machine, text, &mut self.kept, &mut token)?;
+        self.buffer = token.bytes.into_vec();
         rejoin(machine, &mut self.kept);
         Ok(())
     }

@@ -57,6 +57,8 @@ fn join<A: Machine>(machine: &A, line: &mut Line<A::State>) -> bool
 }
 
 /// Joins the first mark aside, which lies at the frontier, or drops it. Tells whether all that is aside is in front of the frontier now.
+/// It stands outside of the loop over tokens, where it is seldom called.
+#[inline(never)]
 fn rejoin_one<A: Machine>(machine: &A, line: &mut Line<A::State>) -> bool
     requires right { IsRightForSome (A.is_state machine.now) (A.means machine.now) (A.rules machine.now) line.old }
     requires here { line.old.here.len ≡ 0 }

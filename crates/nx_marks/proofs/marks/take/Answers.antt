@@ -30,7 +30,7 @@ take_here-requires-clause-settled g c =
 pub returns-clause-on : goal.returns-clause-on
 returns-clause-on g c =
     let e = c.arrive.ensures ∙ c.kept.view_is in
-    let P : Kept _ → Type 0 = λ k. OnOk c.take_here.result (frontier_of c.take_here.new.line ≡ frontier_of k + length c.args.token.bytes) in subst P e c.take_here.ensures.on
+    let P : Kept _ → Type 0 = λ k. OnOk c.take_here.result (frontier_of c.take_here.new.line ≡ frontier_of k + length c.args.token.now.bytes) in subst P e c.take_here.ensures.on
 
 pub returns-clause-near : goal.returns-clause-near
 returns-clause-near g c =

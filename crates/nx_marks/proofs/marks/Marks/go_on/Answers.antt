@@ -26,7 +26,7 @@ returns-clause-on g c =
     let utf8 = c.len-len.ensures.utf8 in
     let place = frontier_place (m.is_state a) (m.means a) (m.rules a) t (g.met.A.Machine.rule_laws a) utf8 k c.requires.right in
     let is : c.in-Some.token ≡ cut t (frontier_of k) = (let P : Option Token → Type 0 = λ o. CutAt t c.frontier-at.result o in subst P c.in-Some.is c.in_ok-token.ensures.token).1 ∙ ap (cut t) c.frontier-at.ensures in
-    let one = one_token t (frontier_of k) (frontier_of i) c.in-Some.token place c.requires.rest is c.in_ok-self.ensures.on in
+    let one = one_token t (frontier_of k) (frontier_of i) c.in-Some.token place c.requires.rest is c.in_ok-take.ensures.on in
     let zero = over_between (m.is_state b) (m.means b) (m.rules b) (g.met.A.Machine.rule_laws b) t utf8 i c.rejoin.new.kept c.take.ensures.right (c.rejoin.ensures.right t utf8 c.take.ensures.right) c.rejoin.ensures.further in
     moves_on t (frontier_of k) 1 (frontier_of i) 0 (frontier_of c.rejoin.new.kept) one zero
 
@@ -35,7 +35,7 @@ returns-clause-near g c = λ n end w.
     let m = g.A.Machine in
     let a = c.args.machine.now in
     let b = c.take.new.machine in
-    near_on (m.is_state b) (m.means b) (m.rules b) (g.met.A.Machine.rule_laws b) c.args.text.now c.len-len.ensures.utf8 (m.means a) (m.rules a) c.args.self.now.kept c.take.new.kept c.rejoin.new.kept n end (over_reaches c.args.text.now _ _ _ (returns-clause-on g c)) c.in_ok-self.ensures.near
+    near_on (m.is_state b) (m.means b) (m.rules b) (g.met.A.Machine.rule_laws b) c.args.text.now c.len-len.ensures.utf8 (m.means a) (m.rules a) c.args.self.now.kept c.take.new.kept c.rejoin.new.kept n end (over_reaches c.args.text.now _ _ _ (returns-clause-on g c)) c.in_ok-take.ensures.near
     c.rejoin.ensures w
 
 pub returns-clause-keeps : goal.returns-clause-keeps
