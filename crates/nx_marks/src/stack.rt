@@ -1,6 +1,7 @@
 //! Marks in a stack.
 
-ghost use Rattle.std.specs.Prelude.{◌≡◌, ◌+◌, ◌-◌, ◌<◌, ◌≤◌, ◌^◌, ◌==◌, [], ◌∷◌, ◌++◌, List, length, false, IfOk, IsTrue, IsUtf8, OnErr, OnOk};
+ghost use Rattle.std.specs.Prelude.{◌≡◌, ◌+◌, ◌-◌, ◌<◌, ◌≤◌, ◌^◌, ◌==◌, false, IsTrue, IfOk, OnOk, OnErr, IsUtf8};
+ghost use Rattle.std.specs.Prelude.{List, [], ◌∷◌, ◌++◌, length};
 ghost use Rattle.nx_base.specs.Rules.{lexeme_of, IsLexeme};
 ghost use Rattle.nx_base.specs.Shifting.{placed};
 ghost use Rattle.nx_marks.specs.Chain.{AreWhole, reach};
