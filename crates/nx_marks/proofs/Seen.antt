@@ -11,6 +11,7 @@ use Rattle.nx_marks.specs.declared.mark.Mark.{Mark}
 use Rattle.nx_marks.proofs.Backs.{reach-append}
 use Rattle.nx_marks.proofs.Cutting.{front-same}
 use Rattle.nx_marks.proofs.Splits.{split-on}
+use Rattle.nx_marks.proofs.Stacks.{tags-last}
 
 append-nil : {S : Type 0} (xs : List (Mark S)) → xs ++ [] ≡ xs
 append-nil [] = refl
@@ -77,20 +78,15 @@ lowest-last here x xs marks e = ap (λ l. last here (reverse l)) e ∙ ap (last 
 pub lowest-but-last : {S : Type 0} (here x : Mark S) (xs marks : List (Mark S)) → marks ≡ x ∷ xs → but_last here (reverse marks) ≡ here ∷ reverse xs
 lowest-but-last here x xs marks e = ap (λ l. but_last here (reverse l)) e ∙ ap (but_last here) (reversed x xs) ∙ but-last-behind here (reverse xs) x
 
-tags-snoc : {S : Type 0} (xs : List (Mark S)) (y : Mark S) → tags_behind (xs ++ y ∷ []) ≡ y.tags
-tags-snoc [] y = refl
-tags-snoc (x ∷ []) y = refl
-tags-snoc (x ∷ z ∷ xs) y = tags-snoc (z ∷ xs) y
-
 -- how many tags lie behind the one before the last
 pub tags-alone : {S : Type 0} (front : List (Mark S)) (here x : Mark S) (marks : List (Mark S)) → marks ≡ x ∷ [] → here.tags ≡ tags_behind (front ++ but_last here (reverse marks))
-tags-alone front here x marks e = sym (ap (λ l. tags_behind (front ++ l)) (lowest-but-last here x [] marks e) ∙ tags-snoc front here)
+tags-alone front here x marks e = sym (ap (λ l. tags_behind (front ++ l)) (lowest-but-last here x [] marks e) ∙ tags-last front here)
 
 pub tags-second : {S : Type 0} (front : List (Mark S)) (here x y : Mark S) (ys marks : List (Mark S)) → marks ≡ x ∷ y ∷ ys → y.tags ≡ tags_behind (front ++ but_last here (reverse marks))
 tags-second front here x y ys marks e =
     sym (ap (λ l. tags_behind (front ++ l)) (lowest-but-last here x (y ∷ ys) marks e ∙ ap (λ l. here ∷ l) (reversed y ys))
     ∙ ap tags_behind (sym (append_assoc front (here ∷ reverse ys) (y ∷ [])))
-    ∙ tags-snoc (front ++ here ∷ reverse ys) y)
+    ∙ tags-last (front ++ here ∷ reverse ys) y)
 
 -- the last one is no mark any more
 pub noted_last : {S : Type 0} (front : List (Mark S)) (here x : Mark S) (marked : Bool) (xs old new : List (Mark S)) → old ≡ x ∷ xs → new ≡ unsaved x ∷ xs →

@@ -110,6 +110,7 @@ put_on_top xs i x y t e =
     let n : length t.below ≡ i = (let l = ap length t.are in let m = length-append t.below (x ∷ []) in omega arith) in
     ap (λ l. slice_set l i y) t.are ∙ set_at t.below x [] y i n
 
+-- how many tags lie behind the last of some marks
 pub tags-last : {S : Type 0} (xs : List (Mark S)) (x : Mark S) → tags_behind (xs ++ x ∷ []) ≡ x.tags
 tags-last [] x = refl
 tags-last (y ∷ []) x = refl
