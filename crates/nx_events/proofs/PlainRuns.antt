@@ -1,13 +1,13 @@
 -- Runs of bytes that stand for themselves.
-use Rattle.std.proofs.Common.{◌≡◌, ℕ, zero, suc, ◌+◌, ◌-◌, ◌<◌, ◌≤◌, Bool, true, false, cond, Option, Some, None, List, [], ◌∷◌, ◌++◌, length, take, drop, append_assoc, refl, ap, sym, ◌∙◌, subst, arith, ⊎_elim}
-use Rattle.std.specs.Prelude.{◌==◌, ◌&&◌, not, nat_eq, nat_lt, nat_le, is_some, slice_index, codes}
-use Rattle.std.proofs.lemmas.Bool.{false≢true, ne_eqb, eqb-false, not-true, leb-true, ltb-true, lt-ltb, cases_lt}
+use Rattle.std.proofs.Common.{◌≡◌, ℕ, zero, suc, ◌+◌, ◌-◌, ◌<◌, ◌≤◌, Bool, true, false, cond, Option, Some, None, List, [], ◌∷◌, ◌++◌, length, take, drop, append_assoc, refl, ap, sym, ◌∙◌, subst, arith, inl, inr, ◌⊎◌, ⊎_elim}
+use Rattle.std.specs.Prelude.{◌==◌, ◌&&◌, ◌||◌, not, nat_eq, nat_lt, nat_le, is_some, slice_index, codes}
+use Rattle.std.proofs.lemmas.Bool.{false≢true, ne_eqb, eqb-true, eqb-false, not-true, leb-true, ltb-true, lt-ltb, cases_lt}
 use Rattle.std.proofs.lemmas.Bool.Decides.{nat_tests}
 use Rattle.std.specs.List.{prefix_len, starts_with}
 use Rattle.std.specs.Str.{continuation_len, lead_bits}
 use Rattle.nx_base.specs.Characters.{is_char, is_space}
 use Rattle.std.proofs.lemmas.List.{take_rest}
-use Rattle.nx_events.specs.Plain.{is_plain}
+use Rattle.nx_events.specs.Plain.{is_plain, is_plain_line, is_plain_in}
 use Rattle.nx_events.specs.Utf8.{with_following, front_char}
 use Rattle.nx_events.specs.References.{reference_len, referenced, spelled}
 use Rattle.nx_base.specs.declared.fault.Fault.{Fault}
@@ -50,6 +50,17 @@ is_plain_tells b e =
       no_bracket = eqb-false b 93 (not-true (b == 93) (right_of (not (b == 38)) _ marks));
     }
 
+-- a byte of a run in lines is such a byte or a line feed
+either : (a b : Bool) → (a || b) ≡ true → (a ≡ true) ⊎ (b ≡ true)
+either true b e = inl refl
+either false b e = inr e
+
+by_line : (b : ℕ) (P : ℕ → Type 0) → is_plain_line b ≡ true → ((p : IsPlain b) → P b) → P 10 → P b
+by_line b P e plain feed = ⊎_elim
+    (λ (h : is_plain b ≡ true). plain (is_plain_tells b h))
+    (λ (h : (b == 10) ≡ true). subst P (sym (eqb-true b 10 h)) feed)
+    (either (is_plain b) (b == 10) e)
+
 other_than : (b n : ℕ) → 32 ≤ b → n < 32 → (b == n) ≡ false
 other_than b n h g = ne_eqb b n (λ (e : b ≡ n). omega (arith, e, h, g))
 
@@ -68,10 +79,14 @@ text_len b xs p =
     ∙ ap (λ t. cond (t && starts_with nat_eq xs (codes "]>")) 3 (line_piece_len (b ∷ xs))) (ne_eqb 93 b (λ (e : 93 ≡ b). p.no_bracket (sym e)))
     ∙ line_len b xs p
 
-plain_len : (reading : Reading) (b : ℕ) (xs : List ℕ) → IsPlain b → piece_len reading (b ∷ xs) ≡ 1
-plain_len Plain b xs p = line_len b xs p
-plain_len Text b xs p = text_len b xs p
-plain_len Value b xs p = text_len b xs p
+feed_len : (xs : List ℕ) → (line_piece_len (10 ∷ xs) ≡ 1) × (text_piece_len (10 ∷ xs) ≡ 1)
+unfolding line_piece_len text_piece_len
+feed_len xs = (refl, refl)
+
+plain_len : (reading : Reading) (b : ℕ) (xs : List ℕ) → is_plain_in reading b ≡ true → piece_len reading (b ∷ xs) ≡ 1
+plain_len Plain b xs e = by_line b (λ n. line_piece_len (n ∷ xs) ≡ 1) e (λ p. line_len b xs p) (feed_len xs).0
+plain_len Text b xs e = by_line b (λ n. text_piece_len (n ∷ xs) ≡ 1) e (λ p. text_len b xs p) (feed_len xs).1
+plain_len Value b xs e = text_len b xs (is_plain_tells b e)
 
 line_string : (b : ℕ) → IsPlain b → line_string_of (b ∷ []) ≡ b ∷ []
 unfolding line_string_of
@@ -92,10 +107,14 @@ value_string b p = ⊎_elim
     (λ (h : 33 ≤ b). ap (λ t. cond t (32 ∷ []) (text_string_of (b ∷ []))) (no_space b (omega (arith, h))) ∙ text_string b p)
     (cases_lt b 33)
 
-plain_string : (reading : Reading) (b : ℕ) → IsPlain b → piece_string reading (b ∷ []) ≡ b ∷ []
-plain_string Plain b p = line_string b p
-plain_string Text b p = text_string b p
-plain_string Value b p = value_string b p
+feed_string : (line_string_of (10 ∷ []) ≡ 10 ∷ []) × (text_string_of (10 ∷ []) ≡ 10 ∷ [])
+unfolding line_string_of text_string_of
+feed_string = (refl, refl)
+
+plain_string : (reading : Reading) (b : ℕ) → is_plain_in reading b ≡ true → piece_string reading (b ∷ []) ≡ b ∷ []
+plain_string Plain b e = by_line b (λ n. line_string_of (n ∷ []) ≡ n ∷ []) e (λ p. line_string b p) feed_string.0
+plain_string Text b e = by_line b (λ n. text_string_of (n ∷ []) ≡ n ∷ []) e (λ p. text_string b p) feed_string.1
+plain_string Value b e = value_string b (is_plain_tells b e)
 
 is_allowed : (b : ℕ) → 32 ≤ b → b < 128 → is_char b ≡ true
 unfolding is_char
@@ -119,10 +138,14 @@ no_text_flaw : (b : ℕ) → IsPlain b → text_flaw (b ∷ []) ≡ None
 unfolding text_flaw
 no_text_flaw b p = ap (λ t. cond (t && (1 == 3)) (Some BadText) (tag_flaw (b ∷ []))) (ne_eqb b 93 p.no_bracket) ∙ no_tag_flaw b p
 
-plain_flaw : (reading : Reading) (b : ℕ) → IsPlain b → piece_flaw reading (b ∷ []) ≡ None
-plain_flaw Plain b p = no_flaw b p
-plain_flaw Text b p = no_text_flaw b p
-plain_flaw Value b p = no_tag_flaw b p
+feed_flaw : (character_flaw (10 ∷ []) ≡ None) × (text_flaw (10 ∷ []) ≡ None)
+unfolding character_flaw tag_flaw text_flaw front_char is_char
+feed_flaw = (refl, refl)
+
+plain_flaw : (reading : Reading) (b : ℕ) → is_plain_in reading b ≡ true → piece_flaw reading (b ∷ []) ≡ None
+plain_flaw Plain b e = by_line b (λ n. character_flaw (n ∷ []) ≡ None) e (λ p. no_flaw b p) feed_flaw.0
+plain_flaw Text b e = by_line b (λ n. text_flaw (n ∷ []) ≡ None) e (λ p. no_text_flaw b p) feed_flaw.1
+plain_flaw Value b e = no_tag_flaw b (is_plain_tells b e)
 
 -- a front that isn't empty begins with such a byte, and goes on with others
 first_plain : (n : ℕ) (t : Bool) (k : ℕ) → suc n ≤ cond t (1 + k) 0 → t ≡ true
@@ -134,38 +157,38 @@ others_plain n true k h = omega (arith, h)
 others_plain n false k h = absurd (omega (arith, h))
 
 -- a run of such bytes is its own string
-pub string_run : (reading : Reading) (n : ℕ) (xs : List ℕ) → n ≤ prefix_len is_plain xs →
+pub string_run : (reading : Reading) (n : ℕ) (xs : List ℕ) → n ≤ prefix_len (is_plain_in reading) xs →
     string_of reading xs ≡ take n xs ++ string_of reading (drop n xs)
 string_run reading zero xs h = refl
 string_run reading (suc n) [] h = absurd (omega (arith, h))
 string_run reading (suc n) (b ∷ xs) h =
-    let plain = is_plain_tells b (first_plain n (is_plain b) (prefix_len is_plain xs) h) in
+    let plain = first_plain n (is_plain_in reading b) (prefix_len (is_plain_in reading) xs) h in
     let piece : b ∷ [] ≡ take (piece_len reading (b ∷ xs)) (b ∷ xs) = ap (λ k. take k (b ∷ xs)) (sym (plain_len reading b xs plain)) in
     string_step reading (b ∷ xs) (b ∷ []) piece (omega arith)
     ∙ ap (λ (ys : List ℕ). ys ++ string_of reading xs) (plain_string reading b plain)
-    ∙ ap (λ (ys : List ℕ). b ∷ ys) (string_run reading n xs (others_plain n (is_plain b) (prefix_len is_plain xs) h))
+    ∙ ap (λ (ys : List ℕ). b ∷ ys) (string_run reading n xs (others_plain n (is_plain_in reading b) (prefix_len (is_plain_in reading) xs) h))
 
 -- and has no fault
-pub faults_run : (told : Told) (reading : Reading) (at n : ℕ) (xs : List ℕ) → n ≤ prefix_len is_plain xs →
+pub faults_run : (told : Told) (reading : Reading) (at n : ℕ) (xs : List ℕ) → n ≤ prefix_len (is_plain_in reading) xs →
     faults_behind told reading at xs ≡ faults_behind told reading (at + n) (drop n xs)
 faults_run told reading at zero xs h = let e : at ≡ at + 0 = omega arith in ap (λ (k : ℕ). faults_behind told reading k xs) e
 faults_run told reading at (suc n) [] h = absurd (omega (arith, h))
 faults_run told reading at (suc n) (b ∷ xs) h =
-    let plain = is_plain_tells b (first_plain n (is_plain b) (prefix_len is_plain xs) h) in
+    let plain = first_plain n (is_plain_in reading b) (prefix_len (is_plain_in reading) xs) h in
     let piece : b ∷ [] ≡ take (piece_len reading (b ∷ xs)) (b ∷ xs) = ap (λ k. take k (b ∷ xs)) (sym (plain_len reading b xs plain)) in
     let span : Span = record { from = at; to = at + 1 } in
     let place : at + 1 + n ≡ at + suc n = omega arith in
     faults_step told reading at (at + 1) (b ∷ xs) (b ∷ []) piece (omega arith) refl
     ∙ ap (λ (w : Option Kind). new_faults told w span ++ faults_behind (told_behind told w) reading (at + 1) xs) (plain_flaw reading b plain)
-    ∙ faults_run told reading (at + 1) n xs (others_plain n (is_plain b) (prefix_len is_plain xs) h)
+    ∙ faults_run told reading (at + 1) n xs (others_plain n (is_plain_in reading b) (prefix_len (is_plain_in reading) xs) h)
     ∙ ap (λ (k : ℕ). faults_behind told reading k (drop n xs)) place
 
 -- a run is read
-pub run_read : (reading : Reading) (n : ℕ) (xs out new : List ℕ) → n ≤ prefix_len is_plain xs → new ≡ out ++ take n xs →
+pub run_read : (reading : Reading) (n : ℕ) (xs out new : List ℕ) → n ≤ prefix_len (is_plain_in reading) xs → new ≡ out ++ take n xs →
     new ++ string_of reading (take (length xs - n) (drop n xs)) ≡ out ++ string_of reading xs
 run_read reading n xs out new h e = rw (take_rest xs n, e, append_assoc) (ap (λ (ys : List ℕ). out ++ ys) (sym (string_run reading n xs h)))
 
 -- and has nothing to tell
-pub run_told : (told : Told) (reading : Reading) (at n : ℕ) (xs : List ℕ) (old : List Item) → n ≤ prefix_len is_plain xs →
+pub run_told : (told : Told) (reading : Reading) (at n : ℕ) (xs : List ℕ) (old : List Item) → n ≤ prefix_len (is_plain_in reading) xs →
     old ++ faults_as_items (faults_behind told reading (at + n) (take (length xs - n) (drop n xs))) ≡ old ++ faults_as_items (faults_behind told reading at xs)
 run_told told reading at n xs old h = rw (take_rest xs n) (ap (λ (fs : List Fault). old ++ faults_as_items fs) (sym (faults_run told reading at n xs h)))

@@ -166,7 +166,7 @@ fn pass_front<'a>(
     ensures room { IfOk result (λ left. left.at + length left.bytes.now < 2 ^ 64) }
     ensures shorter { IfOk result (λ left. length left.bytes.now < length bytes.now) }
 {
-    let n = plain_len(bytes);
+    let n = plain_len(reading, bytes);
     if n > 0 {
         return Ok(Left {
             told,

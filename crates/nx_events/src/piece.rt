@@ -129,7 +129,7 @@ fn push_front<'a>(
     ensures string { IfOk result (λ left. out.new.items ++ string_of reading left.now ≡ out.old.items ++ string_of reading bytes.now) }
     ensures shorter { IfOk result (λ left. length left.now < length bytes.now) }
 {
-    let n = plain_len(bytes);
+    let n = plain_len(reading, bytes);
     if n > 0 {
         out.extend_from_slice(&bytes[..n])?;
         return Ok(&bytes[n..]);
