@@ -40,6 +40,7 @@ pub mod Spans
 pub mod Moves
 -- ---- what private contracts cite
 pub mod Plain
+pub mod PlainNames
 pub mod SeenNames
 pub mod Places
 pub mod TagPlaces

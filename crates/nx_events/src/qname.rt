@@ -3,7 +3,8 @@
 ghost use Rattle.std.specs.Prelude.{◌≡◌, ◌≤◌, ◌<◌, true, false, length, MatchOption};
 ghost use Rattle.std.specs.List.{list_all};
 ghost use Rattle.std.specs.Str.{chars};
-ghost use Rattle.nx_events.specs.Names.{has_colon, begins_unprefixed, goes_on_unprefixed, is_ncname, prefix_of, local_of, is_qname};
+ghost use Rattle.nx_events.specs.Names.{begins_unprefixed, goes_on_unprefixed, is_ncname, prefix_of, local_of, is_qname};
+ghost use Rattle.nx_events.specs.PlainNames.{is_plain_start, is_plain_further, is_plain_name};
 
 use crate::front::byte_place;
 use crate::utf8::{continuation_len, front_char, is_name_char, is_name_start};
@@ -40,10 +41,45 @@ fn go_on_unprefixed(name: &[u8]) -> bool
     true
 }
 
+// Whether the byte is a letter of ASCII or `_`.
+fn is_plain_start(b: u8) -> bool
+    ensures { result ≡ is_plain_start b }
+{
+    b.is_ascii_alphabetic() || b == b'_'
+}
+
+// Whether the byte is the same, a digit, `-` or `.`.
+fn is_plain_further(b: u8) -> bool
+    ensures { result ≡ is_plain_further b }
+{
+    is_plain_start(b) || (b.is_ascii_digit() || (b == b'-' || b == b'.'))
+}
+
+// Whether all bytes are such ones.
+fn are_plain_further(bytes: &[u8]) -> bool
+    ensures { result ≡ list_all is_plain_further bytes.now }
+{
+    bytes.iter().all(|b| is_plain_further(*b))
+}
+
+// Whether such bytes alone stand in the name, as in nearly all. Then it is one without a colon, and its characters
+// needn't be read.
+fn is_plain_name(name: &[u8]) -> bool
+    ensures { result ≡ is_plain_name name.now }
+{
+    match name {
+        [] => false,
+        [first, rest @ ..] => is_plain_start(*first) && are_plain_further(rest),
+    }
+}
+
 /// Whether the name is one without a colon.
 fn is_ncname(name: &[u8]) -> bool
     ensures { result ≡ is_ncname name.now }
 {
+    if is_plain_name(name) {
+        return true;
+    }
     if name.is_empty() {
         return false;
     }

@@ -1,7 +1,11 @@
 use Rattle.std.proofs.Common.{true, false, refl, ap, sym, ◌∙◌, arith}
 use Rattle.nx_events.specs.Names.{begins_unprefixed}
 use Rattle.nx_events.proofs.Characters.{ncname_whole, ncname_cut, ncname_empty}
+use Rattle.nx_events.proofs.PlainNames.{plain_name}
 use Rattle.nx_events.proofs.qname.is_ncname.Goals as goal
+
+pub returns-then-is_plain_name : goal.returns-then-is_plain_name
+returns-then-is_plain_name c = sym (plain_name c.args.name.now (sym c.is_plain_name.ensures ∙ c.if-is_plain_name.true))
 
 pub returns-then-is_empty : goal.returns-then-is_empty
 returns-then-is_empty c = sym (ncname_empty c.args.name.now (sym c.is_empty.ensures ∙ c.if-is_empty.true))
