@@ -1,11 +1,12 @@
 -- Attributes, an attribute at a time.
-use Rattle.std.proofs.Common.{◌≡◌, ℕ, zero, suc, ◌+◌, ◌-◌, ◌<◌, ◌≤◌, Bool, true, false, List, [], ◌∷◌, ◌++◌, length, take, drop, get_or, refl, ap, sym, ◌∙◌, arith, length-drop, append_assoc}
+use Rattle.std.proofs.Common.{◌≡◌, ℕ, zero, suc, ◌+◌, ◌-◌, ◌<◌, ◌≤◌, Bool, true, false, cond, List, [], ◌∷◌, ◌++◌, length, take, drop, get_or, refl, ap, sym, ◌∙◌, arith, length-drop, append_assoc}
 use Rattle.std.specs.Prelude.{◌==◌, ◌&&◌, not, nat_le, slice_index}
-use Rattle.std.specs.List.{position_or_len}
+use Rattle.std.specs.List.{position_or_len, list_all}
+use Rattle.std.proofs.lemmas.Bool.{and_parts}
 use Rattle.std.proofs.lemmas.List.{take_rest, append-nil}
 use Rattle.std.proofs.lemmas.Bool.Decides.{Decides-eqb, nat_tests}
 use Rattle.std.proofs.lemmas.List.Folds.{length-prefix_len}
-use Rattle.nx_events.specs.Tags.{is_between, quote_place, value_len, attribute_len, begins_attribute, front_attribute, front_len, attributes_from, ends_name, written_name, tag_attributes}
+use Rattle.nx_events.specs.Tags.{is_between, quote_place, value_len, attribute_len, begins_attribute, attribute_at, front_attribute, front_len, attributes_from, ends_name, written_name, tag_attributes}
 use Rattle.nx_events.specs.declared.tag.Attribute.{Attribute}
 
 and_false : (t : Bool) → (t && false) ≡ false
@@ -89,9 +90,25 @@ unfolding tag_attributes written_name attributes_from
 tag_of_nothing at [] e = refl
 tag_of_nothing at (b ∷ bs) e = absurd (let h : suc (length bs) ≡ 0 = (Decides-eqb (suc (length bs)) 0).0 e in omega arith)
 
+-- no attribute stands among white space, `/` and `>`
+none_among : (at : ℕ) (bs : List ℕ) → list_all is_between bs ≡ true → attributes_from 0 at bs ≡ []
+unfolding attributes_from front_attribute front_len
+none_among at [] h = refl
+none_among at (b ∷ bs) h =
+    let t = and_parts (is_between b) (list_all is_between bs) h in
+    ap (λ (t : Bool). cond t (attribute_at at (b ∷ bs) ∷ []) [] ++ attributes_from (cond t (attribute_len (b ∷ bs)) 1 - 1) (at + 1) bs) (none_between (b ∷ bs) t.0)
+    ∙ none_among (at + 1) bs t.1
+
 pub tag_of_some : (at m : ℕ) (bs : List ℕ) → m ≡ position_or_len ends_name (take (length bs - 1) (drop 1 bs)) →
     attributes_from 0 (at + (1 + m)) (take (length bs - (1 + m)) (drop (1 + m) bs)) ≡ tag_attributes at bs
 unfolding tag_attributes written_name
 tag_of_some at m bs e =
     let named : m ≡ length (take (position_or_len ends_name (drop 1 bs)) (drop 1 bs)) = e ∙ ap (position_or_len ends_name) (take_rest bs 1) ∙ sym (length-prefix_len (λ b. not (ends_name b)) (drop 1 bs)) in
     rw (take_rest bs (1 + m)) (ap (λ (k : ℕ). attributes_from 0 (at + (1 + k)) (drop (1 + k) bs)) named)
+
+pub alone_of_nothing : (bs : List ℕ) (at : ℕ) → (length bs == 0) ≡ true → tag_attributes at bs ≡ []
+alone_of_nothing bs at e = sym (tag_of_nothing at bs e)
+
+pub alone_of_some : (m : ℕ) (bs : List ℕ) (at : ℕ) → m ≡ position_or_len ends_name (take (length bs - 1) (drop 1 bs)) →
+    list_all is_between (take (length bs - (1 + m)) (drop (1 + m) bs)) ≡ true → tag_attributes at bs ≡ []
+alone_of_some m bs at e h = sym (tag_of_some at m bs e) ∙ none_among (at + (1 + m)) (take (length bs - (1 + m)) (drop (1 + m) bs)) h

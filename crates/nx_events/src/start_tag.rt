@@ -16,7 +16,7 @@ use crate::reading::Reading;
 use crate::scope::{Binding, Bindings};
 use crate::stage::is_inside;
 use crate::state::{EventState, OpenElement, push_run};
-use crate::tag::{copy_of, start_name, tag_attributes};
+use crate::tag::{copy_of, is_name_alone, start_name, tag_attributes};
 use crate::tag_names::TagNames;
 use crate::token_fault::token_span;
 use nx_base::memory::NoMemory;
@@ -71,6 +71,29 @@ pub(crate) fn push_open(
     Ok(Opening { own, kept })
 }
 
+// Adds the same, and answers the pairs that the tag declares. Most tags have no attributes: they need none of the lists
+// that those are gathered in.
+fn push_declaring(
+    alloc: Global,
+    items: &mut Items,
+    state: &EventState,
+    token: &Token,
+) -> Result<Bindings, NoMemory>
+    requires { token.now.from + length token.now.bytes < 2 ^ 64 }
+    ensures items { OnOk result (items.new ≡ open_items items.old state.now token.now) }
+    ensures own { IfOk result (λ own. own ≡ own_bindings token.now) }
+{
+    let bytes = token.bytes.as_slice();
+    if !is_name_alone(bytes) {
+        let opening = push_open(alloc, items, state, token)?;
+        return Ok(opening.own);
+    }
+    let own = Bindings::new(alloc);
+    push_character_faults(alloc, items, Reading::Value, token.from, bytes)?;
+    push_tag_element(alloc, items, state, token, &own)?;
+    Ok(own)
+}
+
 // Adds the items of a start tag, and answers the pairs that it declares.
 #[tactic(auto, unfolding(crate::specs::Items::start_items))]
 pub(crate) fn push_start(
@@ -85,9 +108,9 @@ pub(crate) fn push_start(
     ensures pairs { IfOk result (λ own. own ≡ own_bindings token.now) }
 {
     push_run(items, token.from, &state.run)?;
-    let opening = push_open(alloc, items, state, token)?;
+    let own = push_declaring(alloc, items, state, token)?;
     items.push(Item::Event(Event::TagEnd, token_span(token)))?;
-    Ok(opening.own)
+    Ok(own)
 }
 
 // The state inside of an element that declares these pairs.

@@ -1,7 +1,8 @@
 //! What is written in a tag (XML 1.0, 3.1).
 
-ghost use Rattle.std.specs.Prelude.{◌≡◌, ◌+◌, ◌<◌, ◌≤◌, ◌^◌, ◌++◌, true, false, length, IfOk, OnOk, MatchOption};
-ghost use Rattle.nx_events.specs.Tags.{written_name, quote_place, value_len, attribute_len, begins_attribute, attribute_at};
+ghost use Rattle.std.specs.Prelude.{◌≡◌, ◌+◌, ◌<◌, ◌≤◌, ◌^◌, ◌++◌, [], ℕ, true, false, length, IfOk, OnOk, MatchOption};
+ghost use Rattle.std.specs.List.{list_all};
+ghost use Rattle.nx_events.specs.Tags.{is_between, written_name, quote_place, value_len, attribute_len, begins_attribute, attribute_at};
 ghost use Rattle.nx_events.specs.Tags.{front_attribute, front_len, attributes_from, start_name, end_name, tag_attributes};
 
 use crate::front::{byte_place, is_between, name_end, quote_place};
@@ -162,6 +163,24 @@ fn attributes_from(alloc: Global, at: usize, bytes: &[u8]) -> Result<Vec<Attribu
         rest = &rest[n..];
     }
     Ok(out)
+}
+
+// Whether nothing but white space, `/` and `>` is there.
+fn are_between(bytes: &[u8]) -> bool
+    ensures { result ≡ list_all is_between bytes.now }
+{
+    bytes.iter().all(|b| is_between(*b))
+}
+
+/// Whether a tag is a name alone, as most are: then it has no attributes.
+pub(crate) fn is_name_alone(bytes: &[u8]) -> bool
+    ensures { result ≡ true → (at : ℕ) → tag_attributes at bytes.now ≡ [] }
+{
+    if bytes.is_empty() {
+        return true;
+    }
+    let n = 1 + name_end(&bytes[1..]);
+    are_between(&bytes[n..])
 }
 
 /// The attributes of a tag that begins at the place `at`.
