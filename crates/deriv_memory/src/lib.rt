@@ -7,3 +7,4 @@
 
 pub mod asked;
 pub mod memory;
+mod places;

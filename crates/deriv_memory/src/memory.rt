@@ -1,10 +1,11 @@
 //! Texts and answers that are kept.
 
-ghost use Rattle.std.specs.Prelude.{◌≡◌, ℕ, [], Some, None, Ok, Option, IfOk, IfSome, IfNone, OnOk, OnErr};
+ghost use Rattle.std.specs.Prelude.{◌≡◌, ℕ, [], Some, None, Ok, Option, IfOk, IfSome, IfNone, OnOk, OnErr, IsTrue};
 ghost use Rattle.deriv_memory.specs.declared.asked.Asked.{Asked as TheAsked};
 ghost use Rattle.deriv_memory.specs.Remembered.{noted, IsText, IsName, AreOnce, IsAtMostOneMore, LaterMemory, IsNoted};
 
 use crate::asked::Asked;
+use crate::places::Places;
 use indexmap::{IndexMap, IndexSet};
 use nx_base::memory::NoMemory;
 use nx_base::name::Name;
@@ -16,6 +17,7 @@ use std::marker::Model;
 pub struct Memory {
     texts: IndexSet<Vec<u8>>,
     answers: IndexMap<Asked, Option<usize>>,
+    places: Places,
 }
 
 impl Model for Memory {
@@ -38,6 +40,18 @@ impl Memory {
         Memory {
             texts: IndexSet::new(alloc),
             answers: IndexMap::new(alloc),
+            places: Places::new(alloc),
+        }
+    }
+
+    // Whether a text is the first that was kept.
+    fn is_first(&self, text: &[u8]) -> bool
+        ensures once { AreOnce self.now.texts }
+        ensures first { IsTrue result → IsText self.now.texts text.now 0 }
+    {
+        match self.texts.get_index(0) {
+            Some(first) => text == first.as_slice(),
+            None => false,
         }
     }
 
@@ -47,6 +61,10 @@ impl Memory {
         ensures found { IfSome result (IsText self.now.texts text.now) }
         ensures none { IfNone result ((i : ℕ) → IsText self.now.texts text.now i → ⊥) }
     {
+        // The text that is asked for most, as no namespace, mostly was kept first.
+        if self.is_first(text) {
+            return Some(0);
+        }
         self.texts.get_index_of(text)
     }
 
@@ -100,10 +118,22 @@ impl Memory {
         Ok((ns, local))
     }
 
+    // The answer that stands where this call's is looked for first, if it is this call's.
+    fn at_place(&self, call: &Asked) -> Option<Option<usize>>
+        ensures { IfSome result (λ answer. noted self.now call.now ≡ Some answer) }
+    {
+        let place = self.places.of(call)?;
+        let (other, answer) = self.answers.get_index(place)?;
+        if other == call { Some(*answer) } else { None }
+    }
+
     /// The answer that was noted of a call, which may be that there is no state; none where nothing was noted.
     pub fn recalled(&self, call: Asked) -> Option<Option<usize>>
         ensures { result ≡ noted self.now call }
     {
+        if let Some(answer) = self.at_place(&call) {
+            return Some(answer);
+        }
         match self.answers.get(&call) {
             Some(answer) => Some(*answer),
             None => None,
@@ -115,6 +145,7 @@ impl Memory {
         ensures made { OnOk result (IsNoted self.old self.new call answer) }
         ensures refused { OnErr result (self.new ≡ self.old) }
     {
+        self.places.put(&call, self.answers.len())?;
         self.answers.insert(call, answer)?;
         Ok(())
     }
