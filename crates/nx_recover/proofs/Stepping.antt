@@ -1,7 +1,8 @@
 -- A step over a matcher: what its parts come to.
 use Rattle.std.proofs.Common.{◌≡◌, ℕ, zero, suc, ◌-◌, ◌<◌, ◌≤◌, List, [], ◌∷◌, ◌++◌, length, map, reverse, get_or, arith, Option, Some, Result, Ok, Err, ap, sym, subst, ◌∙◌}
-use Rattle.std.specs.Prelude.{OnErr, option_map}
-use Rattle.std.proofs.lemmas.List.{reverse-reverse}
+use Rattle.std.specs.Prelude.{OnOk, OnErr, option_map, true, ◌==◌}
+use Rattle.std.proofs.lemmas.Bool.{eqb-true}
+use Rattle.std.proofs.lemmas.List.{reverse-reverse, append-nil}
 use Rattle.nx_base.specs.declared.fault.Fault.{Fault}
 use Rattle.nx_base.specs.declared.token.Token.{Token}
 use Rattle.nx_events.specs.Items.{first_state, items_of_token, state_behind, items_at_end}
@@ -17,12 +18,12 @@ use Rattle.rng_kept.specs.Residuals.{Residual}
 use Rattle.rng_kept.specs.Standing.{first_residual}
 use Rattle.nx_recover.specs.Table.{Form}
 use Rattle.nx_recover.specs.States.{View, form, stack, open_form, view_of, AreStates}
-use Rattle.nx_recover.specs.Items.{form_along}
+use Rattle.nx_recover.specs.Items.{form_along, found_along}
 use Rattle.nx_recover.specs.Later.{states_later, form_same}
 use Rattle.nx_recover.specs.RecoverRules.{Recovered, recover_rules, faults_behind}
 use Rattle.nx_recover.specs.Machine.{over}
 use Rattle.nx_recover.specs.MachineLaws.{levels_placed, gives_placed, ends_placed}
-use Rattle.nx_recover.proofs.Tops.{form_is, stack_nil}
+use Rattle.nx_recover.proofs.Tops.{form_is, stack_nil, no_items}
 use Rattle.nx_recover.specs.declared.levels.Open.{Open}
 use Rattle.nx_recover.specs.declared.state.RecoverState.{RecoverState}
 
@@ -32,6 +33,17 @@ on_err (Err e) p = p
 
 pub from_empty : {X : Type 0} {xs ys es all : List X} → xs ≡ ys → ys ≡ es ++ all → es ≡ [] → xs ≡ all
 from_empty {all = all} e k h = e ∙ k ∙ ap (λ x. x ++ all) h
+
+pub on_ok : {A E : Type 0} (r : Result A E) {P : Type 0} → P → OnOk r P
+on_ok (Ok a) p = p
+on_ok (Err e) p = tt
+
+pub then_ok : {A E : Type 0} (r : Result A E) {P Q : Type 0} → OnOk r P → (P → Q) → OnOk r Q
+then_ok (Ok a) p f = f p
+then_ok (Err e) p f = tt
+
+pub is_nothing : {X : Type 0} (xs : List X) → true ≡ (length xs == 0) → xs ≡ []
+is_nothing xs e = no_items xs (eqb-true (length xs) 0 (sym e))
 
 abbrev recovered : EventState → Form → Recovered
 recovered e l = record { events = e; levels = l }
@@ -50,6 +62,26 @@ pub given : (g : Option Language) (m : Recovered) (token : Token) (old more now 
     now ≡ old ++ more → more ≡ faults_behind g m.levels all → all ≡ items_of_token m.events token →
     now ≡ old ++ placed (token.from - run_back m.events.run) ((recover_rules g).gives m (lexeme_of token))
 given g m token old more now all p e k i = e ∙ ap (λ x. old ++ x) (k ∙ ap (faults_behind g m.levels) i ∙ gives_placed g m token p)
+
+-- without items the levels stay, and nothing is wrong
+
+form_stays : (g : Language) (l : Form) (all : List Item) → all ≡ [] → form_along g l all ≡ l
+unfolding form_along
+form_stays g l all e = ap (form_along g l) e
+
+found_nothing : (g : Language) (l : Form) (all : List Item) → all ≡ [] → found_along g l all ≡ []
+unfolding found_along
+found_nothing g l all e = ap (found_along g l) e
+
+pub passed : {S : Type 0} (g : Language) (f : S → Residual) (s t : RecoverState S) (token : Token) (all : List Item) → run_back s.events.run ≤ token.from →
+    t.events ≡ state_behind s.events token → view_of t.levels ≡ view_of s.levels → all ≡ [] → all ≡ items_of_token s.events token →
+    over f t ≡ (recover_rules (Some g)).after (over f s) (lexeme_of token)
+passed g f s t token all p e w k i = stepped g f f s t token (view_of s.levels) all p e w (sym (form_stays g (form f (view_of s.levels)) all k)) i
+
+pub given_nothing : (g : Language) (m : Recovered) (token : Token) (old : List Fault) (all : List Item) → run_back m.events.run ≤ token.from →
+    all ≡ [] → all ≡ items_of_token m.events token →
+    old ≡ old ++ placed (token.from - run_back m.events.run) ((recover_rules (Some g)).gives m (lexeme_of token))
+given_nothing g m token old all p k i = given (Some g) m token old [] old all p (sym (append-nil old)) (sym (found_nothing g m.levels all k)) i
 
 pub given_at_end : (g : Option Language) (m : Recovered) (len : ℕ) (old more now : List Fault) (all : List Item) → run_back m.events.run ≤ len →
     now ≡ old ++ more → more ≡ faults_behind g m.levels all → all ≡ items_at_end m.events len →

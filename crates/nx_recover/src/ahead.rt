@@ -31,7 +31,14 @@ pub fn take_items<M: Matcher>(
         ≡ form_along (M.language matcher.old) (form (M.means matcher.old) (view_of state.old.levels)) items.now) }
 {
     let mut found = Sequence::new(alloc);
-    let change = along::take_items(alloc, matcher, &state.levels, items.as_slice(), &mut found)?;
+    let change = along::take_items(
+        alloc,
+        matcher,
+        &state.levels,
+        items.as_slice(),
+        Vec::new(alloc),
+        &mut found,
+    )?;
     make_room(&mut state.levels, &change)?;
     put(&mut state.levels, change);
     Ok(())

@@ -7,7 +7,7 @@ ghost use Rattle.nx_recover.specs.States.{IsChange, AreStates, view_of, changed,
 ghost use Rattle.nx_recover.specs.Items.{form_behind, faults_found, form_along, found_along};
 
 use crate::event::take_event;
-use crate::levels::{Change, Levels};
+use crate::levels::{Change, Levels, Open};
 use nx_base::fault::{Fault, Faults, Span};
 use nx_base::memory::NoMemory;
 use nx_base::sequence::TryCopy;
@@ -55,12 +55,14 @@ fn take_item<M: Matcher>(
     Ok(())
 }
 
-/// All items: the levels behind them as a change, and the faults in the order in which they arise.
+/// All items: the levels behind them as a change, and the faults in the order in which they arise. The elements of the change lie in
+/// the room of the list that is given: what it holds is dropped.
 pub fn take_items<M: Matcher>(
     alloc: Global,
     matcher: &mut M,
     levels: &Levels<M::State>,
     items: &[Item],
+    room: Vec<Open<M::State>>,
     faults: &mut Faults,
 ) -> Result<Change<M::State>, NoMemory>
     requires states { AreStates (M.is_state matcher.old) (view_of levels.now) }
@@ -72,10 +74,12 @@ pub fn take_items<M: Matcher>(
     ensures faults { OnOk result (faults.new ≡ faults.old
         ++ found_along (M.language matcher.old) (form (M.means matcher.old) (view_of levels.now)) items.now) }
 {
+    let mut above = room;
+    above.clear();
     let mut change = Change {
         here: None,
         kept: levels.elements.len(),
-        above: Vec::new(alloc),
+        above,
     };
     for item in items {
         take_item(alloc, matcher, levels, &mut change, item, faults)?;

@@ -5,14 +5,13 @@ ghost use Rattle.nx_recover.specs.Machine.{frame_in};
 
 use crate::levels::Levels;
 use crate::state::RecoverState;
-use crate::step::step_over;
+use crate::step::{Scratch, step_over};
 use crate::whole::{begin_over, copy_over, end_over, same_over};
 use nx_base::fault::Faults;
 use nx_base::machine::Machine;
 use nx_base::memory::NoMemory;
 use nx_base::token::Token;
 use nx_events::bare::{Bare, step_bare};
-use nx_events::item::Items;
 use nx_events::reader;
 use nx_events::state::EventState;
 use rng_live::matcher::Matcher;
@@ -23,8 +22,8 @@ use std::alloc::Global;
 #[derive(Drop)]
 pub struct Recover<M: Matcher> {
     pub matcher: Option<M>,
-    // the memory that the items of one token after another are put in, once there is some
-    items: Option<Items>,
+    // the memory that one token after another is read in, once there is some
+    scratch: Option<Scratch<M::State>>,
 }
 
 // A state without levels.
@@ -47,7 +46,7 @@ impl<M: Matcher> Recover<M> {
     {
         Recover {
             matcher,
-            items: None,
+            scratch: None,
         }
     }
 
@@ -107,15 +106,15 @@ impl<M: Matcher> Machine for Recover<M> {
         token: &Token,
         faults: &mut Faults,
     ) -> Result<(), NoMemory> {
-        let mut items = match self.items.take() {
-            Some(items) => items,
-            None => Items::new(alloc),
+        let mut scratch = match self.scratch.take() {
+            Some(scratch) => scratch,
+            None => Scratch::new(alloc),
         };
         let answer = match &mut self.matcher {
-            Some(matcher) => step_over(alloc, matcher, &mut items, state, token, faults),
-            None => step_bare(alloc, &mut items, &mut state.events, token, faults),
+            Some(matcher) => step_over(alloc, matcher, &mut scratch, state, token, faults),
+            None => step_bare(alloc, &mut scratch.items, &mut state.events, token, faults),
         };
-        self.items = Some(items);
+        self.scratch = Some(scratch);
         answer
     }
 

@@ -1,6 +1,6 @@
 //! A step over a matcher, all or nothing: the levels behind the token are kept aside, and put in place last.
 
-ghost use Rattle.std.specs.Prelude.{◌≡◌, ◌+◌, ◌-◌, ◌<◌, ◌≤◌, ◌^◌, ◌++◌, length, take, IsUtf8, IfOk, OnOk, OnErr, Some};
+ghost use Rattle.std.specs.Prelude.{◌≡◌, ◌+◌, ◌-◌, ◌<◌, ◌≤◌, ◌^◌, ◌++◌, length, take, IsUtf8, IfOk, OnOk, OnErr, Some, vec_len, vec_capacity};
 ghost use Rattle.nx_base.specs.Rules.{lexeme_of, IsLexeme};
 ghost use Rattle.nx_base.specs.Shifting.{placed};
 ghost use Rattle.nx_events.specs.Items.{declared_in, state_behind};
@@ -11,7 +11,7 @@ ghost use Rattle.nx_recover.specs.States.{HasRoom, AreStates, changed, view_of};
 ghost use Rattle.nx_recover.specs.Machine.{over};
 
 use crate::along::take_items;
-use crate::levels::{Change, Levels};
+use crate::levels::{Change, Levels, Open};
 use crate::state::RecoverState;
 use nx_base::fault::Faults;
 use nx_base::memory::NoMemory;
@@ -22,6 +22,25 @@ use nx_events::reader::{Declared, pass_token, read};
 use nx_events::state::EventState;
 use rng_live::matcher::Matcher;
 use std::alloc::Global;
+use std::mem;
+
+/// Memory that a token is read in: its items, and the elements that it opens. Whoever takes many tokens keeps it; what it holds before
+/// is dropped.
+#[derive(Drop)]
+pub struct Scratch<S> {
+    pub items: Items,
+    pub above: Vec<Open<S>>,
+}
+
+impl<S: Drop> Scratch<S> {
+    /// No memory yet.
+    pub fn new(alloc: Global) -> Scratch<S> {
+        Scratch {
+            items: Items::new(alloc),
+            above: Vec::new(alloc),
+        }
+    }
+}
 
 // Adds faults and passes a token, both or neither.
 fn pass_with(
@@ -62,8 +81,21 @@ pub fn make_room<S: Drop>(levels: &mut Levels<S>, change: &Change<S>) -> Result<
     Ok(())
 }
 
-/// The changed levels, in room that there is.
-pub fn put<S: Drop>(levels: &mut Levels<S>, change: Change<S>)
+// Moves elements on top of others, in room that there is.
+fn move_onto<S: Drop>(elements: &mut Vec<Open<S>>, above: &mut Vec<Open<S>>)
+    requires { vec_len elements.old + vec_len above.old ≤ vec_capacity elements.old }
+    ensures { elements.new.items ≡ elements.old.items ++ above.old.items }
+{
+    // Most tokens open nothing.
+    if above.is_empty() {
+        return;
+    }
+    // There is room, so this takes no memory.
+    let _ = elements.append(above);
+}
+
+/// The changed levels, in room that there is. The answer is the change's list, which may be filled anew.
+pub fn put<S: Drop>(levels: &mut Levels<S>, change: Change<S>) -> Vec<Open<S>>
     requires { HasRoom levels.old change }
     ensures { view_of levels.new ≡ changed levels.old change }
 {
@@ -73,14 +105,14 @@ pub fn put<S: Drop>(levels: &mut Levels<S>, change: Change<S>)
         mut above,
     } = change;
     levels.elements.truncate(kept);
-    // There is room, so this takes no memory.
-    let _ = levels.elements.append(&mut above);
+    move_onto(&mut levels.elements, &mut above);
     if let Some(here) = here {
         levels.here = here;
     }
+    above
 }
 
-// Puts a change in place with the faults of its token, all or nothing.
+// Puts a change in place with the faults of its token, all or nothing. The answer is the change's list.
 fn install<S: Drop>(
     alloc: Global,
     state: &mut RecoverState<S>,
@@ -89,7 +121,7 @@ fn install<S: Drop>(
     change: Change<S>,
     faults: &mut Faults,
     more: Faults,
-) -> Result<(), NoMemory>
+) -> Result<Vec<Open<S>>, NoMemory>
     requires place { run_back state.old.events.run ≤ token.now.from }
     requires room { token.now.from + length token.now.bytes < 2 ^ 64 }
     requires declared { declared.now.own ≡ declared_in token.now }
@@ -103,16 +135,14 @@ fn install<S: Drop>(
 {
     make_room(&mut state.levels, &change)?;
     pass_with(alloc, &mut state.events, token, declared, faults, more)?;
-    put(&mut state.levels, change);
-    Ok(())
+    Ok(put(&mut state.levels, change))
 }
 
-/// A step over a matcher. For want of memory the state means what it meant, and the faults are as before. The list of items is memory
-/// that whoever takes many tokens keeps: what it holds before is dropped.
+/// A step over a matcher. For want of memory the state means what it meant, and the faults are as before.
 pub fn step_over<M: Matcher>(
     alloc: Global,
     matcher: &mut M,
-    items: &mut Items,
+    scratch: &mut Scratch<M::State>,
     state: &mut RecoverState<M::State>,
     token: &Token,
     faults: &mut Faults,
@@ -134,10 +164,23 @@ pub fn step_over<M: Matcher>(
     ensures unchanged { OnErr result (over (M.means matcher.new) state.new ≡ over (M.means matcher.old) state.old) }
     ensures no_faults { OnErr result (faults.new ≡ faults.old) }
 {
+    let Scratch { items, above } = scratch;
     items.clear();
     let declared = read(alloc, items, &state.events, token)?;
+    // A text that goes on with its run, or a comment: the levels stay.
+    if items.is_empty() {
+        return pass_token(alloc, &mut state.events, token, &declared);
+    }
+    let room = mem::replace(above, Vec::new(alloc));
     let mut more = Sequence::new(alloc);
-    let change = take_items(alloc, matcher, &state.levels, items.as_slice(), &mut more)?;
-    install(alloc, state, token, &declared, change, faults, more)?;
+    let change = take_items(
+        alloc,
+        matcher,
+        &state.levels,
+        items.as_slice(),
+        room,
+        &mut more,
+    )?;
+    *above = install(alloc, state, token, &declared, change, faults, more)?;
     Ok(())
 }

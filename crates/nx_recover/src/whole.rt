@@ -61,7 +61,14 @@ pub fn end_over<M: Matcher>(
 {
     let items = reader::finish(alloc, &state.events, len)?;
     let mut more = Sequence::new(alloc);
-    take_items(alloc, matcher, &state.levels, items.as_slice(), &mut more)?;
+    take_items(
+        alloc,
+        matcher,
+        &state.levels,
+        items.as_slice(),
+        Vec::new(alloc),
+        &mut more,
+    )?;
     faults.append(more)?;
     Ok(())
 }
