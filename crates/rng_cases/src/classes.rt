@@ -1,49 +1,24 @@
 //! Name classes, each with names that it has and names that it hasn't.
 
+use crate::building::{
+    all_in, attribute, choice, either, element, group, interleave, list, name_of, numbered, one,
+    one_or_more, without,
+};
 use nx_base::memory::NoMemory;
 use nx_base::name::Name;
-use nx_base::sequence::Bytes;
-use rng_core::building::{
-    attribute_of, choice_of, group_of, interleave_of, list_of, one_or_more_of,
-};
 use rng_core::grammar::{Def, Pat};
 use rng_core::name_class::{Bearer, NameClass};
 use rng_core::overlap::overlap;
 use std::alloc::Global;
 
-fn bytes_of(alloc: Global, text: &str) -> Result<Bytes, NoMemory> {
-    Ok(Bytes::from_vec(Vec::from_slice(alloc, text.as_bytes())?))
-}
-
-fn name_of(alloc: Global, ns: &str, local: &str) -> Result<Name, NoMemory> {
-    Ok(Name {
-        ns: bytes_of(alloc, ns)?,
-        local: bytes_of(alloc, local)?,
-    })
-}
-
-fn one(alloc: Global, ns: &str, local: &str) -> Result<NameClass, NoMemory> {
-    Ok(NameClass::Name(name_of(alloc, ns, local)?))
-}
-
-fn all_in(alloc: Global, ns: &str) -> Result<NameClass, NoMemory> {
-    Ok(NameClass::NsName(bytes_of(alloc, ns)?))
-}
-
-fn without(alloc: Global, class: NameClass, taken: NameClass) -> Result<NameClass, NoMemory> {
-    let class = Box::new(alloc, class)?;
-    Ok(NameClass::Except(class, Box::new(alloc, taken)?))
-}
-
 // Any name outside of `u`.
 fn outside_u(alloc: Global) -> Result<NameClass, NoMemory> {
-    without(alloc, NameClass::AnyName, all_in(alloc, "u")?)
+    without(alloc, Ok(NameClass::AnyName), all_in(alloc, "u"))
 }
 
 // Any name in `u` but `a`.
 fn in_u_but_a(alloc: Global) -> Result<NameClass, NoMemory> {
-    let in_u = all_in(alloc, "u")?;
-    without(alloc, in_u, one(alloc, "u", "a")?)
+    without(alloc, all_in(alloc, "u"), one(alloc, "u", "a"))
 }
 
 // The class that the tables write so; any other word is the local part of a name in no namespace.
@@ -164,23 +139,13 @@ fn classes_overlap(rt: HostRuntime) {
     }
 }
 
-fn numbered(alloc: Global, prefix: &str, number: u32) -> Result<NameClass, NoMemory> {
-    let local = format!(in alloc; "{prefix}{number}")?;
-    one(alloc, "u", local.as_str())
-}
-
-fn either(alloc: Global, first: NameClass, second: NameClass) -> Result<NameClass, NoMemory> {
-    let first = Box::new(alloc, first)?;
-    Ok(NameClass::Choice(first, Box::new(alloc, second)?))
-}
-
 // A choice of so many names, which nests to the left.
 fn many(alloc: Global, prefix: &str, count: u32) -> Result<NameClass, NoMemory> {
-    let mut class = one(alloc, "u", prefix)?;
+    let mut class = one(alloc, "u", prefix);
     for i in 0..count {
-        class = either(alloc, class, numbered(alloc, prefix, i)?)?;
+        class = either(alloc, class, numbered(alloc, "u", prefix, i));
     }
-    Ok(class)
+    class
 }
 
 // Whether a class has a name in `u`, or hasn't.
@@ -198,8 +163,7 @@ fn is_apart(alloc: Global, class: &NameClass, other: &NameClass) -> bool {
 
 // All in `u` but the class.
 fn others_in_u(alloc: Global, class: &NameClass) -> Result<NameClass, NoMemory> {
-    let in_u = all_in(alloc, "u")?;
-    without(alloc, in_u, class.copy(alloc)?)
+    without(alloc, all_in(alloc, "u"), class.copy(alloc))
 }
 
 // Whether those have a name of `b` and the 50 from `b0` on.
@@ -239,29 +203,23 @@ fn wide_choices_are_walked(rt: HostRuntime) {
 
 // attribute a { list { text } }
 fn listed(alloc: Global) -> Result<Pat, NoMemory> {
-    let class = one(alloc, "", "a")?;
-    attribute_of(alloc, class, list_of(alloc, Pat::Text)?)
+    attribute(alloc, one(alloc, "", "a"), list(alloc, Ok(Pat::Text)))
 }
 
 // attribute a { list { text } }, element 0+
 fn attribute_and_elements(alloc: Global) -> Result<Pat, NoMemory> {
-    let attribute = listed(alloc)?;
-    group_of(alloc, attribute, one_or_more_of(alloc, Pat::Ref(0))?)
+    group(alloc, listed(alloc), one_or_more(alloc, Ok(Pat::Ref(0))))
 }
 
 // text & (empty | (attribute a { list { text } }, element 0+))
 fn mixed(alloc: Global) -> Result<Pat, NoMemory> {
-    let either = choice_of(alloc, Pat::Empty, attribute_and_elements(alloc)?)?;
-    interleave_of(alloc, Pat::Text, either)
+    let either = choice(alloc, Ok(Pat::Empty), attribute_and_elements(alloc));
+    interleave(alloc, Ok(Pat::Text), either)
 }
 
 // The copy of element * { that }
 fn copied(alloc: Global) -> Result<Def, NoMemory> {
-    let definition = Def {
-        class: NameClass::AnyName,
-        content: mixed(alloc)?,
-    };
-    definition.copy(alloc)
+    element(Ok(NameClass::AnyName), mixed(alloc))?.copy(alloc)
 }
 
 fn is_interleave(definition: Result<Def, NoMemory>) -> bool {
@@ -278,15 +236,15 @@ fn copies_patterns(rt: HostRuntime) {
 
 // A path of so many nodes, by first sides or by second sides.
 fn deep(alloc: Global, count: u32, second: bool) -> Result<Pat, NoMemory> {
-    let mut pattern = Pat::Text;
+    let mut pattern = Ok(Pat::Text);
     for _ in 0..count {
         pattern = if second {
-            choice_of(alloc, Pat::Empty, pattern)?
+            choice(alloc, Ok(Pat::Empty), pattern)
         } else {
-            group_of(alloc, pattern, Pat::Text)?
+            group(alloc, pattern, Ok(Pat::Text))
         };
     }
-    Ok(pattern)
+    pattern
 }
 
 // Whether the copy of a path is the same, and not the same as another one.

@@ -4,11 +4,14 @@ ghost use Rattle.std.specs.Prelude.{IsTrue, IfOk};
 ghost use Rattle.rng_types.specs.WellMade.{is_well_made};
 ghost use Rattle.rng_core.specs.Soundness.{IsSound};
 
+use crate::building::{
+    XSD, all_in, attribute, bytes, choice, either, element, group, list, name_of, named_element,
+    numbered, one, one_or_more, only, typed, with, without,
+};
 use crate::sound::is_sound;
 use nx_base::memory::NoMemory;
 use nx_base::name::{Name, Names};
-use nx_base::sequence::{Bytes, TryCopy};
-use rng_core::building::{attribute_of, choice_of, group_of, list_of, one_or_more_of};
+use nx_base::sequence::Bytes;
 use rng_core::grammar::{Def, Defs, Grammar, Pat};
 use rng_core::name_class::NameClass;
 use rng_live::depth::MOST_NODES_ON_A_PATH;
@@ -17,47 +20,18 @@ use rng_live::gathering::Values;
 use rng_live::prune::prune;
 use rng_live::schema::Schema;
 use rng_restrict::check::check;
-use rng_types::datatype::{Datatype, Excepts, Param};
+use rng_types::datatype::{Datatype, Param};
 use rng_types::fault::TypeFault;
 use std::alloc::Global;
 
-const XSD: &str = "http://www.w3.org/2001/XMLSchema-datatypes";
-
-fn bytes(alloc: Global, text: &str) -> Result<Bytes, NoMemory> {
-    Ok(Bytes::from_vec(Vec::from_slice(alloc, text.as_bytes())?))
-}
-
-fn name_of(alloc: Global, ns: &str, local: &str) -> Result<Name, NoMemory> {
-    Ok(Name {
-        ns: bytes(alloc, ns)?,
-        local: bytes(alloc, local)?,
-    })
-}
-
-fn qualified(alloc: Global, ns: &str, local: &str) -> Result<NameClass, NoMemory> {
-    Ok(NameClass::Name(name_of(alloc, ns, local)?))
-}
-
-// A name in no namespace.
-fn named(alloc: Global, local: &str) -> Result<NameClass, NoMemory> {
-    qualified(alloc, "", local)
-}
-
-// Adds element NAME { content }.
-fn add(alloc: Global, defs: &mut Defs, local: &str, content: Pat) -> Result<(), NoMemory> {
-    let class = named(alloc, local)?;
-    defs.push(Def { class, content })?;
-    Ok(())
-}
-
 // The body, or nothing.
-fn maybe(alloc: Global, body: Pat) -> Result<Pat, NoMemory> {
-    choice_of(alloc, body, Pat::Empty)
+fn maybe(alloc: Global, body: Result<Pat, NoMemory>) -> Result<Pat, NoMemory> {
+    choice(alloc, body, Ok(Pat::Empty))
 }
 
 // Any number of parts that match the body.
-fn any_number_of(alloc: Global, body: Pat) -> Result<Pat, NoMemory> {
-    maybe(alloc, one_or_more_of(alloc, body)?)
+fn any_number_of(alloc: Global, body: Result<Pat, NoMemory>) -> Result<Pat, NoMemory> {
+    maybe(alloc, one_or_more(alloc, body))
 }
 
 // What is left of a grammar.
@@ -184,31 +158,30 @@ fn knows(alloc: Global, left: &Remains, local: &str, wanted: bool) -> bool {
 
 // attribute id { xsd:NCName }, element title { text }
 fn head(alloc: Global, identifier: &Datatype) -> Result<Pat, NoMemory> {
-    let identifiers = Pat::Typed(identifier.copy()?, Excepts::new(alloc));
-    let id = attribute_of(alloc, named(alloc, "id")?, identifiers)?;
-    group_of(alloc, id, Pat::Ref(1))
+    let id = attribute(alloc, one(alloc, "", "id"), typed(alloc, identifier));
+    group(alloc, id, Ok(Pat::Ref(1)))
 }
 
 // The same, element para*
 fn head_and_paras(alloc: Global, identifier: &Datatype) -> Result<Pat, NoMemory> {
-    let head = head(alloc, identifier)?;
-    group_of(alloc, head, any_number_of(alloc, Pat::Ref(2))?)
+    let paras = any_number_of(alloc, Ok(Pat::Ref(2)));
+    group(alloc, head(alloc, identifier), paras)
 }
 
 // (text | element em)*
 fn mixed(alloc: Global) -> Result<Pat, NoMemory> {
-    let either = choice_of(alloc, Pat::Text, Pat::Ref(3))?;
-    any_number_of(alloc, either)
+    any_number_of(alloc, choice(alloc, Ok(Pat::Text), Ok(Pat::Ref(3))))
 }
 
 // element doc { attribute id { xsd:NCName }, element title { text }, element para { (text | element em { text })* }* }
 fn documents(alloc: Global, identifier: &Datatype) -> Result<Defs, NoMemory> {
-    let mut defs = Defs::new(alloc);
-    add(alloc, &mut defs, "doc", head_and_paras(alloc, identifier)?)?;
-    add(alloc, &mut defs, "title", Pat::Text)?;
-    add(alloc, &mut defs, "para", mixed(alloc)?)?;
-    add(alloc, &mut defs, "em", Pat::Text)?;
-    Ok(defs)
+    let defs = only(
+        alloc,
+        named_element(alloc, "doc", head_and_paras(alloc, identifier)),
+    );
+    let defs = with(defs, named_element(alloc, "title", Ok(Pat::Text)));
+    let defs = with(defs, named_element(alloc, "para", mixed(alloc)));
+    with(defs, named_element(alloc, "em", Ok(Pat::Text)))
 }
 
 // What is left of these.
@@ -236,10 +209,11 @@ fn lists_what_a_schema_mentions(rt: HostRuntime) {
 
 // element a { b? }, where b is element b { b }
 fn dead_element(alloc: Global) -> Result<Defs, NoMemory> {
-    let mut defs = Defs::new(alloc);
-    add(alloc, &mut defs, "a", maybe(alloc, Pat::Ref(1))?)?;
-    add(alloc, &mut defs, "b", Pat::Ref(1))?;
-    Ok(defs)
+    let defs = only(
+        alloc,
+        named_element(alloc, "a", maybe(alloc, Ok(Pat::Ref(1)))),
+    );
+    with(defs, named_element(alloc, "b", Ok(Pat::Ref(1))))
 }
 
 fn lacks_dead_element(alloc: Global) -> bool {
@@ -256,27 +230,28 @@ fn knows_no_dead_element(rt: HostRuntime) {
 
 // A param of a type.
 fn param(alloc: Global, name: &str, value: &str) -> Result<Param, NoMemory> {
-    Ok(Param {
-        name: bytes(alloc, name)?,
-        value: bytes(alloc, value)?,
-    })
+    match (bytes(alloc, name), bytes(alloc, value)) {
+        (Ok(name), Ok(value)) => Ok(Param { name, value }),
+        _ => Err(NoMemory),
+    }
 }
 
 // xsd:int { minInclusive = "5" maxInclusive = "4" }
 fn no_number(alloc: Global) -> Result<Datatype, TypeFault>
     ensures { IfOk result (λ made. IsTrue (is_well_made made)) }
 {
-    let least = param(alloc, "minInclusive", "5")?;
-    let most = param(alloc, "maxInclusive", "4")?;
-    Datatype::named(alloc, XSD, "int", &[least, most])
+    match (
+        param(alloc, "minInclusive", "5"),
+        param(alloc, "maxInclusive", "4"),
+    ) {
+        (Ok(least), Ok(most)) => Datatype::named(alloc, XSD, "int", &[least, most]),
+        _ => Err(TypeFault::NoMemory),
+    }
 }
 
 // element n { of the type }
 fn element_of_type(alloc: Global, datatype: &Datatype) -> Result<Defs, NoMemory> {
-    let mut defs = Defs::new(alloc);
-    let content = Pat::Typed(datatype.copy()?, Excepts::new(alloc));
-    add(alloc, &mut defs, "n", content)?;
-    Ok(defs)
+    only(alloc, named_element(alloc, "n", typed(alloc, datatype)))
 }
 
 fn left_of_no_number(alloc: Global) -> Remains {
@@ -296,10 +271,8 @@ fn refuses_what_nothing_is_valid_for(rt: HostRuntime) {
 
 // element a { empty }, and element foo { empty } to which nothing refers
 fn unreached(alloc: Global) -> Result<Defs, NoMemory> {
-    let mut defs = Defs::new(alloc);
-    add(alloc, &mut defs, "a", Pat::Empty)?;
-    add(alloc, &mut defs, "foo", Pat::Empty)?;
-    Ok(defs)
+    let defs = only(alloc, named_element(alloc, "a", Ok(Pat::Empty)));
+    with(defs, named_element(alloc, "foo", Ok(Pat::Empty)))
 }
 
 fn lacks_unreached(alloc: Global) -> bool {
@@ -314,62 +287,52 @@ fn drops_what_is_not_reached(rt: HostRuntime) {
 
 // The literal of the built-in token.
 fn literal(alloc: Global, text: &str) -> Result<Pat, NoMemory> {
-    let Ok(token) = Datatype::named(alloc, "", "token", &[]) else {
-        return Err(NoMemory);
-    };
-    Ok(Pat::Value(token, bytes(alloc, text)?))
+    match (Datatype::named(alloc, "", "token", &[]), bytes(alloc, text)) {
+        (Ok(token), Ok(text)) => Ok(Pat::Value(token, text)),
+        _ => Err(NoMemory),
+    }
 }
 
 // attribute b { "y" | "x" }
 fn kinds(alloc: Global) -> Result<Pat, NoMemory> {
-    let first = literal(alloc, "y")?;
-    let either = choice_of(alloc, first, literal(alloc, "x")?)?;
-    attribute_of(alloc, named(alloc, "b")?, either)
+    let either = choice(alloc, literal(alloc, "y"), literal(alloc, "x"));
+    attribute(alloc, one(alloc, "", "b"), either)
 }
 
 // list { first, second }
-fn words(alloc: Global, first: Pat, second: Pat) -> Result<Pat, NoMemory> {
-    list_of(alloc, group_of(alloc, first, second)?)
+fn words(
+    alloc: Global,
+    first: Result<Pat, NoMemory>,
+    second: Result<Pat, NoMemory>,
+) -> Result<Pat, NoMemory> {
+    list(alloc, group(alloc, first, second))
 }
 
 // list { "x", "k" }
 fn living(alloc: Global) -> Result<Pat, NoMemory> {
-    let first = literal(alloc, "x")?;
-    words(alloc, first, literal(alloc, "k")?)
+    words(alloc, literal(alloc, "x"), literal(alloc, "k"))
 }
 
 // list { "x", "k" } | list { "dead", notAllowed }
 fn living_or_dead(alloc: Global) -> Result<Pat, NoMemory> {
-    let living = living(alloc)?;
-    choice_of(
-        alloc,
-        living,
-        words(alloc, literal(alloc, "dead")?, Pat::NotAllowed)?,
-    )
+    let dead = words(alloc, literal(alloc, "dead"), Ok(Pat::NotAllowed));
+    choice(alloc, living(alloc), dead)
 }
 
 // w:* - w:c
 fn all_but_one(alloc: Global) -> Result<NameClass, NoMemory> {
-    let whole = Box::new(alloc, NameClass::NsName(bytes(alloc, "w")?))?;
-    Ok(NameClass::Except(whole, Box::new(alloc, qualified(alloc, "w", "c")?)?))
+    without(alloc, all_in(alloc, "w"), one(alloc, "w", "c"))
 }
 
 // v:e | w:* - w:c
 fn two_classes(alloc: Global) -> Result<NameClass, NoMemory> {
-    let first = Box::new(alloc, qualified(alloc, "v", "e")?)?;
-    Ok(NameClass::Choice(first, Box::new(alloc, all_but_one(alloc)?)?))
+    either(alloc, one(alloc, "v", "e"), all_but_one(alloc))
 }
 
 // element v:e | w:* - w:c { attribute b { "y" | "x" }, (list { "x", "k" } | list { "dead", notAllowed }) }
 fn elements_of_two(alloc: Global) -> Result<Defs, NoMemory> {
-    let mut defs = Defs::new(alloc);
-    let kinds = kinds(alloc)?;
-    let content = group_of(alloc, kinds, living_or_dead(alloc)?)?;
-    defs.push(Def {
-        class: two_classes(alloc)?,
-        content,
-    })?;
-    Ok(defs)
+    let content = group(alloc, kinds(alloc), living_or_dead(alloc));
+    only(alloc, element(two_classes(alloc), content))
 }
 
 fn lists_both(alloc: Global) -> bool {
@@ -384,20 +347,18 @@ fn lists_namespaces_and_literals(rt: HostRuntime) {
     assert!(rt; lists_both(rt.alloc()));
 }
 
-// Adds an element with a number in its name, which holds the element of that number.
-fn add_link(alloc: Global, defs: &mut Defs, number: u32) -> Result<(), NoMemory> {
-    let local = format!(in alloc; "e{number}")?;
-    add(alloc, defs, local.as_str(), Pat::Ref(number))
+// An element with a number in its name, which holds the element of that number.
+fn link(alloc: Global, number: u32) -> Result<Def, NoMemory> {
+    element(numbered(alloc, "", "e", number), Ok(Pat::Ref(number)))
 }
 
 // So many elements, each of which holds the next; the last one holds itself, or nothing.
 fn chain(alloc: Global, count: u32, last: Pat) -> Result<Defs, NoMemory> {
-    let mut defs = Defs::new(alloc);
+    let mut defs = Ok(Defs::new(alloc));
     for i in 1..count {
-        add_link(alloc, &mut defs, i)?;
+        defs = with(defs, link(alloc, i));
     }
-    add(alloc, &mut defs, "last", last)?;
-    Ok(defs)
+    with(defs, named_element(alloc, "last", Ok(last)))
 }
 
 // Whether a schema has so many definitions, and mentions so many names.
@@ -433,23 +394,21 @@ fn refuses_a_long_chain(rt: HostRuntime) {
 
 // A path of so many nodes to an element, by second sides or by first sides.
 fn deep(alloc: Global, count: usize, second: bool) -> Result<Pat, NoMemory> {
-    let mut pattern = Pat::Ref(1);
+    let mut pattern = Ok(Pat::Ref(1));
     for _ in 1..count {
         pattern = if second {
-            group_of(alloc, Pat::Empty, pattern)?
+            group(alloc, Ok(Pat::Empty), pattern)
         } else {
-            choice_of(alloc, pattern, Pat::Text)?
+            choice(alloc, pattern, Ok(Pat::Text))
         };
     }
-    Ok(pattern)
+    pattern
 }
 
 // Two elements, of which the first one holds the second at the end of such a path.
 fn deep_elements(alloc: Global, count: usize, second: bool) -> Result<Defs, NoMemory> {
-    let mut defs = Defs::new(alloc);
-    add(alloc, &mut defs, "a", deep(alloc, count, second)?)?;
-    add(alloc, &mut defs, "b", Pat::Empty)?;
-    Ok(defs)
+    let defs = only(alloc, named_element(alloc, "a", deep(alloc, count, second)));
+    with(defs, named_element(alloc, "b", Ok(Pat::Empty)))
 }
 
 // Whether two names are left of them.

@@ -6,17 +6,12 @@ ghost use Rattle.std.specs.Str.{is_utf8};
 ghost use Rattle.rng_types.specs.Answers.{is_accepted};
 ghost use Rattle.rng_types.specs.WellMade.{is_well_made, is_sound_except};
 
-use nx_base::sequence::{Bytes, TryCopy};
+use crate::building::{XSD, bytes};
+use nx_base::sequence::TryCopy;
 use rng_types::datatype::{Datatype, Except, Param};
 use rng_types::fault::TypeFault;
 use std::alloc::Global;
 use std::test::Fail;
-
-const XSD: &str = "http://www.w3.org/2001/XMLSchema-datatypes";
-
-fn bytes(alloc: Global, text: &str) -> Result<Bytes, Fail> {
-    Ok(Bytes::from_vec(Vec::from_slice(alloc, text.as_bytes())?))
-}
 
 // The type of that name, with one param, or with none where its name is empty.
 fn narrowed(
