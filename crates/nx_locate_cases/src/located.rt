@@ -4,6 +4,7 @@ ghost use Rattle.std.specs.Prelude.{◌≡◌, ◌<◌};
 ghost use Rattle.std.specs.Str.{IsAscii};
 ghost use Rattle.std.specs.String.{string_bytes};
 
+use nx_base::memory::NoMemory;
 use nx_base::sequence::Bytes;
 use nx_base::steps::Steps;
 use nx_host::files::Files;
@@ -13,7 +14,6 @@ use std::alloc::Global;
 use std::marker::Brand;
 use std::str;
 use std::sync::ledger::{Blank, Ledger};
-use std::test::Fail;
 
 const FOLDER: &str = "file:///work/";
 
@@ -21,7 +21,7 @@ const FOLDER: &str = "file:///work/";
 pub(crate) const RULES: &str = "file:///work/d/s.xml";
 
 /// A URI, which stands below the folder of the work where it has no scheme.
-pub(crate) fn uri_of(alloc: Global, name: &str) -> Result<String, Fail> {
+pub(crate) fn uri_of(alloc: Global, name: &str) -> Result<String, NoMemory> {
     if name.contains("://") {
         Ok(String::from_str(alloc, name)?)
     } else {
@@ -30,13 +30,13 @@ pub(crate) fn uri_of(alloc: Global, name: &str) -> Result<String, Fail> {
 }
 
 /// A word and a URI, without the folder of the work.
-fn worded(alloc: Global, word: &str, uri: &Bytes) -> Result<String, Fail> {
-    let text = str::from_utf8(uri.as_slice())?;
+fn worded(alloc: Global, word: &str, uri: &Bytes) -> Result<String, NoMemory> {
+    let text = str::from_utf8(uri.as_slice()).unwrap_or("no text");
     let name = text.strip_prefix(FOLDER).unwrap_or(text);
     Ok(format!(in alloc; "{word} {name}")?)
 }
 
-fn refused(alloc: Global, why: LocateFault) -> Result<String, Fail> {
+fn refused(alloc: Global, why: LocateFault) -> Result<String, NoMemory> {
     match why {
         LocateFault::RulesAbsent(uri) => worded(alloc, "absent", &uri),
         LocateFault::RulesNotUtf8(uri, at) => {
@@ -47,7 +47,7 @@ fn refused(alloc: Global, why: LocateFault) -> Result<String, Fail> {
         LocateFault::RulesLoop(uri) => worded(alloc, "loop", &uri),
         LocateFault::BadUri(text) => worded(alloc, "bad uri", &text),
         LocateFault::Failed => Ok(String::from_str(alloc, "failed")?),
-        LocateFault::NoMemory => Err("no memory")?,
+        LocateFault::NoMemory => Err(NoMemory),
     }
 }
 
@@ -70,6 +70,23 @@ fn answered<F: Files, L: Ledger>(
     locate(alloc, rules, document.as_str(), text, files, &mut steps)
 }
 
+/// What is answered, in words.
+fn told(alloc: Global, answer: Result<Option<Bytes>, LocateFault>) -> Result<String, NoMemory> {
+    match answer {
+        Ok(Some(uri)) => worded(alloc, "schema", &uri),
+        Ok(None) => Ok(String::from_str(alloc, "none")?),
+        Err(why) => refused(alloc, why),
+    }
+}
+
+fn text_of(alloc: Global, text: &str) -> Result<Text, NoMemory> {
+    let mut whole = Text::new(alloc);
+    match whole.insert(0, text) {
+        Ok(()) => Ok(whole),
+        Err(_) => Err(NoMemory),
+    }
+}
+
 /// What is located for a document of this URI and text.
 pub(crate) fn located<F: Files>(
     alloc: Global,
@@ -77,16 +94,14 @@ pub(crate) fn located<F: Files>(
     document: &str,
     text: &str,
     files: &mut F,
-) -> Result<String, Fail> {
+) -> Result<String, NoMemory> {
     let uri = String::from_str(alloc, document)?;
     if !uri.as_str().is_ascii() {
-        return Err("no URI")?;
+        return Ok(String::from_str(alloc, "no URI")?);
     }
-    let mut whole = Text::new(alloc);
-    whole.insert(0, text)?;
-    match answered::<F, Brand>(alloc, has_rules, &uri, &whole, files, Blank::new(1)) {
-        Ok(Some(uri)) => worded(alloc, "schema", &uri),
-        Ok(None) => Ok(String::from_str(alloc, "none")?),
-        Err(why) => refused(alloc, why),
-    }
+    let text = text_of(alloc, text)?;
+    told(
+        alloc,
+        answered::<F, Brand>(alloc, has_rules, &uri, &text, files, Blank::new(1)),
+    )
 }
