@@ -1,8 +1,6 @@
 -- How far recovery has come along items.
-use Rattle.std.proofs.Common.{◌≡◌, ℕ, zero, suc, ◌+◌, ◌<◌, List, [], ◌∷◌, ◌++◌, length, drop, get_or, refl, ap, sym, subst, ◌∙◌, arith, append_assoc, add-one}
+use Rattle.std.proofs.Common.{◌≡◌, List, [], ◌∷◌, ◌++◌, ap, sym, ◌∙◌, append_assoc}
 use Rattle.std.proofs.lemmas.List.{append-nil}
-use Rattle.std.proofs.Math.Seq.{drop-cons}
-use Rattle.std.specs.List.{AllByRecursion}
 use Rattle.nx_base.specs.declared.fault.Fault.{Fault}
 use Rattle.nx_events.specs.declared.item.Item.{Item}
 use Rattle.nx_base.specs.Rules.{LaterLaws}
@@ -21,42 +19,32 @@ pub record Going {D S : Type 0} (later : D → D → Type 0) (is_state : D → S
   pub forms : form_along g (form (means b) (changed l c)) rest ≡ form_along g first all
   pub faults : now ++ found_along g (form (means b) (changed l c)) rest ≡ old ++ found_along g first all
 
-drop_all : {X : Type 0} (xs : List X) → drop (length xs) xs ≡ []
-drop_all [] = refl
-drop_all (x ∷ xs) = drop_all xs
-
-pub all_at : {X : Type 0} (P : X → Type 0) (xs : List X) (i : ℕ) (x : X) → AllByRecursion P xs → i < length xs → x ≡ get_or xs i x → P x
-all_at P [] i x h lt e = absurd (omega arith)
-all_at P (y ∷ ys) zero x h lt e = subst P (sym e) h.0
-all_at P (y ∷ ys) (suc i) x h lt e = all_at P ys i x h.1 (omega arith) e
-
 module _ {D S : Type 0} {later : D → D → Type 0} {is_state : D → S → Type 0} {means : D → S → Residual} {language : D → Language} (laws : LaterLaws later is_state means language) (a : D) (l : Levels S) where
-  pub gone_on : (first : Form) (old : List Fault) (all : List Item) (b d : D) (c e : Change S) (now more : List Fault) (i : ℕ) (item : Item) →
-      Going later is_state means (language a) a first old all b l c now (drop i all) → i < length all → item ≡ get_or all i item → later b d → IsChange (is_state d) l e →
+  pub gone_on : (first : Form) (old : List Fault) (all : List Item) (b d : D) (c e : Change S) (now more : List Fault) (item : Item) (left rest : List Item) →
+      Going later is_state means (language a) a first old all b l c now left → left ≡ item ∷ rest → later b d → IsChange (is_state d) l e →
       form (means d) (changed l e) ≡ form_behind (language b) (form (means b) (changed l c)) item → more ≡ now ++ faults_found (language b) (form (means b) (changed l c)) item →
-      Going later is_state means (language a) a first old all d l e more (drop (i + 1) all)
+      Going later is_state means (language a) a first old all d l e more rest
   unfolding form_along found_along
-  gone_on first old all b d c e now more i item go lt is on ch fo fa =
+  gone_on first old all b d c e now more item left rest go cons on ch fo fa =
       let g = language a in
       let r : language b ≡ g = laws.rule a b go.on in
       let F = form (means b) (changed l c) in
-      let cons : drop i all ≡ item ∷ drop (i + 1) all = drop-cons all i item lt ∙ ap (λ x. x ∷ drop (suc i) all) (sym is) ∙ ap (λ n. item ∷ drop n all) (sym (add-one i)) in
       let fo' : form (means d) (changed l e) ≡ form_behind g F item = fo ∙ ap (λ x. form_behind x F item) r in
       let fa' : more ≡ now ++ faults_found g F item = fa ∙ ap (λ x. now ++ faults_found x F item) r in
       record {
         on = laws.chain a b d go.on on;
         change = ch;
-        forms = ap (λ x. form_along g x (drop (i + 1) all)) fo' ∙ ap (form_along g F) (sym cons) ∙ go.forms;
-        faults = ap (λ x. x ++ found_along g (form (means d) (changed l e)) (drop (i + 1) all)) fa'
-            ∙ ap (λ x. (now ++ faults_found g F item) ++ found_along g x (drop (i + 1) all)) fo'
-            ∙ append_assoc now (faults_found g F item) (found_along g (form_behind g F item) (drop (i + 1) all))
+        forms = ap (λ x. form_along g x rest) fo' ∙ ap (form_along g F) (sym cons) ∙ go.forms;
+        faults = ap (λ x. x ++ found_along g (form (means d) (changed l e)) rest) fa'
+            ∙ ap (λ x. (now ++ faults_found g F item) ++ found_along g x rest) fo'
+            ∙ append_assoc now (faults_found g F item) (found_along g (form_behind g F item) rest)
             ∙ ap (λ x. now ++ found_along g F x) (sym cons) ∙ go.faults;
       }
 
-  pub gone_forms : (first : Form) (old : List Fault) (all : List Item) (b : D) (c : Change S) (now : List Fault) (n : ℕ) → Going later is_state means (language a) a first old all b l c now (drop n all) → n ≡ length all → form (means b) (changed l c) ≡ form_along (language a) first all
+  pub gone_forms : (first : Form) (old : List Fault) (all : List Item) (b : D) (c : Change S) (now : List Fault) (left : List Item) → Going later is_state means (language a) a first old all b l c now left → left ≡ [] → form (means b) (changed l c) ≡ form_along (language a) first all
   unfolding form_along
-  gone_forms first old all b c now n go e = ap (form_along (language a) (form (means b) (changed l c))) (sym (ap (λ k. drop k all) e ∙ drop_all all)) ∙ go.forms
+  gone_forms first old all b c now left go e = ap (form_along (language a) (form (means b) (changed l c))) (sym e) ∙ go.forms
 
-  pub gone_faults : (first : Form) (old : List Fault) (all : List Item) (b : D) (c : Change S) (now : List Fault) (n : ℕ) → Going later is_state means (language a) a first old all b l c now (drop n all) → n ≡ length all → now ≡ old ++ found_along (language a) first all
+  pub gone_faults : (first : Form) (old : List Fault) (all : List Item) (b : D) (c : Change S) (now : List Fault) (left : List Item) → Going later is_state means (language a) a first old all b l c now left → left ≡ [] → now ≡ old ++ found_along (language a) first all
   unfolding found_along
-  gone_faults first old all b c now n go e = sym (append-nil now) ∙ ap (λ x. now ++ found_along (language a) (form (means b) (changed l c)) x) (sym (ap (λ k. drop k all) e ∙ drop_all all)) ∙ go.faults
+  gone_faults first old all b c now left go e = sym (append-nil now) ∙ ap (λ x. now ++ found_along (language a) (form (means b) (changed l c)) x) (sym e) ∙ go.faults

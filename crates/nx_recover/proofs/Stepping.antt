@@ -45,6 +45,10 @@ then_ok (Err e) p f = tt
 pub is_nothing : {X : Type 0} (xs : List X) → true ≡ (length xs == 0) → xs ≡ []
 is_nothing xs e = no_items xs (eqb-true (length xs) 0 (sym e))
 
+-- nothing is added
+pub with_nothing : (old more : List Fault) → true ≡ (length more == 0) → old ≡ old ++ more
+with_nothing old more e = sym (append-nil old) ∙ ap (λ x. old ++ x) (sym (is_nothing more e))
+
 abbrev recovered : EventState → Form → Recovered
 recovered e l = record { events = e; levels = l }
 

@@ -9,7 +9,7 @@ use crate::along;
 use crate::state::RecoverState;
 use crate::step::{make_room, put};
 use nx_base::memory::NoMemory;
-use nx_base::sequence::Sequence;
+use nx_base::sequence::{Sequence, TryCopy};
 use nx_events::item::Items;
 use rng_live::matcher::Matcher;
 use std::alloc::Global;
@@ -30,12 +30,13 @@ pub fn take_items<M: Matcher>(
     ensures levels { OnOk result (form (M.means matcher.new) (view_of state.new.levels)
         ≡ form_along (M.language matcher.old) (form (M.means matcher.old) (view_of state.old.levels)) items.now) }
 {
+    let mut own = items.copy()?.into_vec();
     let mut found = Sequence::new(alloc);
     let change = along::take_items(
         alloc,
         matcher,
         &state.levels,
-        items.as_slice(),
+        &mut own,
         Vec::new(alloc),
         &mut found,
     )?;

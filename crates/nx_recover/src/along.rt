@@ -10,7 +10,6 @@ use crate::event::take_event;
 use crate::levels::{Change, Levels, Open};
 use nx_base::fault::{Fault, Faults, Span};
 use nx_base::memory::NoMemory;
-use nx_base::sequence::TryCopy;
 use nx_events::flaw::Flaw;
 use nx_events::item::Item;
 use rng_live::matcher::Matcher;
@@ -33,46 +32,47 @@ fn take_item<M: Matcher>(
     matcher: &mut M,
     levels: &Levels<M::State>,
     change: &mut Change<M::State>,
-    item: &Item,
+    item: Item,
     faults: &mut Faults,
 ) -> Result<(), NoMemory>
     requires change { IsChange (M.is_state matcher.old) levels.now change.old }
-    requires text { ItemIsText item.now }
+    requires text { ItemIsText item }
     ensures later { M.later matcher.old matcher.new }
     ensures change { OnOk result (IsChange (M.is_state matcher.new) levels.now change.new) }
     ensures form { OnOk result (form (M.means matcher.new) (changed levels.now change.new)
-        ≡ form_behind (M.language matcher.old) (form (M.means matcher.old) (changed levels.now change.old)) item.now) }
+        ≡ form_behind (M.language matcher.old) (form (M.means matcher.old) (changed levels.now change.old)) item) }
     ensures faults { OnOk result (faults.new ≡ faults.old
-        ++ faults_found (M.language matcher.old) (form (M.means matcher.old) (changed levels.now change.old)) item.now) }
+        ++ faults_found (M.language matcher.old) (form (M.means matcher.old) (changed levels.now change.old)) item) }
 {
     match item {
         Item::Event(event, span) => {
             let flaw = take_event(alloc, matcher, levels, change, event)?;
-            push_flaw(faults, *span, flaw)?;
+            push_flaw(faults, span, flaw)?;
         }
-        Item::Fault(fault) => faults.push(fault.copy()?)?,
+        Item::Fault(fault) => faults.push(fault)?,
     }
     Ok(())
 }
 
-/// All items: the levels behind them as a change, and the faults in the order in which they arise. The elements of the change lie in
-/// the room of the list that is given: what it holds is dropped.
+/// All items, which are taken out of their list, so that names pass to the levels as they are: the levels behind them as a change, and
+/// the faults in the order in which they arise. The elements of the change lie in the room of the list that is given: what it holds is
+/// dropped.
 pub fn take_items<M: Matcher>(
     alloc: Global,
     matcher: &mut M,
     levels: &Levels<M::State>,
-    items: &[Item],
+    items: &mut Vec<Item>,
     room: Vec<Open<M::State>>,
     faults: &mut Faults,
 ) -> Result<Change<M::State>, NoMemory>
     requires states { AreStates (M.is_state matcher.old) (view_of levels.now) }
-    requires text { ItemsAreText items.now }
+    requires text { ItemsAreText items.old.items }
     ensures later { M.later matcher.old matcher.new }
     ensures change { IfOk result (IsChange (M.is_state matcher.new) levels.now) }
     ensures form { IfOk result (λ c. form (M.means matcher.new) (changed levels.now c)
-        ≡ form_along (M.language matcher.old) (form (M.means matcher.old) (view_of levels.now)) items.now) }
+        ≡ form_along (M.language matcher.old) (form (M.means matcher.old) (view_of levels.now)) items.old.items) }
     ensures faults { OnOk result (faults.new ≡ faults.old
-        ++ found_along (M.language matcher.old) (form (M.means matcher.old) (view_of levels.now)) items.now) }
+        ++ found_along (M.language matcher.old) (form (M.means matcher.old) (view_of levels.now)) items.old.items) }
 {
     let mut above = room;
     above.clear();
@@ -81,7 +81,7 @@ pub fn take_items<M: Matcher>(
         kept: levels.elements.len(),
         above,
     };
-    for item in items {
+    for item in items.drain(..) {
         take_item(alloc, matcher, levels, &mut change, item, faults)?;
     }
     Ok(change)

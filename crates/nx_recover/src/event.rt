@@ -81,12 +81,12 @@ fn take_enter<M: Matcher>(
     matcher: &mut M,
     levels: &Levels<M::State>,
     change: &mut Change<M::State>,
-    name: &Name,
+    name: Name,
 ) -> Result<Option<Flaw>, NoMemory>
     requires { IsChange (M.is_state matcher.old) levels.now change.old }
     ensures later { M.later matcher.old matcher.new }
     ensures gives { IfOk result (Takes (M.is_state matcher.new) (M.means matcher.new) levels.now change.new
-        (t.done_in (M.language matcher.old) (form (M.means matcher.old) (changed levels.now change.old)) (Event.Enter name.now))) }
+        (t.done_in (M.language matcher.old) (form (M.means matcher.old) (changed levels.now change.old)) (Event.Enter name))) }
 {
     let begun = row::enter(alloc, matcher, here(levels, change), name)?;
     let flaw = push(change, begun)?;
@@ -167,20 +167,18 @@ pub fn take_event<M: Matcher>(
     matcher: &mut M,
     levels: &Levels<M::State>,
     change: &mut Change<M::State>,
-    event: &Event,
+    event: Event,
 ) -> Result<Option<Flaw>, NoMemory>
     requires change { IsChange (M.is_state matcher.old) levels.now change.old }
-    requires text { EventIsText event.now }
+    requires text { EventIsText event }
     ensures later { M.later matcher.old matcher.new }
     ensures gives { IfOk result (Takes (M.is_state matcher.new) (M.means matcher.new) levels.now change.new
-        (t.done_by (M.language matcher.old) (form (M.means matcher.old) (changed levels.now change.old)) event.now)) }
+        (t.done_by (M.language matcher.old) (form (M.means matcher.old) (changed levels.now change.old)) event)) }
 {
     match event {
         Event::Enter(name) => take_enter(alloc, matcher, levels, change, name),
         Event::EnterLost => take_lost(alloc, matcher, levels, change),
         Event::Leave => take_leave(alloc, matcher, levels, change),
-        Event::Att(_, _) => take_other(alloc, matcher, levels, change, event),
-        Event::TagEnd => take_other(alloc, matcher, levels, change, event),
-        Event::Chars(_) => take_other(alloc, matcher, levels, change, event),
+        other => take_other(alloc, matcher, levels, change, &other),
     }
 }

@@ -93,25 +93,25 @@ fn enter_other<M: Matcher>(
     alloc: Global,
     matcher: &mut M,
     here: &M::State,
-    name: &Name,
+    name: Name,
 ) -> Result<Begun<M::State>, NoMemory>
     requires { M.is_state matcher.old here.now }
     ensures later { M.later matcher.old matcher.new }
     ensures gives { IfOk result (BegunIs (M.is_state matcher.new) (M.means matcher.new)
-        (t.entered_by (M.means matcher.old here.now) name.now None None (t.entered_known (M.language matcher.old) name.now))) }
+        (t.entered_by (M.means matcher.old here.now) name None None (t.entered_known (M.language matcher.old) name))) }
 {
     let around = matcher.copy(alloc, here)?;
-    match enter_known(alloc, matcher, name)? {
+    match enter_known(alloc, matcher, &name)? {
         Some(state) => {
-            let flaw = named(alloc, Kind::NotAllowed, name)?;
+            let flaw = named(alloc, Kind::NotAllowed, &name)?;
             Ok(Begun {
                 here: Some(state),
-                element: Open::Begins(name.copy()?, Some(around)),
+                element: Open::Begins(name, Some(around)),
                 flaw,
             })
         }
         None => {
-            let flaw = named(alloc, Kind::Unknown, name)?;
+            let flaw = named(alloc, Kind::Unknown, &name)?;
             Ok(Begun {
                 here: None,
                 element: Open::Lost(Some(around)),
@@ -126,21 +126,21 @@ fn enter_awaited<M: Matcher>(
     alloc: Global,
     matcher: &mut M,
     here: &M::State,
-    name: &Name,
+    name: Name,
 ) -> Result<Begun<M::State>, NoMemory>
     requires { M.is_state matcher.old here.now }
     ensures later { M.later matcher.old matcher.new }
     ensures gives { IfOk result (BegunIs (M.is_state matcher.new) (M.means matcher.new)
-        (t.entered_by (M.means matcher.old here.now) name.now None
-        (answered (enter_skip (M.language matcher.old).definitions name.now (M.means matcher.old here.now)))
-        (t.entered_known (M.language matcher.old) name.now))) }
+        (t.entered_by (M.means matcher.old here.now) name None
+        (answered (enter_skip (M.language matcher.old).definitions name (M.means matcher.old here.now)))
+        (t.entered_known (M.language matcher.old) name))) }
 {
-    match matcher.enter_skip(alloc, here, name)? {
+    match matcher.enter_skip(alloc, here, &name)? {
         Some(state) => {
-            let flaw = named(alloc, Kind::NotYet, name)?;
+            let flaw = named(alloc, Kind::NotYet, &name)?;
             Ok(Begun {
                 here: Some(state),
-                element: Open::In(name.copy()?),
+                element: Open::In(name),
                 flaw,
             })
         }
@@ -154,17 +154,17 @@ fn enter_frame<M: Matcher>(
     alloc: Global,
     matcher: &mut M,
     here: &M::State,
-    name: &Name,
+    name: Name,
 ) -> Result<Begun<M::State>, NoMemory>
     requires { M.is_state matcher.old here.now }
     ensures later { M.later matcher.old matcher.new }
     ensures gives { IfOk result (BegunIs (M.is_state matcher.new) (M.means matcher.new)
-        (t.entered (M.language matcher.old) name.now (Some (M.means matcher.old here.now)))) }
+        (t.entered (M.language matcher.old) name (Some (M.means matcher.old here.now)))) }
 {
-    match matcher.enter(alloc, here, name)? {
+    match matcher.enter(alloc, here, &name)? {
         Some(state) => Ok(Begun {
             here: Some(state),
-            element: Open::In(name.copy()?),
+            element: Open::In(name),
             flaw: None,
         }),
         None => enter_awaited(alloc, matcher, here, name),
@@ -176,16 +176,16 @@ fn enter_frame<M: Matcher>(
 fn enter_lost<M: Matcher>(
     alloc: Global,
     matcher: &mut M,
-    name: &Name,
+    name: Name,
 ) -> Result<Begun<M::State>, NoMemory>
     ensures later { M.later matcher.old matcher.new }
     ensures gives { IfOk result (BegunIs (M.is_state matcher.new) (M.means matcher.new)
-        (t.entered (M.language matcher.old) name.now None)) }
+        (t.entered (M.language matcher.old) name None)) }
 {
-    match enter_known(alloc, matcher, name)? {
+    match enter_known(alloc, matcher, &name)? {
         Some(state) => Ok(Begun {
             here: Some(state),
-            element: Open::Begins(name.copy()?, None),
+            element: Open::Begins(name, None),
             flaw: None,
         }),
         None => Ok(Begun {
@@ -201,12 +201,12 @@ pub fn enter<M: Matcher>(
     alloc: Global,
     matcher: &mut M,
     here: &Option<M::State>,
-    name: &Name,
+    name: Name,
 ) -> Result<Begun<M::State>, NoMemory>
     requires { IfSome here.now (M.is_state matcher.old) }
     ensures later { M.later matcher.old matcher.new }
     ensures gives { IfOk result (BegunIs (M.is_state matcher.new) (M.means matcher.new)
-        (t.entered (M.language matcher.old) name.now (option_map (M.means matcher.old) here.now))) }
+        (t.entered (M.language matcher.old) name (option_map (M.means matcher.old) here.now))) }
 {
     match here {
         Some(state) => enter_frame(alloc, matcher, state, name),

@@ -60,6 +60,10 @@ fn pass_with(
     ensures no_faults { OnErr result (faults.new ≡ faults.old) }
     ensures text { TokenIsText token.now → StateIsText events.old → StateIsText events.new }
 {
+    // Most tokens are without a fault.
+    if more.is_empty() {
+        return pass_token(alloc, events, token, declared);
+    }
     let len = faults.len();
     faults.append(more)?;
     match pass_token(alloc, events, token, declared) {
@@ -171,16 +175,11 @@ pub fn step_over<M: Matcher>(
     if items.is_empty() {
         return pass_token(alloc, &mut state.events, token, &declared);
     }
+    let mut list = mem::replace(items, Items::new(alloc)).into_vec();
     let room = mem::replace(above, Vec::new(alloc));
     let mut more = Sequence::new(alloc);
-    let change = take_items(
-        alloc,
-        matcher,
-        &state.levels,
-        items.as_slice(),
-        room,
-        &mut more,
-    )?;
+    let change = take_items(alloc, matcher, &state.levels, &mut list, room, &mut more)?;
+    *items = Items::from_vec(list);
     *above = install(alloc, state, token, &declared, change, faults, more)?;
     Ok(())
 }

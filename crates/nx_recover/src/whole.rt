@@ -59,13 +59,13 @@ pub fn end_over<M: Matcher>(
         ((recover_rules (Some (M.language matcher.old))).ends (over (M.means matcher.old) state.now))) }
     ensures no_faults { OnErr result (faults.new ≡ faults.old) }
 {
-    let items = reader::finish(alloc, &state.events, len)?;
+    let mut items = reader::finish(alloc, &state.events, len)?.into_vec();
     let mut more = Sequence::new(alloc);
     take_items(
         alloc,
         matcher,
         &state.levels,
-        items.as_slice(),
+        &mut items,
         Vec::new(alloc),
         &mut more,
     )?;

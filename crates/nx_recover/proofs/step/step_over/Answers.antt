@@ -1,4 +1,4 @@
-use Rattle.std.proofs.Common.{◌≡◌, refl, Some}
+use Rattle.std.proofs.Common.{◌≡◌, ◌∙◌, refl, Some}
 use Rattle.nx_events.specs.Items.{items_of_token}
 use Rattle.nx_recover.specs.Machine.{over}
 use Rattle.nx_recover.specs.States.{changed}
@@ -22,15 +22,15 @@ returns-clause-after g c =
     let m = g.M.Matcher in
     let s = c.args.state.now in
     let done = c.in_ok-above.ensures in
-    let all : c.as_slice.result.now ≡ items_of_token s.events c.args.token.now = from_empty c.as_slice.ensures c.in_ok-declared.ensures.items c.clear.ensures in
-    stepped (m.language c.args.matcher.now) (m.means c.args.matcher.now) (m.means c.take_items.new.matcher) s c.install.new.state c.args.token.now (changed s.levels c.in_ok-change.change) c.as_slice.result.now c.requires.place done.events done.levels c.in_ok-change.ensures.form all
+    let all : c.into_vec-list.result.items ≡ items_of_token s.events c.args.token.now = from_empty (c.into_vec-list.ensures ∙ c.replace.ensures.value) c.in_ok-declared.ensures.items c.clear.ensures in
+    stepped (m.language c.args.matcher.now) (m.means c.args.matcher.now) (m.means c.take_items.new.matcher) s c.install.new.state c.args.token.now (changed s.levels c.in_ok-change.change) c.into_vec-list.result.items c.requires.place done.events done.levels c.in_ok-change.ensures.form all
 
 pub returns-clause-faults : goal.returns-clause-faults
 returns-clause-faults g c =
     let m = g.M.Matcher in
     let s = c.args.state.now in
-    let all : c.as_slice.result.now ≡ items_of_token s.events c.args.token.now = from_empty c.as_slice.ensures c.in_ok-declared.ensures.items c.clear.ensures in
-    given (Some (m.language c.args.matcher.now)) (over (m.means c.args.matcher.now) s) c.args.token.now c.args.faults.now c.take_items.new.faults c.install.new.faults c.as_slice.result.now c.requires.place c.in_ok-above.ensures.faults (from_empty refl c.in_ok-change.ensures.faults c.new-more.ensures) all
+    let all : c.into_vec-list.result.items ≡ items_of_token s.events c.args.token.now = from_empty (c.into_vec-list.ensures ∙ c.replace.ensures.value) c.in_ok-declared.ensures.items c.clear.ensures in
+    given (Some (m.language c.args.matcher.now)) (over (m.means c.args.matcher.now) s) c.args.token.now c.args.faults.now c.take_items.new.faults c.install.new.faults c.into_vec-list.result.items c.requires.place c.in_ok-above.ensures.faults (from_empty refl c.in_ok-change.ensures.faults c.new-more.ensures) all
 
 pub returns-then-is_empty-clause-after : goal.returns-then-is_empty-clause-after
 returns-then-is_empty-clause-after g c =
