@@ -10,3 +10,15 @@ mod grammars;
 mod surfaces;
 #[cfg(test)]
 mod tokens;
+
+#[cfg(test)]
+use nx_base::memory::NoMemory;
+
+/// Whether this is told. Comparing here, and not in each test, is what makes the tests cheap to prove.
+#[cfg(test)]
+fn is_told(told: Result<String, NoMemory>, wanted: &str) -> bool {
+    match told {
+        Ok(told) => told.as_str() == wanted,
+        Err(NoMemory) => false,
+    }
+}

@@ -1,5 +1,7 @@
 //! Schema files, and what each says or its one cause.
 
+use crate::is_told;
+use nx_base::memory::NoMemory;
 use nx_base::sequence::Bytes;
 use rnc_lex::fault::LexFault;
 use rnc_parse::read::{ReadFault, read};
@@ -8,88 +10,89 @@ use rnc_parse::surface::{
     Surface, TypeName,
 };
 use std::alloc::Global;
-use std::test::Fail;
 
 /// A surface as one line: patterns by the signs of the compact syntax, names with their namespace in braces, `?` where it
 /// is inherited.
 #[derive(Drop)]
 struct Printer {
     line: String,
+    /// Whether nothing was left out for want of memory.
+    is_whole: bool,
 }
 
 impl Printer {
-    fn word(&mut self, word: &str) -> Result<(), Fail> {
-        self.line.push_str(word)?;
-        Ok(())
-    }
-
-    fn bytes(&mut self, bytes: &Bytes) -> Result<(), Fail> {
-        self.word(std::str::from_utf8(bytes.as_slice())?)
-    }
-
-    fn namespace(&mut self, ns: &Namespace) -> Result<(), Fail> {
-        self.word("{")?;
-        match ns {
-            Namespace::Inherited => self.word("?")?,
-            Namespace::Uri(uri) => self.bytes(uri)?,
+    fn word(&mut self, word: &str) {
+        if self.line.push_str(word).is_err() {
+            self.is_whole = false;
         }
-        self.word("}")
+    }
+
+    fn bytes(&mut self, bytes: &Bytes) {
+        self.word(str::from_utf8(bytes.as_slice()).unwrap_or("no text"));
+    }
+
+    fn namespace(&mut self, ns: &Namespace) {
+        self.word("{");
+        match ns {
+            Namespace::Inherited => self.word("?"),
+            Namespace::Uri(uri) => self.bytes(uri),
+        }
+        self.word("}");
     }
 
     #[cycle(print_class)]
-    fn class(&mut self, class: &NameClass) -> Result<(), Fail> {
+    fn class(&mut self, class: &NameClass) {
         match class {
             NameClass::AnyName => self.word("*"),
             NameClass::NsName(ns) => {
-                self.namespace(ns)?;
-                self.word("*")
+                self.namespace(ns);
+                self.word("*");
             }
             NameClass::Name(ns, local) => {
-                self.namespace(ns)?;
-                self.bytes(local)
+                self.namespace(ns);
+                self.bytes(local);
             }
             NameClass::Choice(classes) => {
-                self.word("(")?;
+                self.word("(");
                 for class in classes {
-                    self.word("|")?;
-                    self.class(class)?;
+                    self.word("|");
+                    self.class(class);
                 }
-                self.word(")")
+                self.word(")");
             }
             NameClass::Except(class, except) => {
-                self.class(class)?;
-                self.word("-")?;
-                self.class(except)
+                self.class(class);
+                self.word("-");
+                self.class(except);
             }
         }
     }
 
-    fn type_name(&mut self, name: &TypeName) -> Result<(), Fail> {
-        self.word("{")?;
-        self.bytes(&name.library)?;
-        self.word("}")?;
-        self.bytes(&name.name)
+    fn type_name(&mut self, name: &TypeName) {
+        self.word("{");
+        self.bytes(&name.library);
+        self.word("}");
+        self.bytes(&name.name);
     }
 
-    fn params(&mut self, params: &Params) -> Result<(), Fail> {
+    fn params(&mut self, params: &Params) {
         for param in params.as_slice() {
-            self.word(" ")?;
-            self.bytes(&param.name)?;
-            self.word("=")?;
-            self.bytes(&param.value)?;
+            self.word(" ");
+            self.bytes(&param.name);
+            self.word("=");
+            self.bytes(&param.value);
         }
-        Ok(())
     }
 
-    fn file(&mut self, file: &FileReference) -> Result<(), Fail> {
-        self.namespace(&file.namespace)?;
-        self.bytes(&file.uri)
+    fn file(&mut self, file: &FileReference) {
+        self.namespace(&file.namespace);
+        self.bytes(&file.uri);
     }
 
-    fn defined(&mut self, name: &Defined, combine: Combine) -> Result<(), Fail> {
+    fn defined(&mut self, name: &Defined, combine: Combine) {
         match name {
-            Defined::Start => self.word("start")?,
-            Defined::Name(name) => self.bytes(name)?,
+            Defined::Start => self.word("start"),
+            Defined::Name(name) => self.bytes(name),
         }
         match combine {
             Combine::Alone => self.word("="),
@@ -99,35 +102,35 @@ impl Printer {
     }
 
     #[cycle(print)]
-    fn patterns(&mut self, sign: &str, patterns: &[Pattern]) -> Result<(), Fail> {
-        self.word("(")?;
+    fn patterns(&mut self, sign: &str, patterns: &[Pattern]) {
+        self.word("(");
         for pattern in patterns {
-            self.word(sign)?;
-            self.pattern(pattern)?;
+            self.word(sign);
+            self.pattern(pattern);
         }
-        self.word(")")
+        self.word(")");
     }
 
     #[cycle(print)]
-    fn inner(&mut self, word: &str, body: &Pattern) -> Result<(), Fail> {
-        self.word(word)?;
-        self.word("(")?;
-        self.pattern(body)?;
-        self.word(")")
+    fn inner(&mut self, word: &str, body: &Pattern) {
+        self.word(word);
+        self.word("(");
+        self.pattern(body);
+        self.word(")");
     }
 
     #[cycle(print)]
-    fn pattern(&mut self, pattern: &Pattern) -> Result<(), Fail> {
+    fn pattern(&mut self, pattern: &Pattern) {
         match pattern {
             Pattern::Element(class, body) => {
-                self.word("element ")?;
-                self.class(class)?;
-                self.inner("", body)
+                self.word("element ");
+                self.class(class);
+                self.inner("", body);
             }
             Pattern::Attribute(class, body) => {
-                self.word("attribute ")?;
-                self.class(class)?;
-                self.inner("", body)
+                self.word("attribute ");
+                self.class(class);
+                self.inner("", body);
             }
             Pattern::List(body) => self.inner("list", body),
             Pattern::Mixed(body) => self.inner("mixed", body),
@@ -139,102 +142,103 @@ impl Printer {
             Pattern::Interleave(patterns) => self.patterns("&", patterns.as_slice()),
             Pattern::Grammar(items) => self.items(items.as_slice()),
             Pattern::DataExcept(name, params, except) => {
-                self.type_name(name)?;
-                self.params(params)?;
-                self.inner("-", except)
+                self.type_name(name);
+                self.params(params);
+                self.inner("-", except);
             }
             _ => self.leaf(pattern),
         }
     }
 
     #[cycle(print)]
-    fn items(&mut self, items: &[Item]) -> Result<(), Fail> {
-        self.word("[")?;
+    fn items(&mut self, items: &[Item]) {
+        self.word("[");
         for item in items {
-            self.item(item)?;
-            self.word(";")?;
+            self.item(item);
+            self.word(";");
         }
-        self.word("]")
+        self.word("]");
     }
 
     #[cycle(print)]
-    fn item(&mut self, item: &Item) -> Result<(), Fail> {
+    fn item(&mut self, item: &Item) {
         match item {
             Item::Define(name, combine, body) => {
-                self.defined(name, *combine)?;
-                self.pattern(body)
+                self.defined(name, *combine);
+                self.pattern(body);
             }
             Item::Div(items) => self.items(items.as_slice()),
             Item::Include(file, replacements) => {
-                self.word("include ")?;
-                self.file(file)?;
-                self.replacements(replacements.as_slice())
+                self.word("include ");
+                self.file(file);
+                self.replacements(replacements.as_slice());
             }
         }
     }
 
     #[cycle(print)]
-    fn replacements(&mut self, replacements: &[Replacement]) -> Result<(), Fail> {
-        self.word("[")?;
+    fn replacements(&mut self, replacements: &[Replacement]) {
+        self.word("[");
         for replacement in replacements {
-            self.replacement(replacement)?;
-            self.word(";")?;
+            self.replacement(replacement);
+            self.word(";");
         }
-        self.word("]")
+        self.word("]");
     }
 
     #[cycle(print)]
-    fn replacement(&mut self, replacement: &Replacement) -> Result<(), Fail> {
+    fn replacement(&mut self, replacement: &Replacement) {
         match replacement {
             Replacement::Define(name, combine, body) => {
-                self.defined(name, *combine)?;
-                self.pattern(body)
+                self.defined(name, *combine);
+                self.pattern(body);
             }
             Replacement::Div(replacements) => self.replacements(replacements.as_slice()),
         }
     }
 
-    fn leaf(&mut self, pattern: &Pattern) -> Result<(), Fail> {
+    fn leaf(&mut self, pattern: &Pattern) {
         match pattern {
             Pattern::Ref(name) => self.bytes(name),
             Pattern::ParentRef(name) => {
-                self.word("parent ")?;
-                self.bytes(name)
+                self.word("parent ");
+                self.bytes(name);
             }
             Pattern::Empty => self.word("empty"),
             Pattern::Text => self.word("text"),
             Pattern::NotAllowed => self.word("notAllowed"),
             Pattern::Value(name, text) => {
-                self.type_name(name)?;
-                self.word("'")?;
-                self.bytes(text)?;
-                self.word("'")
+                self.type_name(name);
+                self.word("'");
+                self.bytes(text);
+                self.word("'");
             }
             Pattern::Data(name, params) => {
-                self.type_name(name)?;
-                self.params(params)
+                self.type_name(name);
+                self.params(params);
             }
             Pattern::External(file) => {
-                self.word("external ")?;
-                self.file(file)
+                self.word("external ");
+                self.file(file);
             }
             _ => self.word("-"),
         }
     }
 
-    fn place(&mut self, word: &str, at: usize) -> Result<(), Fail> {
-        self.word(word)?;
-        write!(self.line, "{at}")?;
-        Ok(())
+    fn place(&mut self, word: &str, at: usize) {
+        self.word(word);
+        if write!(self.line, "{at}").is_err() {
+            self.is_whole = false;
+        }
     }
 
-    fn prefix(&mut self, word: &str, prefix: &Bytes) -> Result<(), Fail> {
-        self.word(word)?;
-        self.bytes(prefix)?;
-        self.word("'")
+    fn prefix(&mut self, word: &str, prefix: &Bytes) {
+        self.word(word);
+        self.bytes(prefix);
+        self.word("'");
     }
 
-    fn lex_fault(&mut self, fault: &LexFault) -> Result<(), Fail> {
+    fn lex_fault(&mut self, fault: &LexFault) {
         match fault {
             LexFault::BadEscape(at) => self.place("BadEscape ", *at),
             LexFault::BadLiteral(at) => self.place("BadLiteral ", *at),
@@ -243,7 +247,7 @@ impl Printer {
         }
     }
 
-    fn fault(&mut self, fault: &ReadFault) -> Result<(), Fail> {
+    fn fault(&mut self, fault: &ReadFault) {
         match fault {
             ReadFault::Lex(fault) => self.lex_fault(fault),
             ReadFault::TooDeep(at) => self.place("TooDeep ", *at),
@@ -254,7 +258,7 @@ impl Printer {
         }
     }
 
-    fn answer(&mut self, answer: &Result<Surface, ReadFault>) -> Result<(), Fail> {
+    fn answer(&mut self, answer: &Result<Surface, ReadFault>) {
         match answer {
             Ok(Surface::Pattern(pattern)) => self.pattern(pattern),
             Ok(Surface::Grammar(items)) => self.items(items.as_slice()),
@@ -263,17 +267,28 @@ impl Printer {
     }
 }
 
-fn written(alloc: Global, answer: &Result<Surface, ReadFault>) -> Result<String, Fail> {
+fn written(alloc: Global, answer: &Result<Surface, ReadFault>) -> Result<String, NoMemory> {
     let mut printer = Printer {
         line: String::new(alloc),
+        is_whole: true,
     };
-    printer.answer(answer)?;
-    Ok(printer.line)
+    printer.answer(answer);
+    if printer.is_whole {
+        Ok(printer.line)
+    } else {
+        Err(NoMemory)
+    }
 }
 
+/// Lets an answer go. That is dear to prove, for its many forms, so it is done here alone.
+fn let_go(_answer: Result<Surface, ReadFault>) {}
+
 /// What is read of a schema, or why it isn't.
-fn told(alloc: Global, text: &str) -> Result<String, Fail> {
-    written(alloc, &read(alloc, text))
+fn told(alloc: Global, text: &str) -> Result<String, NoMemory> {
+    let answer = read(alloc, text);
+    let told = written(alloc, &answer);
+    let_go(answer);
+    told
 }
 
 /// Schemas, each with what `told` makes of it behind `=> `, and a blank line between them. The first is empty.
@@ -559,35 +574,35 @@ element [ ] a >> b [ ] | [ ] c { [ ] text }
 => element (|{?}a|{?}c)(text)"##;
 
 #[test]
-fn schemas_are_read(rt: HostRuntime) -> Result<(), Fail> {
+fn schemas_are_read(rt: HostRuntime) {
     let mut rows = 0u32;
     for row in SCHEMAS.split("\n\n") {
         let (schema, want) = row.split_once("\n=> ").unwrap_or((row, "no row"));
-        assert_eq!(rt; told(rt.alloc(), schema)?.as_str(), want, "at {schema}");
+        assert!(rt; is_told(told(rt.alloc(), schema), want), "at {schema}");
         rows = rows.saturating_add(1);
     }
-    assert_eq!(rt; rows, 92);
-    Ok(())
+    assert!(rt; rows == 92);
 }
 
 /// `element a {`, so many `(`, `empty`, so many `)`, and `}`.
-fn nested(alloc: Global, depth: usize) -> Result<String, Fail> {
+fn nested(alloc: Global, depth: usize) -> Result<String, NoMemory> {
     let opening = "(".repeat(alloc, depth)?;
     let closing = ")".repeat(alloc, depth)?;
     Ok(format!(in alloc; "element a {{{opening}empty{closing}}}")?)
 }
 
+/// What is told of so many brackets.
+fn told_of_nested(alloc: Global, depth: usize) -> Result<String, NoMemory> {
+    let schema = nested(alloc, depth)?;
+    told(alloc, schema.as_str())
+}
+
 #[test]
-fn brackets_are_counted(rt: HostRuntime) -> Result<(), Fail> {
-    for (depth, want) in &[(199, "element {?}a(empty)"), (200, "TooDeep 210")] {
-        let schema = nested(rt.alloc(), *depth)?;
-        assert_eq!(rt;
-            told(rt.alloc(), schema.as_str())?.as_str(),
-            *want,
-            "at {depth}"
-        );
-    }
-    Ok(())
+fn brackets_are_counted(rt: HostRuntime) {
+    assert!(rt;
+        is_told(told_of_nested(rt.alloc(), 199), "element {?}a(empty)")
+            && is_told(told_of_nested(rt.alloc(), 200), "TooDeep 210")
+    );
 }
 
 const S1: &str =
@@ -606,7 +621,10 @@ fn ending_of(answer: &Result<Surface, ReadFault>) -> &'static str {
 
 /// How reading a text ends.
 fn ending(alloc: Global, text: &str) -> &'static str {
-    ending_of(&read(alloc, text))
+    let answer = read(alloc, text);
+    let ending = ending_of(&answer);
+    let_go(answer);
+    ending
 }
 
 /// How reading so many bytes of the schema ends.
@@ -619,14 +637,27 @@ fn ending_of_front(len: usize) -> &'static str {
     }
 }
 
-#[test]
-fn fronts_of_a_schema_are_refused(rt: HostRuntime) -> Result<(), Fail> {
-    assert_eq!(rt; ending(rt.alloc(), S1), "grammar");
-    for len in 0..S1.len() {
-        let front = str::from_utf8(&S1.as_bytes()[..len])?;
-        assert_eq!(rt; ending(rt.alloc(), front), ending_of_front(len), "at {len}");
+/// How reading them does end.
+fn front_ending(alloc: Global, len: usize) -> &'static str {
+    match S1.get(..len) {
+        Some(front) => ending(alloc, front),
+        None => "no front",
     }
-    Ok(())
+}
+
+#[test]
+fn a_schema_of_a_document_is_read(rt: HostRuntime) {
+    assert!(rt; ending(rt.alloc(), S1) == "grammar");
+}
+
+#[test]
+fn fronts_of_a_schema_are_refused(rt: HostRuntime) {
+    for len in 0..S1.len() {
+        assert!(rt;
+            front_ending(rt.alloc(), len) == ending_of_front(len),
+            "at {len}"
+        );
+    }
 }
 
 /// The schema of schemas in the XML syntax (ISO/IEC 19757-2, Annex A), with its own content models.
@@ -691,9 +722,8 @@ anyAttribute = attribute * { text }
 "#;
 
 #[test]
-fn the_schema_of_schemas_is_read(rt: HostRuntime) -> Result<(), Fail> {
-    assert_eq!(rt; ending(rt.alloc(), RELAX_NG), "grammar");
-    Ok(())
+fn the_schema_of_schemas_is_read(rt: HostRuntime) {
+    assert!(rt; ending(rt.alloc(), RELAX_NG) == "grammar");
 }
 
 fn parts_of(answer: &Result<Surface, ReadFault>) -> usize {
@@ -705,32 +735,47 @@ fn parts_of(answer: &Result<Surface, ReadFault>) -> usize {
 }
 
 /// How many items a grammar has that is read, or how many alternatives a choice, and 0 for all else.
-fn parts(alloc: Global, text: String) -> usize {
-    parts_of(&read(alloc, text.as_str()))
+fn parts(alloc: Global, text: &str) -> usize {
+    let answer = read(alloc, text);
+    let parts = parts_of(&answer);
+    let_go(answer);
+    parts
+}
+
+/// Whether so many are read of a text.
+fn has_parts(alloc: Global, text: Option<String>, count: usize) -> bool {
+    match text {
+        Some(text) => parts(alloc, text.as_str()) == count,
+        None => false,
+    }
 }
 
 /// So many definitions, each of a name of its own.
-fn definitions(alloc: Global, count: usize) -> Result<String, Fail> {
+fn definitions(alloc: Global, count: usize) -> Option<String> {
     let mut text = String::new(alloc);
     for n in 0..count {
-        text.push_str(format!(in alloc; "d{n} = element a{n} {{ empty }} ")?.as_str())?;
+        if write!(text, "d{n} = element a{n} {{ empty }} ").is_err() {
+            return None;
+        }
     }
-    Ok(text)
+    Some(text)
 }
 
-fn items(alloc: Global, count: usize) -> Result<String, Fail> {
-    Ok("a = b ".repeat(alloc, count)?)
+fn items(alloc: Global, count: usize) -> Option<String> {
+    "a = b ".repeat(alloc, count).ok()
 }
 
-fn alternatives(alloc: Global, count: usize) -> Result<String, Fail> {
-    Ok(format!(in alloc; "{}a", "a | ".repeat(alloc, count)?)?)
+fn alternatives(alloc: Global, count: usize) -> Option<String> {
+    let more = "a | ".repeat(alloc, count).ok()?;
+    format!(in alloc; "{more}a").ok()
 }
 
 #[test]
-fn long_schemas_are_read(rt: HostRuntime) -> Result<(), Fail> {
+fn long_schemas_are_read(rt: HostRuntime) {
     let alloc = rt.alloc();
-    assert_eq!(rt; parts(alloc, definitions(alloc, 20000)?), 20000);
-    assert_eq!(rt; parts(alloc, items(alloc, 100000)?), 100000);
-    assert_eq!(rt; parts(alloc, alternatives(alloc, 99999)?), 100000);
-    Ok(())
+    assert!(rt;
+        has_parts(alloc, definitions(alloc, 20000), 20000)
+            && has_parts(alloc, items(alloc, 100000), 100000)
+            && has_parts(alloc, alternatives(alloc, 99999), 100000)
+    );
 }
