@@ -481,15 +481,14 @@ const COMPLETED: [(&str, &str, Status); 11] = [
 #[test]
 fn places_are_completed(rt: HostRuntime) {
     for (script, output, status) in &COMPLETED {
-        assert_eq!(rt;
-            played(
+        assert!(rt;
+            plays(
                 rt.alloc(),
                 &["run.nxs"],
                 script.as_bytes(),
                 *output,
                 *status
             ),
-            "as told",
             "{script:?}"
         );
     }
@@ -544,30 +543,29 @@ fn run_counting<F: Files, O: Out, L: Ledger>(
 }
 
 /// Whether a run wrote and ended as a row says.
-fn compared(written: &[u8], ended: Option<Status>, output: &str, status: Status) -> &'static str {
-    if written != output.as_bytes() {
-        "written otherwise"
-    } else if ended != Some(status) {
-        "ended otherwise"
-    } else {
-        "as told"
-    }
+fn is_as_told(written: &[u8], ended: Option<Status>, output: &str, status: Status) -> bool {
+    written == output.as_bytes() && ended == Some(status)
 }
 
-/// What becomes of a run with these words, where this is the script.
-fn played(
+/// Whether a run with these words writes and ends so.
+fn runs<F: Files>(
     alloc: Global,
     texts: &[&str],
-    script: &[u8],
+    files: &mut F,
     output: &str,
     status: Status,
-) -> &'static str {
-    let Ok(mut files) = files_with(alloc, script) else {
-        return "no memory";
-    };
+) -> bool {
     let mut out = SureOut::new(alloc);
-    let ended = run_words(alloc, texts, &mut files, &mut out);
-    compared(out.bytes(), ended, output, status)
+    let ended = run_words(alloc, texts, files, &mut out);
+    is_as_told(out.bytes(), ended, output, status)
+}
+
+/// The same beside the documents, where this is the script.
+fn plays(alloc: Global, texts: &[&str], script: &[u8], output: &str, status: Status) -> bool {
+    match files_with(alloc, script) {
+        Ok(mut files) => runs(alloc, texts, &mut files, output, status),
+        Err(NoMemory) => false,
+    }
 }
 
 #[test]
@@ -575,13 +573,13 @@ fn scripts_print(rt: HostRuntime) {
     for row in &ROWS {
         let script = row.script;
         assert!(rt;
-            played(
+            plays(
                 rt.alloc(),
                 &["run.nxs"],
                 script.as_bytes(),
                 row.output,
                 row.status
-            ) == "as told",
+            ),
             "{script:?}"
         );
     }
@@ -590,15 +588,14 @@ fn scripts_print(rt: HostRuntime) {
 #[test]
 fn documents_are_held_against_schemas(rt: HostRuntime) {
     for (script, output, status) in &VALIDATED {
-        assert_eq!(rt;
-            played(
+        assert!(rt;
+            plays(
                 rt.alloc(),
                 &["run.nxs"],
                 script.as_bytes(),
                 *output,
                 *status
             ),
-            "as told",
             "{script:?}"
         );
     }
@@ -607,15 +604,14 @@ fn documents_are_held_against_schemas(rt: HostRuntime) {
 #[test]
 fn carets_and_views_are_walked(rt: HostRuntime) {
     for (script, output, status) in &WALKED {
-        assert_eq!(rt;
-            played(
+        assert!(rt;
+            plays(
                 rt.alloc(),
                 &["run.nxs"],
                 script.as_bytes(),
                 *output,
                 *status
             ),
-            "as told",
             "{script:?}"
         );
     }
@@ -648,15 +644,14 @@ const MARKED: [(&str, &str); 4] = [
 #[test]
 fn reading_goes_on_from_marks(rt: HostRuntime) {
     for (script, output) in &MARKED {
-        assert_eq!(rt;
-            played(
+        assert!(rt;
+            plays(
                 rt.alloc(),
                 &["run.nxs"],
                 script.as_bytes(),
                 *output,
                 Status::Done
             ),
-            "as told",
             "{script:?}"
         );
     }
@@ -666,8 +661,10 @@ fn reading_goes_on_from_marks(rt: HostRuntime) {
 fn stopped(written: &[u8], ended: Option<Status>, row: &Row) -> &'static str {
     if ended == Some(Status::Output) && row.output.as_bytes().starts_with(written) {
         "stopped"
+    } else if is_as_told(written, ended, row.output, row.status) {
+        "as told"
     } else {
-        compared(written, ended, row.output, row.status)
+        "otherwise"
     }
 }
 
@@ -724,7 +721,7 @@ fn told_of_memory(written: &[u8], ended: Option<Status>, row: &Row) -> bool {
     if ended.is_none() || ended == Some(Status::Memory) {
         row.output.as_bytes().starts_with(told)
     } else {
-        compared(told, ended, row.output, row.status) == "as told"
+        is_as_told(told, ended, row.output, row.status)
     }
 }
 
@@ -772,37 +769,42 @@ fn saved_texts_are_there(rt: HostRuntime) -> Result<(), Fail> {
 const INCLUDING: &str =
     "schema \"s1.rnc\"\nschema \"m.rnc\"\ninsert 0 \"<doc id='a'><title>T</title><para>x<em>y</em></para></doc>\"\nerrors\n";
 
-/// What becomes of a run with these words, beside the documents, where the call on files with this number fails.
-fn failing_at(
+/// Adds the script, and documents beside it, and answers whether it could.
+fn add_all(files: &mut MemFiles, script: &str) -> bool {
+    if files.add(SCRIPT, script.as_bytes()).is_err() {
+        return false;
+    }
+    for (uri, bytes) in &DOCUMENTS {
+        if files.add(*uri, *bytes).is_err() {
+            return false;
+        }
+    }
+    true
+}
+
+/// Whether a run with these words, beside the documents, writes and ends so where the call on files with this number fails.
+fn fails_at(
     alloc: Global,
     number: u64,
     texts: &[&str],
     script: &str,
     output: &str,
     status: Status,
-) -> &'static str {
-    let Ok(mut files) = MemFiles::new(alloc, &[number]) else {
-        return "no memory";
-    };
-    if files.add(SCRIPT, script.as_bytes()).is_err() {
-        return "no memory";
-    }
-    for (uri, bytes) in &DOCUMENTS {
-        if files.add(*uri, *bytes).is_err() {
-            return "no memory";
+) -> bool {
+    match MemFiles::new(alloc, &[number]) {
+        Ok(mut files) => {
+            add_all(&mut files, script) && runs(alloc, texts, &mut files, output, status)
         }
+        Err(_) => false,
     }
-    let mut out = SureOut::new(alloc);
-    let ended = run_words(alloc, texts, &mut files, &mut out);
-    compared(out.bytes(), ended, output, status)
 }
 
 /// The third call fetches the second schema, the fourth the file that this includes. The first schema stays.
 #[test]
 fn failing_schemas_are_told(rt: HostRuntime) {
     for number in 3..5u64 {
-        assert_eq!(rt;
-            failing_at(
+        assert!(rt;
+            fails_at(
                 rt.alloc(),
                 number,
                 &["run.nxs"],
@@ -810,7 +812,7 @@ fn failing_schemas_are_told(rt: HostRuntime) {
                 "line 2 refused: Failed\nerrors: 0\n",
                 Status::Refused
             ),
-            "as told"
+            "call {number}"
         );
     }
 }
@@ -836,65 +838,55 @@ const UNLOCATED: [(u64, &str, Status); 5] = [
 #[test]
 fn failing_rules_are_told(rt: HostRuntime) {
     for (number, output, status) in &UNLOCATED {
-        assert_eq!(rt;
-            failing_at(rt.alloc(), *number, &BY_RULES, LOCATING, *output, *status),
-            "as told",
+        assert!(rt;
+            fails_at(rt.alloc(), *number, &BY_RULES, LOCATING, *output, *status),
             "{output:?}"
         );
     }
 }
 
-/// What becomes of that script where the rules are these bytes.
-fn located_by(alloc: Global, rules: &[u8]) -> &'static str {
+/// Whether that script is told that the rules are malformed where they are these bytes.
+fn is_malformed(alloc: Global, rules: &[u8]) -> bool {
     let mut files = SureFiles::new(alloc);
-    let added = [
-        (SCRIPT, LOCATING.as_bytes()),
-        ("file:///work/d/book.xml", b"<book/>\n"),
-        ("file:///work/d/schemas.xml", rules),
-    ];
-    for (uri, bytes) in &added {
-        if files.add(*uri, *bytes).is_err() {
-            return "no memory";
-        }
+    files.add(SCRIPT, LOCATING.as_bytes()).is_ok()
+        && files.add("file:///work/d/book.xml", b"<book/>\n").is_ok()
+        && files.add("file:///work/d/schemas.xml", rules).is_ok()
+        && runs(
+            alloc,
+            &BY_RULES,
+            &mut files,
+            "line 2 refused: BadRules Malformed file:///work/d/schemas.xml\nerrors: 0\n",
+            Status::Refused,
+        )
+}
+
+/// The same of the first bytes of the rules.
+fn is_front_malformed(alloc: Global, len: usize) -> bool {
+    match RULES.get(..len) {
+        Some(front) => is_malformed(alloc, front),
+        None => false,
     }
-    let mut out = SureOut::new(alloc);
-    let ended = run_words(alloc, &BY_RULES, &mut files, &mut out);
-    compared(
-        out.bytes(),
-        ended,
-        "line 2 refused: BadRules Malformed file:///work/d/schemas.xml\nerrors: 0\n",
-        Status::Refused,
-    )
 }
 
 /// Rules that are cut off anywhere are malformed.
 #[test]
-fn rules_that_are_cut_off_are_refused(rt: HostRuntime) -> Result<(), Fail> {
-    let mut front = Vec::new(rt.alloc());
-    for byte in RULES {
-        assert_eq!(rt;
-            located_by(rt.alloc(), front.as_slice()),
-            "as told",
-            "{front:?}"
-        );
-        front.push(*byte)?;
+fn rules_that_are_cut_off_are_refused(rt: HostRuntime) {
+    for len in 0..RULES.len() {
+        assert!(rt; is_front_malformed(rt.alloc(), len), "{len} bytes");
     }
-    Ok(())
 }
 
 const FILING: &str = "insert 0 \"x\"\nsave \"o.xml\"\nopen \"run.nxs\"\ndelete 1 59\nprint\n";
 
-/// What becomes of that script where the call on files with this number fails.
-fn filed_failing(alloc: Global, number: u64, output: &str, status: Status) -> &'static str {
-    let Ok(mut files) = MemFiles::new(alloc, &[number]) else {
-        return "no memory";
-    };
-    if files.add(SCRIPT, FILING.as_bytes()).is_err() {
-        return "no memory";
+/// Whether that script writes and ends so where the call on files with this number fails.
+fn files_fail_at(alloc: Global, number: u64, output: &str, status: Status) -> bool {
+    match MemFiles::new(alloc, &[number]) {
+        Ok(mut files) => {
+            files.add(SCRIPT, FILING.as_bytes()).is_ok()
+                && runs(alloc, &["run.nxs"], &mut files, output, status)
+        }
+        Err(_) => false,
     }
-    let mut out = SureOut::new(alloc);
-    let ended = run_words(alloc, &["run.nxs"], &mut files, &mut out);
-    compared(out.bytes(), ended, output, status)
 }
 
 /// Each call on files that fails, what is printed and how the run ends.
@@ -912,9 +904,8 @@ const FAILING: [(u64, &str, Status); 4] = [
 #[test]
 fn failing_files_are_told(rt: HostRuntime) {
     for (number, output, status) in &FAILING {
-        assert_eq!(rt;
-            filed_failing(rt.alloc(), *number, *output, *status),
-            "as told",
+        assert!(rt;
+            files_fail_at(rt.alloc(), *number, *output, *status),
             "{output:?}"
         );
     }
@@ -981,9 +972,8 @@ const ASKED: [(&[&str], &str, &str, Status); 9] = [
 #[test]
 fn options_are_followed(rt: HostRuntime) {
     for (texts, script, output, status) in &ASKED {
-        assert_eq!(rt;
-            played(rt.alloc(), *texts, script.as_bytes(), *output, *status),
-            "as told",
+        assert!(rt;
+            plays(rt.alloc(), *texts, script.as_bytes(), *output, *status),
             "{output:?}"
         );
     }
@@ -1016,9 +1006,8 @@ const USAGE_LINE: &str = "usage: nxml [--schema URI] [--rules URI] SCRIPT\n";
 #[test]
 fn what_is_no_script_is_refused(rt: HostRuntime) {
     for (texts, output, status) in &MISNAMED {
-        assert_eq!(rt;
-            played(rt.alloc(), *texts, b"p\xE2\x82", *output, *status),
-            "as told",
+        assert!(rt;
+            plays(rt.alloc(), *texts, b"p\xE2\x82", *output, *status),
             "{output:?}"
         );
     }
