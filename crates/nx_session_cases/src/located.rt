@@ -168,25 +168,25 @@ fn print_line<L: Ledger>(
     }
 }
 
-/// What the lines print, one after another.
-fn printed<L: Ledger>(
+/// All that the loop holds is borrowed, so that each way out of it lets nothing go.
+fn print_lines<L: Ledger>(
     alloc: Global,
     session: &mut Session,
     files: &mut SureFiles,
+    views: &mut Vec<Box<dyn View>>,
     steps: &mut Steps<L>,
+    out: &mut SureOut,
     lines: &[&str],
-) -> Option<SureOut> {
-    let mut views: Vec<Box<dyn View>> = Vec::new(alloc);
-    let mut out = SureOut::new(alloc);
+) -> bool {
     for line in lines {
-        if !print_line(alloc, session, files, &mut views, steps, &mut out, *line) {
-            return None;
+        if !print_line(alloc, session, files, views, steps, out, *line) {
+            return false;
         }
     }
-    Some(out)
+    true
 }
 
-/// Whether they print this.
+/// Whether the lines print this, beside the files.
 fn is_printed<L: Ledger>(
     alloc: Global,
     session: &mut Session,
@@ -197,10 +197,12 @@ fn is_printed<L: Ledger>(
     let Ok(mut files) = files_beside(alloc) else {
         return false;
     };
-    match printed(alloc, session, &mut files, steps, lines) {
-        Some(out) => out.bytes() == output.as_bytes(),
-        None => false,
-    }
+    let mut views: Vec<Box<dyn View>> = Vec::new(alloc);
+    let mut out = SureOut::new(alloc);
+    let is_whole = print_lines(
+        alloc, session, &mut files, &mut views, steps, &mut out, lines,
+    );
+    is_whole && out.bytes() == output.as_bytes()
 }
 
 /// Whether they print this in a session that is given this text for its rules.

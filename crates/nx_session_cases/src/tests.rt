@@ -87,9 +87,27 @@ fn one_view(alloc: Global) -> Result<Vec<Box<dyn View>>, NoMemory> {
     Ok(views)
 }
 
-/// Carries the lines out, and compares what the session tells of itself behind each. The session is borrowed here, so that no way
-/// out lets anything of it go.
+/// Carries the lines out, and compares what the session tells of itself behind each. All that the loop holds is borrowed, so that
+/// no way out of it lets anything go.
 fn all_behind<R: Abort, L: Ledger>(
+    rt: &R,
+    alloc: Global,
+    session: &mut Session,
+    files: &mut SureFiles,
+    views: &mut Vec<Box<dyn View>>,
+    steps: &mut Steps<L>,
+) {
+    for (line, len, caret, has_schema) in &LINES {
+        assert!(rt;
+            apply_line(alloc, session, files, views, steps, *line)
+                && tells(session, *len, *caret, *has_schema),
+            "behind {line}"
+        );
+    }
+}
+
+/// The same beside the files and one view.
+fn plays_in<R: Abort, L: Ledger>(
     rt: &R,
     alloc: Global,
     session: &mut Session,
@@ -97,13 +115,7 @@ fn all_behind<R: Abort, L: Ledger>(
 ) -> Result<(), NoMemory> {
     let mut files = files_of(alloc)?;
     let mut views = one_view(alloc)?;
-    for (line, len, caret, has_schema) in &LINES {
-        assert!(rt;
-            apply_line(alloc, session, &mut files, &mut views, steps, *line)
-                && tells(session, *len, *caret, *has_schema),
-            "behind {line}"
-        );
-    }
+    all_behind(rt, alloc, session, &mut files, &mut views, steps);
     Ok(())
 }
 
@@ -114,7 +126,7 @@ fn plays<R: Abort, L: Ledger>(rt: &R, alloc: Global, blank: Blank) -> Result<(),
 {
     let mut steps = Steps::<L>::new(blank);
     let mut session = Session::new(alloc, None)?;
-    let answer = all_behind(rt, alloc, &mut session, &mut steps);
+    let answer = plays_in(rt, alloc, &mut session, &mut steps);
     let_go(session);
     answer
 }
