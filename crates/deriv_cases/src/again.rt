@@ -24,7 +24,7 @@ const MORE: &str = r##"  "x"  <em  >  </"##;
 fn ask_others(alloc: Global, pool: &mut Pool, times: usize) -> Result<String, Fail> {
     let more = MORE.repeat(alloc, times)?;
     let events = format!(in alloc; "{ANOTHER}{more}")?;
-    answer(alloc, pool, events.as_str())
+    Ok(answer(alloc, pool, events.as_str())?)
 }
 
 /// The state behind two paragraphs, before other calls and behind them.

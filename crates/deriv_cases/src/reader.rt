@@ -97,23 +97,42 @@ fn name_of(alloc: Global, text: &str) -> Result<Name, NoMemory> {
     })
 }
 
+/// Adds a name, with a blank before it where it isn't the first, and answers whether it could.
+fn tell_name(told: &mut String, name: &Name) -> bool {
+    let gap = if told.is_empty() { "" } else { " " };
+    let ns = str::from_utf8(name.ns.as_slice()).unwrap_or("no text");
+    let local = str::from_utf8(name.local.as_slice()).unwrap_or("no text");
+    if ns.is_empty() {
+        write!(told, "{gap}{local}").is_ok()
+    } else {
+        write!(told, "{gap}{ns}:{local}").is_ok()
+    }
+}
+
+fn tell_names(told: &mut String, names: &[Name]) -> bool {
+    for name in names {
+        if !tell_name(told, name) {
+            return false;
+        }
+    }
+    !names.is_empty() || told.push_str("nothing").is_ok()
+}
+
 /// A list of names, with a blank between two.
-fn names_told(alloc: Global, names: &Names) -> Result<String, Fail> {
+fn names_told(alloc: Global, names: Result<Names, NoMemory>) -> Result<String, NoMemory> {
     let mut told = String::new(alloc);
-    for name in names.as_slice() {
-        if !told.is_empty() {
-            told.push_str(" ")?;
-        }
-        if !name.ns.is_empty() {
-            told.push_str(str::from_utf8(name.ns.as_slice())?)?;
-            told.push_str(":")?;
-        }
-        told.push_str(str::from_utf8(name.local.as_slice())?)?;
+    match names {
+        Ok(names) if tell_names(&mut told, names.as_slice()) => Ok(told),
+        _ => Err(NoMemory),
     }
-    if told.is_empty() {
-        told.push_str("nothing")?;
-    }
-    Ok(told)
+}
+
+fn word_told(alloc: Global, word: &str) -> Result<String, NoMemory> {
+    Ok(String::from_str(alloc, word)?)
+}
+
+fn number_told(alloc: Global, number: usize) -> Result<String, NoMemory> {
+    Ok(format!(in alloc; "{number}")?)
 }
 
 /// The state behind a move.
@@ -165,31 +184,37 @@ fn answer_behind<M: Matcher>(
     begun: M::State,
     events: &str,
     first: usize,
-) -> Result<String, Fail>
+) -> Result<String, NoMemory>
     requires { M.is_state matcher.old begun }
 {
     let mut state = begun;
     let mut number = first;
     for event in events.split("  ") {
         if event == "required" {
-            let names = matcher.required(alloc, &state)?;
-            return names_told(alloc, &names);
+            return names_told(alloc, matcher.required(alloc, &state));
         }
-        match moved(alloc, matcher, &state, move_of(event).ok_or("no event")?)? {
+        let Some(by) = move_of(event) else {
+            return word_told(alloc, "no event");
+        };
+        match moved(alloc, matcher, &state, by)? {
             Some(next) => state = next,
-            None => return Ok(format!(in alloc; "{number}")?),
+            None => return number_told(alloc, number),
         }
         number = number.saturating_add(1);
     }
-    Ok(format!(in alloc; "-")?)
+    word_told(alloc, "-")
 }
 
 /// What is answered to a name with which a frame begins, and to events behind that.
-fn answer_known<M: Matcher>(alloc: Global, matcher: &mut M, events: &str) -> Result<String, Fail> {
+fn answer_known<M: Matcher>(
+    alloc: Global,
+    matcher: &mut M,
+    events: &str,
+) -> Result<String, NoMemory> {
     let (name, others) = events.split_once("  ").unwrap_or((events, "copy"));
     match matcher.begin_known(alloc, &name_of(alloc, name)?)? {
         Some(state) => answer_behind(alloc, matcher, state, others, 2),
-        None => Ok(format!(in alloc; "1")?),
+        None => number_told(alloc, 1),
     }
 }
 
@@ -198,13 +223,26 @@ pub(crate) fn answer<M: Matcher>(
     alloc: Global,
     matcher: &mut M,
     events: &str,
-) -> Result<String, Fail> {
+) -> Result<String, NoMemory> {
     match events.strip_prefix("!") {
         Some(known) => answer_known(alloc, matcher, known),
         None => {
             let state = matcher.begin(alloc)?;
             answer_behind(alloc, matcher, state, events, 1)
         }
+    }
+}
+
+/// Whether a matcher answers this to events.
+pub(crate) fn answers<M: Matcher>(
+    alloc: Global,
+    matcher: &mut M,
+    events: &str,
+    wanted: &str,
+) -> bool {
+    match answer(alloc, matcher, events) {
+        Ok(told) => told.as_str() == wanted,
+        Err(NoMemory) => false,
     }
 }
 
