@@ -1,5 +1,6 @@
 -- How far recovery has come along items.
-use Rattle.std.proofs.Common.{◌≡◌, List, [], ◌∷◌, ◌++◌, ap, sym, ◌∙◌, append_assoc}
+use Rattle.std.proofs.Common.{◌≡◌, ◌≤◌, ℕ, zero, suc, List, [], ◌∷◌, ◌++◌, length, drop, refl, ap, sym, subst, ◌∙◌, arith, append_assoc}
+use Rattle.std.specs.List.{AllByRecursion}
 use Rattle.std.proofs.lemmas.List.{append-nil}
 use Rattle.nx_base.specs.declared.fault.Fault.{Fault}
 use Rattle.nx_events.specs.declared.item.Item.{Item}
@@ -18,6 +19,17 @@ pub record Going {D S : Type 0} (later : D → D → Type 0) (is_state : D → S
   pub change : IsChange (is_state b) l c
   pub forms : form_along g (form (means b) (changed l c)) rest ≡ form_along g first all
   pub faults : now ++ found_along g (form (means b) (changed l c)) rest ≡ old ++ found_along g first all
+
+-- behind all items none is left
+pub none_left : {X : Type 0} (n : ℕ) (xs : List X) → length xs ≤ n → drop n xs ≡ []
+none_left zero [] h = refl
+none_left zero (x ∷ xs) h = absurd (omega arith)
+none_left (suc n) [] h = refl
+none_left (suc n) (x ∷ xs) h = none_left n xs (omega arith)
+
+-- what holds of all holds of the first and of the others
+pub first_and_rest : {X : Type 0} (P : X → Type 0) (xs : List X) (x : X) (rest : List X) → xs ≡ x ∷ rest → AllByRecursion P xs → P x × AllByRecursion P rest
+first_and_rest P xs x rest e h = subst (AllByRecursion P) e h
 
 module _ {D S : Type 0} {later : D → D → Type 0} {is_state : D → S → Type 0} {means : D → S → Residual} {language : D → Language} (laws : LaterLaws later is_state means language) (a : D) (l : Levels S) where
   pub gone_on : (first : Form) (old : List Fault) (all : List Item) (b d : D) (c e : Change S) (now more : List Fault) (item : Item) (left rest : List Item) →

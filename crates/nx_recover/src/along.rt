@@ -1,6 +1,6 @@
 //! Recovery along the items of a token.
 
-ghost use Rattle.std.specs.Prelude.{◌≡◌, ◌++◌, ◌≤◌, IfOk, OnOk, length, take, drop};
+ghost use Rattle.std.specs.Prelude.{◌≡◌, ◌++◌, ◌∷◌, ◌+◌, ◌<◌, ◌≤◌, IfOk, OnOk, length, take, drop};
 ghost use Rattle.nx_events.specs.Texts.{ItemIsText, ItemsAreText};
 ghost use Rattle.nx_recover.specs.Faults.{flaw_at};
 ghost use Rattle.nx_recover.specs.States.{IsChange, AreStates, view_of, changed, form};
@@ -11,9 +11,10 @@ use crate::levels::{Change, Levels, Open};
 use nx_base::fault::{Fault, Faults, Span};
 use nx_base::memory::NoMemory;
 use nx_events::flaw::Flaw;
-use nx_events::item::Item;
+use nx_events::item::{Event, Item};
 use rng_live::matcher::Matcher;
 use std::alloc::Global;
+use std::mem;
 
 // Adds what is wrong, if anything is, as a fault.
 fn push_flaw(faults: &mut Faults, span: Span, flaw: Option<Flaw>) -> Result<(), NoMemory>
@@ -54,6 +55,16 @@ fn take_item<M: Matcher>(
     Ok(())
 }
 
+// Takes the item at an index out of its list. What stands there then is nobody's: a list that is drained is turned around first.
+fn take_out(items: &mut Vec<Item>, i: usize) -> Item
+    requires { i < length items.old.items }
+    ensures item { drop i items.old.items ≡ result ∷ drop (i + 1) items.new.items }
+    ensures len { length items.new.items ≡ length items.old.items }
+{
+    let none = Item::Event(Event::TagEnd, Span { from: 0, to: 0 });
+    mem::replace(&mut items[i], none)
+}
+
 /// All items, which are taken out of their list, so that names pass to the levels as they are: the levels behind them as a change, and
 /// the faults in the order in which they arise. The elements of the change lie in the room of the list that is given: what it holds is
 /// dropped.
@@ -81,7 +92,10 @@ pub fn take_items<M: Matcher>(
         kept: levels.elements.len(),
         above,
     };
-    for item in items.drain(..) {
+    let mut i = 0;
+    while i < items.len() {
+        let item = take_out(items, i);
+        i += 1;
         take_item(alloc, matcher, levels, &mut change, item, faults)?;
     }
     Ok(change)
