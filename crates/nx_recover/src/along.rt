@@ -55,14 +55,14 @@ fn take_item<M: Matcher>(
     Ok(())
 }
 
-// Takes the item at an index out of its list. What stands there then is nobody's: a list that is drained is turned around first.
+// Takes the item at an index out of its list, and leaves one there that nobody reads. (A drain of the list turns it around first.)
 fn take_out(items: &mut Vec<Item>, i: usize) -> Item
     requires { i < length items.old.items }
     ensures item { drop i items.old.items ≡ result ∷ drop (i + 1) items.new.items }
     ensures len { length items.new.items ≡ length items.old.items }
 {
-    let none = Item::Event(Event::TagEnd, Span { from: 0, to: 0 });
-    mem::replace(&mut items[i], none)
+    let filler = Item::Event(Event::TagEnd, Span { from: 0, to: 0 });
+    mem::replace(&mut items[i], filler)
 }
 
 /// All items, which are taken out of their list, so that names pass to the levels as they are: the levels behind them as a change, and
