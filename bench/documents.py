@@ -68,7 +68,7 @@ def book_schema():
 
 
 def write_book(path):
-    """Writes a book as long as is asked, by a linear congruence."""
+    """Writes a book of BOOK_BYTES and a little more, by a linear congruence."""
     numbers = congruence(7)
     number = 7
 

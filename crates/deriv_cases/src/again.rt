@@ -1,7 +1,7 @@
 //! That a state is the same however much its matcher was asked before.
 
 use crate::matchers::matcher_of;
-use crate::reader::{answer, state_behind};
+use crate::reader::state_behind;
 use deriv_pool::pool::Pool;
 use deriv_pool::state::PoolState;
 use std::alloc::Global;
@@ -21,10 +21,11 @@ const ANOTHER: &str = r##"<doc  @id="b"  >  <title  >  </  <para  >"##;
 const MORE: &str = r##"  "x"  <em  >  </"##;
 
 /// Calls on other states, so many times four.
-fn ask_others(alloc: Global, pool: &mut Pool, times: usize) -> Result<String, Fail> {
+fn ask_others(alloc: Global, pool: &mut Pool, times: usize) -> Result<(), Fail> {
     let more = MORE.repeat(alloc, times)?;
     let events = format!(in alloc; "{ANOTHER}{more}")?;
-    Ok(answer(alloc, pool, events.as_str())?)
+    state_behind(alloc, pool, events.as_str())?;
+    Ok(())
 }
 
 /// The state behind two paragraphs, before other calls and behind them.

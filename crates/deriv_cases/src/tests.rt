@@ -8,7 +8,7 @@ use std::alloc::Global;
 use std::process::Abort;
 use std::test::Fail;
 
-/// Adds a case that a matcher answers otherwise, with its answer.
+/// Adds a case that a matcher answers otherwise.
 fn compare_case<M: Made>(
     alloc: Global,
     matcher: &mut M,

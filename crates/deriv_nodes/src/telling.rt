@@ -10,8 +10,8 @@ use crate::nodes::Nodes;
 use nx_base::name::Name;
 
 impl Nodes {
-    /// Whether a type, a value or a list stands in the node outside of attributes. Where none does, the node is the same behind all
-    /// strings.
+    /// Whether a type, a value or a list stands in the node outside of attributes. Where none does, what is left of it is the
+    /// same behind all strings.
     pub fn tells_strings(&self, p: usize) -> bool
         requires { p < length self.now }
         ensures { result ≡ s.tells_strings (at self.now p) }

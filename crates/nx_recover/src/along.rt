@@ -1,6 +1,6 @@
 //! Recovery along the items of a token.
 
-ghost use Rattle.std.specs.Prelude.{◌≡◌, ◌++◌, ◌∷◌, ◌+◌, ◌<◌, ◌≤◌, IfOk, OnOk, length, take, drop};
+ghost use Rattle.std.specs.Prelude.{◌≡◌, ◌++◌, [], ◌∷◌, ◌+◌, ◌<◌, ◌≤◌, IfOk, OnOk, length, take, drop};
 ghost use Rattle.nx_events.specs.Texts.{ItemIsText, ItemsAreText};
 ghost use Rattle.nx_recover.specs.Faults.{flaw_at};
 ghost use Rattle.nx_recover.specs.States.{IsChange, AreStates, view_of, changed, form};
@@ -55,7 +55,7 @@ fn take_item<M: Matcher>(
     Ok(())
 }
 
-// Takes the item at an index out of its list, and leaves one there that nobody reads. (A drain of the list turns it around first.)
+// Takes the item at an index out of its list, and leaves one there that nobody reads.
 fn take_out(items: &mut Vec<Item>, i: usize) -> Item
     requires { i < length items.old.items }
     ensures item { drop i items.old.items ≡ result ∷ drop (i + 1) items.new.items }
@@ -80,6 +80,7 @@ pub fn take_items<M: Matcher>(
     requires text { ItemsAreText items.old.items }
     ensures later { M.later matcher.old matcher.new }
     ensures change { IfOk result (IsChange (M.is_state matcher.new) levels.now) }
+    ensures taken { OnOk result (items.new.items ≡ []) }
     ensures form { IfOk result (λ c. form (M.means matcher.new) (changed levels.now c)
         ≡ form_along (M.language matcher.old) (form (M.means matcher.old) (view_of levels.now)) items.old.items) }
     ensures faults { OnOk result (faults.new ≡ faults.old
@@ -98,5 +99,6 @@ pub fn take_items<M: Matcher>(
         i += 1;
         take_item(alloc, matcher, levels, &mut change, item, faults)?;
     }
+    items.clear();
     Ok(change)
 }

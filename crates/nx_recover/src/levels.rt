@@ -50,8 +50,8 @@ pub struct Ended<S> {
     pub flaw: Option<Flaw>,
 }
 
-/// Other levels, aside: of the open elements so many are the old ones, and the others stand above them. Of a token at most one does,
-/// so the list's memory is kept from token to token.
+/// Other levels, aside: of the open elements so many are the old ones, and the others stand above them. The list's memory is kept from
+/// token to token, since each start tag would take and free a list otherwise.
 #[derive(Drop)]
 pub struct Change<S> {
     /// The frame that goes on here, where it isn't the old one.

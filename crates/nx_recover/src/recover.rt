@@ -106,16 +106,11 @@ impl<M: Matcher> Machine for Recover<M> {
         token: &Token,
         faults: &mut Faults,
     ) -> Result<(), NoMemory> {
-        let mut scratch = match self.scratch.take() {
-            Some(scratch) => scratch,
-            None => Scratch::new(alloc),
-        };
-        let answer = match &mut self.matcher {
-            Some(matcher) => step_over(alloc, matcher, &mut scratch, state, token, faults),
+        let scratch = self.scratch.get_or_insert_with(|| Scratch::new(alloc));
+        match &mut self.matcher {
+            Some(matcher) => step_over(alloc, matcher, scratch, state, token, faults),
             None => step_bare(alloc, &mut scratch.items, &mut state.events, token, faults),
-        };
-        self.scratch = Some(scratch);
-        answer
+        }
     }
 
     fn at_end(
