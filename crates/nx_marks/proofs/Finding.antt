@@ -1,218 +1,168 @@
 -- Marks aside that are in front of the frontier are found, and their faults are listed.
-use Rattle.std.proofs.Common.{◌≡◌, ◌⊎◌, inl, inr, ℕ, ◌+◌, ◌-◌, ◌^◌, ◌<◌, ◌≤◌, Bool, true, false, List, [], ◌∷◌, ◌++◌, length, take, drop, reverse, refl, sym, ap, subst, ◌∙◌, arith, append_assoc}
-use Rattle.std.specs.List.{AllByRecursion}
-use Rattle.std.proofs.lemmas.List.{reverse-append, length-append}
-use Rattle.nx_base.specs.Rules.{IsWithin}
-use Rattle.nx_base.specs.Shifting.{placed}
-use Rattle.nx_base.specs.declared.fault.Fault.{Fault}
-use Rattle.nx_marks.specs.Before.{marks_with, marks_of, IsLast, LiesInFront}
+use Rattle.std.proofs.Common.{◌≡◌, ◌⊎◌, inl, inr, ℕ, zero, suc, ◌+◌, ◌-◌, ◌<◌, ◌≤◌, Bool, true, false, List, [], ◌∷◌, ◌++◌, length, take, refl, sym, ap, subst, ◌∙◌, arith, append_assoc}
+use Rattle.std.specs.Prelude.{if◌then◌else◌}
+use Rattle.std.proofs.lemmas.List.{length-append}
+use Rattle.nx_marks.specs.Before.{IsLast, LiesInFront}
 use Rattle.nx_marks.specs.Chain.{FaultsFit, Kept, faults_in, frontier_of, reach}
 use Rattle.nx_marks.specs.Joined.{but_last, last, seen}
-use Rattle.nx_marks.specs.Stack.{faulty_count, some_count}
+use Rattle.nx_marks.specs.Tree.{IsAt, count_up_to}
 use Rattle.nx_marks.specs.declared.mark.Mark.{Mark}
 use Rattle.nx_marks.proofs.Backs.{reach-append}
-use Rattle.nx_marks.proofs.Listing.{all-wider, faults-append, none}
+use Rattle.nx_marks.proofs.Cutting.{front-same}
+use Rattle.nx_marks.proofs.Faults.{faults-append}
+use Rattle.nx_marks.proofs.Holding.{longer}
 use Rattle.nx_marks.proofs.Marking.{found_front}
-use Rattle.nx_marks.proofs.Seen.{parts, reversed, lowest-but-last}
-use Rattle.nx_marks.proofs.Stacks.{faulty-append}
-
--- the topmost of a stack comes next
-topmost : {S : Type 0} (xs ys : List (Mark S)) (x : Mark S) → xs ≡ ys ++ x ∷ [] → reverse xs ≡ x ∷ reverse ys
-topmost xs ys x e = ap reverse e ∙ reverse-append ys (x ∷ [])
+use Rattle.nx_marks.proofs.Seen.{Parted, parted_at, parts}
+use Rattle.nx_marks.proofs.Walking.{up-to-within, up-to-next}
 
 -- ---- the last mark at or before a place
 
--- how far on the search is: the mark lies at a place that isn't behind the one asked for, and those left lie behind it
-pub record Finding {S : Type 0} (at : ℕ) (marks : List (Mark S)) (place : ℕ) (mark : Mark S) (left : List (Mark S)) : Type 0 where
+-- a mark at hand or aside lies at a place that isn't behind the one asked for, and the next one up to the frontier lies behind it
+pub record Found {S : Type 0} (at : ℕ) (k : Kept S) (place : ℕ) (mark : Mark S) : Type 0 where
   pub earlier : List (Mark S)
-  pub are : marks ≡ earlier ++ mark ∷ reverse left
-  pub here : place ≡ reach earlier
+  pub later : List (Mark S)
+  pub are : k.here ∷ k.aside ≡ earlier ++ mark ∷ later
+  pub here : place ≡ frontier_of k + reach earlier
   pub before : place ≤ at
+  pub marks : k.marked ≡ false → 0 < length later
+  pub next : (length later ≤ (if k.marked then 0 else 1)) ⊎ (at < place + mark.len)
 
--- the marks aside up to the frontier
-pub aside-marked : {S : Type 0} (here : Mark S) (marks : List (Mark S)) → marks_with (but_last here (reverse marks)) (last here (reverse marks)) true ≡ here ∷ reverse marks
-aside-marked here marks = parts here (reverse marks)
-
-pub aside-unmarked : {S : Type 0} (here x : Mark S) (xs marks : List (Mark S)) → marks ≡ x ∷ xs → marks_with (but_last here (reverse marks)) (last here (reverse marks)) false ≡ here ∷ reverse xs
-aside-unmarked here x xs marks e = lowest-but-last here x xs marks e
-
-marks-seen : {S : Type 0} (front before : List (Mark S)) (x : Mark S) (marked : Bool) → marks_with (front ++ before) x marked ≡ front ++ marks_with before x marked
-marks-seen front before x true = append_assoc front before (x ∷ [])
-marks-seen front before x false = refl
-
-pub finding_began : {S : Type 0} (at place : ℕ) (k : Kept S) (left : List (Mark S)) → marks_with (but_last k.here k.aside) (last k.here k.aside) k.marked ≡ k.here ∷ reverse left → place ≡ frontier_of k → frontier_of k ≤ at →
-    Finding at (marks_of (seen true k)) place k.here left
-finding_began at place k left e p le = record {
-  earlier = k.front;
-  are = marks-seen k.front (but_last k.here k.aside) (last k.here k.aside) k.marked ∙ ap (λ l. k.front ++ l) e;
-  here = p;
-  before = omega arith;
-}
-
-pub finding_more : {S : Type 0} (at : ℕ) (marks : List (Mark S)) (place place' : ℕ) (mark next : Mark S) (left rest : List (Mark S)) → Finding at marks place mark left → left ≡ rest ++ next ∷ [] → place' ≡ place + mark.len → place' ≤ at →
-    Finding at marks place' next rest
-finding_more at marks place place' mark next left rest f e p le = record {
-  earlier = f.earlier ++ mark ∷ [];
-  are = f.are ∙ ap (λ l. f.earlier ++ mark ∷ l) (topmost left rest next e) ∙ sym (append_assoc f.earlier (mark ∷ []) (next ∷ reverse rest));
-  here = (let n = reach-append f.earlier (mark ∷ []) in let h = f.here in omega arith);
+found_in : {S : Type 0} (at place : ℕ) (front mid : List (Mark S)) (here x : Mark S) (aside : List (Mark S)) (marked : Bool) (mark : Mark S) (earlier later : List (Mark S)) → here ∷ aside ≡ earlier ++ mark ∷ later →
+    here ∷ aside ≡ mid ++ x ∷ [] → place ≡ reach front + reach earlier → place ≤ at → (marked ≡ false → 0 < length later) → (length later ≤ (if marked then 0 else 1)) ⊎ (at < place + mark.len) →
+    IsLast at place (record { front = front ++ mid; here = x; marked = marked; aside = [] }) mark
+found_in {S = S} at place front mid here x aside true mark earlier later e f p le some next = record {
+  earlier = front ++ earlier;
+  later = later;
+  behind = later;
+  are = list;
+  all = list;
+  front = (let a = ap length list in let b = length-append (front ++ mid) (x ∷ []) in let c = length-append (front ++ earlier) (mark ∷ later) in omega arith);
+  here = (let r = reach-append front earlier in omega arith);
   before = le;
+  none_later = ahead next;
 }
-
--- all places are numbers of the machine
-pub finding_fits : {S : Type 0} (at : ℕ) (k : Kept S) (place : ℕ) (mark : Mark S) (left : List (Mark S)) → Finding at (marks_of (seen true k)) place mark left → frontier_of k + k.here.len + reach k.aside < 2 ^ 64 → place + mark.len < 2 ^ 64
-finding_fits at k place mark left f small =
-    let n = ap reach f.are in
-    let m = reach-append f.earlier (mark ∷ reverse left) in
-    let h = f.here in
-    let a = reach-append k.front (but_last k.here k.aside) in
-    let b = reach-append (but_last k.here k.aside) (last k.here k.aside ∷ []) in
-    let c = ap reach (parts k.here k.aside) in
-    by k.marked n
   where
-    by : (b : Bool) → reach (marks_with (k.front ++ but_last k.here k.aside) (last k.here k.aside) b) ≡ reach (f.earlier ++ mark ∷ reverse left) → place + mark.len < 2 ^ 64
-    by true n =
-        let m = reach-append f.earlier (mark ∷ reverse left) in
-        let h = f.here in
-        let z = reach-append (k.front ++ but_last k.here k.aside) (last k.here k.aside ∷ []) in
-        let a = reach-append k.front (but_last k.here k.aside) in
-        let b = reach-append (but_last k.here k.aside) (last k.here k.aside ∷ []) in
-        let c = ap reach (parts k.here k.aside) in
-        omega arith
-    by false n =
-        let m = reach-append f.earlier (mark ∷ reverse left) in
-        let h = f.here in
-        let a = reach-append k.front (but_last k.here k.aside) in
-        let b = reach-append (but_last k.here k.aside) (last k.here k.aside ∷ []) in
-        let c = ap reach (parts k.here k.aside) in
-        omega arith
+    list : (front ++ mid) ++ x ∷ [] ≡ (front ++ earlier) ++ mark ∷ later
+    list = append_assoc front mid (x ∷ []) ∙ ap (λ l. front ++ l) (sym f ∙ e) ∙ sym (append_assoc front earlier (mark ∷ later))
 
-found_last : {S : Type 0} (at place : ℕ) (front : List (Mark S)) (here : Mark S) (marked : Bool) (mark : Mark S) (left : List (Mark S)) → Finding at (marks_with front here marked) place mark left → (left ≡ []) ⊎ (at < place + mark.len) →
-    IsLast at place (record { front = front; here = here; marked = marked; aside = [] }) mark
-found_last {S = S} at place front here marked mark left f d = by marked f d
+    ahead : (length later ≤ 0) ⊎ (at < place + mark.len) → 0 < length later → at < place + mark.len
+    ahead (inl none) lt = absurd (omega arith)
+    ahead (inr lt) some = lt
+found_in {S = S} at place front mid here x aside false mark earlier later e f p le some next = by (parted_at later (some refl))
   where
-    later : (left ≡ []) ⊎ (at < place + mark.len) → 0 < length (reverse left) → at < place + mark.len
-    later (inr lt) some = lt
-    later (inl e) some = absurd (let n = ap (λ (l : List (Mark S)). length (reverse l)) e in omega arith)
-
-    by : (b : Bool) → Finding at (marks_with front here b) place mark left → (left ≡ []) ⊎ (at < place + mark.len) → IsLast at place (record { front = front; here = here; marked = b; aside = [] }) mark
-    by true g e = record {
-      earlier = g.earlier;
-      later = reverse left;
-      behind = reverse left;
-      are = g.are;
-      all = g.are;
-      front = (let n = ap length g.are in let m = length-append front (here ∷ []) in let o = length-append g.earlier (mark ∷ reverse left) in omega arith);
-      here = g.here;
-      before = g.before;
-      none_later = later e;
+    by : Parted later → IsLast at place (record { front = front ++ mid; here = x; marked = false; aside = [] }) mark
+    by t = record {
+      earlier = front ++ earlier;
+      later = t.earlier;
+      behind = t.earlier ++ x ∷ [];
+      are = short;
+      all = ap (λ l. l ++ x ∷ []) short ∙ append_assoc (front ++ earlier) (mark ∷ t.earlier) (x ∷ []);
+      front = (let a = ap length short in let c = length-append (front ++ earlier) (mark ∷ t.earlier) in omega arith);
+      here = (let r = reach-append front earlier in omega arith);
+      before = le;
+      none_later = ahead next;
     }
-    by false g e = record {
-      earlier = g.earlier;
-      later = reverse left;
-      behind = reverse left ++ here ∷ [];
-      are = g.are;
-      all = ap (λ l. l ++ here ∷ []) g.are ∙ append_assoc g.earlier (mark ∷ reverse left) (here ∷ []);
-      front = (let n = ap length g.are in let o = length-append g.earlier (mark ∷ reverse left) in omega arith);
-      here = g.here;
-      before = g.before;
-      none_later = later e;
-    }
+      where
+        whole : mid ++ x ∷ [] ≡ (earlier ++ mark ∷ t.earlier) ++ t.mark ∷ []
+        whole = sym f ∙ e ∙ ap (λ l. earlier ++ mark ∷ l) t.are ∙ sym (append_assoc earlier (mark ∷ t.earlier) (t.mark ∷ []))
 
-pub found_aside : {S : Type 0} (at place : ℕ) (k : Kept S) (mark : Mark S) (left : List (Mark S)) → Finding at (marks_of (seen true k)) place mark left → (left ≡ []) ⊎ (at < place + mark.len) → IsLast at place (seen true k) mark
-found_aside at place k mark left f d = found_last at place (k.front ++ but_last k.here k.aside) (last k.here k.aside) k.marked mark left f d
+        front_part : mid ≡ earlier ++ mark ∷ t.earlier
+        front_part =
+            let n = ap length whole in
+            let a = length-append mid (x ∷ []) in
+            let b = length-append (earlier ++ mark ∷ t.earlier) (t.mark ∷ []) in
+            front-same mid (earlier ++ mark ∷ t.earlier) (x ∷ []) (t.mark ∷ []) (omega arith) whole
+
+        short : front ++ mid ≡ (front ++ earlier) ++ mark ∷ t.earlier
+        short = ap (λ l. front ++ l) front_part ∙ sym (append_assoc front earlier (mark ∷ t.earlier))
+
+        ahead : (length later ≤ 1) ⊎ (at < place + mark.len) → 0 < length t.earlier → at < place + mark.len
+        ahead (inl one) lt = absurd (let l = longer later t.earlier t.mark t.are in omega arith)
+        ahead (inr lt) some = lt
+
+pub found_aside : {S : Type 0} (at place : ℕ) (k : Kept S) (mark : Mark S) → Found at k place mark → IsLast at place (seen true k) mark
+found_aside at place k mark f =
+    found_in at place k.front (but_last k.here k.aside) k.here (last k.here k.aside) k.aside k.marked mark f.earlier f.later f.are (sym (parts k.here k.aside)) f.here f.before f.marks f.next
+
+-- the one at hand
+pub found-at-hand : {S : Type 0} (at place count next : ℕ) (k : Kept S) → 0 < length k.aside → place ≡ frontier_of k → place ≤ at → next ≡ frontier_of k + k.here.len → (k.marked ≡ true → count ≡ length k.aside) → (k.marked ≡ false → count + 1 ≡ length k.aside) →
+    (at < next) ⊎ (count ≡ 0) → Found at k place k.here
+found-at-hand at place count next k some p le e f g d = record {
+  earlier = [];
+  later = k.aside;
+  are = refl;
+  here = omega arith;
+  before = le;
+  marks = λ _. some;
+  next = by k.marked refl d;
+}
+  where
+    by : (b : Bool) → k.marked ≡ b → (at < next) ⊎ (count ≡ 0) → (length k.aside ≤ (if b then 0 else 1)) ⊎ (at < place + k.here.len)
+    by b m (inl lt) = inr (omega arith)
+    by true m (inr z) = absurd (let n = f m in omega arith)
+    by false m (inr z) = inl (let n = g m in omega arith)
+
+-- one aside: no farther on than those up to the place
+pub found-behind : {S : Type 0} (at count next index place place' : ℕ) (k : Kept S) (mark : Mark S) → next ≡ frontier_of k + k.here.len → next ≤ at → (k.marked ≡ true → count ≡ length k.aside) → (k.marked ≡ false → count + 1 ≡ length k.aside) →
+    (index ≤ count_up_to (at - next) k.aside) × (index < count) → (index ≡ count_up_to (at - next) k.aside) ⊎ (index ≡ count - 1) → IsAt k.aside index place mark → place' ≡ next + place → Found at k place' mark
+found-behind {S = S} at count next index place place' k mark e le f g within or i p = record {
+  earlier = k.here ∷ i.earlier;
+  later = i.later;
+  are = ap (λ l. k.here ∷ l) i.are;
+  here = (let t = i.there in omega arith);
+  before = (let t = i.there in let r = near in omega arith);
+  marks = λ m. (let n = g m in let l = long in omega (arith, within.1));
+  next = by k.marked refl or;
+}
+  where
+    long : length k.aside ≡ index + (length i.later + 1)
+    long = let a = ap length i.are in let b = length-append i.earlier (mark ∷ i.later) in let c = i.count in omega arith
+
+    near : reach i.earlier ≤ at - next
+    near = let C : List (Mark S) → Type 0 = λ l. length i.earlier ≤ count_up_to (at - next) l in up-to-within (at - next) i.earlier (mark ∷ i.later) (subst C i.are (let c = i.count in omega (arith, within.0)))
+
+    by : (b : Bool) → k.marked ≡ b → (index ≡ count_up_to (at - next) k.aside) ⊎ (index ≡ count - 1) → (length i.later ≤ (if b then 0 else 1)) ⊎ (at < place' + mark.len)
+    by b m (inl z) =
+        let C : List (Mark S) → Type 0 = λ l. count_up_to (at - next) l ≤ length i.earlier in
+        let r = up-to-next (at - next) i.earlier mark i.later (subst C i.are (let c = i.count in omega arith)) in
+        inr (let t = i.there in omega arith)
+    by true m (inr z) = inl (let n = f m in let l = long in omega arith)
+    by false m (inr z) = inl (let n = g m in let l = long in omega arith)
 
 -- one in front of the line's place
-pub found_in_front : {S : Type 0} (at index place : ℕ) (k : Kept S) (f : LiesInFront at k.front index place) → at < frontier_of k → IsLast at place (seen true k) f.mark
-found_in_front {S = S} at index place k f lt = found_front at index place (seen true k) wider (λ _. (let n = reach-append k.front (but_last k.here k.aside) in omega arith))
+pub found_in_front : {S : Type 0} (at place : ℕ) (k : Kept S) (mark : Mark S) → LiesInFront at k.front place mark → at < frontier_of k → IsLast at place (seen true k) mark
+found_in_front {S = S} at place k mark f lt = found_front at place (seen true k) mark wider (λ _. (let n = reach-append k.front (but_last k.here k.aside) in omega arith))
   where
-    far : frontier_of k ≡ reach f.earlier + (f.mark.len + reach f.later)
-    far = ap reach f.are ∙ reach-append f.earlier (f.mark ∷ f.later)
+    far : frontier_of k ≡ reach f.earlier + (mark.len + reach f.later)
+    far = ap reach f.are ∙ reach-append f.earlier (mark ∷ f.later)
 
-    nearer : (f.later ≡ []) ⊎ (at < place + f.mark.len) → at < place + f.mark.len
+    nearer : (f.later ≡ []) ⊎ (at < place + mark.len) → at < place + mark.len
     nearer (inl e) = let n = ap reach e in let h = f.here in let m = far in omega arith
     nearer (inr h) = h
 
-    wider : LiesInFront at (seen true k).front index place
+    wider : LiesInFront at (seen true k).front place mark
     wider = record {
       earlier = f.earlier;
-      mark = f.mark;
       later = f.later ++ but_last k.here k.aside;
-      are = ap (λ l. l ++ but_last k.here k.aside) f.are ∙ append_assoc f.earlier (f.mark ∷ f.later) (but_last k.here k.aside);
-      count = f.count;
+      are = ap (λ l. l ++ but_last k.here k.aside) f.are ∙ append_assoc f.earlier (mark ∷ f.later) (but_last k.here k.aside);
       here = f.here;
       before = f.before;
       next = inr (nearer f.next);
     }
 
-pub found_either : {S : Type 0} (joined : Bool) (at index place : ℕ) (k : Kept S) (f : LiesInFront at k.front index place) → at < frontier_of k → IsLast at place (seen joined k) f.mark
-found_either true at index place k f lt = found_in_front at index place k f lt
-found_either false at index place k f lt = found_front at index place k f (λ _. lt)
-
-take-all : {S : Type 0} (xs : List (Mark S)) → take (length xs) xs ≡ xs
-take-all [] = refl
-take-all (x ∷ xs) = ap (λ l. x ∷ l) (take-all xs)
-
--- all but the lowest, as a part of a slice
-pub others-part : {S : Type 0} (x : Mark S) (xs marks : List (Mark S)) → marks ≡ x ∷ xs → xs ≡ take (length marks - 1) (drop 1 marks)
-others-part {S = S} x xs marks e = let P : List (Mark S) → Type 0 = λ l. xs ≡ take (length l - 1) (drop 1 l) in subst P (sym e) (sym (take-all xs) ∙ ap (λ n. take n xs) (let n : length xs ≡ length (x ∷ xs) - 1 = omega arith in n))
+pub found_either : {S : Type 0} (joined : Bool) (at place : ℕ) (k : Kept S) (mark : Mark S) → LiesInFront at k.front place mark → at < frontier_of k → IsLast at place (seen joined k) mark
+found_either true at place k mark f lt = found_in_front at place k mark f lt
+found_either false at place k mark f lt = found_front at place k mark f (λ _. lt)
 
 -- ---- faults
 
--- what is still to be added to the faults, those of the mark at hand first
-pub record Adding {S : Type 0} (all faults : List Fault) (place : ℕ) (mark : Mark S) (left : List (Mark S)) : Type 0 where
-  pub rest : all ≡ faults ++ faults_in place (but_last mark (reverse left))
-  pub fit : FaultsFit (but_last mark (reverse left))
-  pub small : place + mark.len + reach left < 2 ^ 64
-
-pub adding_more : {S : Type 0} (all faults faults' : List Fault) (place place' : ℕ) (mark next : Mark S) (left rest : List (Mark S)) → Adding all faults place mark left → left ≡ rest ++ next ∷ [] → faults' ≡ faults ++ placed place mark.faults → place' ≡ place + mark.len →
-    Adding all faults' place' next rest
-adding_more {S = S} all faults faults' place place' mark next left rest a e f p =
-    let t = topmost left rest next e in
-    let F : List (Mark S) → Type 0 = λ l. FaultsFit (but_last mark l) in
-    let there : faults_in place (but_last mark (reverse left)) ≡ placed place mark.faults ++ faults_in place' (but_last next (reverse rest)) =
-    ap (λ l. faults_in place (but_last mark l)) t ∙ ap (λ n. placed place mark.faults ++ faults_in n (but_last next (reverse rest))) (sym p) in
-    record {
-      rest = a.rest ∙ ap (λ l. faults ++ l) there ∙ sym (append_assoc faults (placed place mark.faults) (faults_in place' (but_last next (reverse rest)))) ∙ ap (λ l. l ++ faults_in place' (but_last next (reverse rest))) (sym f);
-      fit = (subst F t a.fit).1;
-      small = (let n = ap reach e in let m = reach-append rest (next ∷ []) in let s = a.small in omega arith);
-    }
-
-pub adding_within : {S : Type 0} (all faults : List Fault) (place : ℕ) (mark next : Mark S) (left rest : List (Mark S)) → Adding all faults place mark left → left ≡ rest ++ next ∷ [] → AllByRecursion (IsWithin (2 ^ 64 - 1 - place)) mark.faults
-adding_within {S = S} all faults place mark next left rest a e =
-    let F : List (Mark S) → Type 0 = λ l. FaultsFit (but_last mark l) in
-    let s = a.small in
-    all-wider mark.len (2 ^ 64 - 1 - place) mark.faults (omega arith) (subst F (topmost left rest next e) a.fit).0
-
-pub adding_ended : {S : Type 0} (all faults : List Fault) (place : ℕ) (mark : Mark S) (left : List (Mark S)) → Adding all faults place mark left → left ≡ [] → faults ≡ all
-adding_ended {S = S} all faults place mark left a e =
-    sym (a.rest ∙ ap (λ (l : List (Mark S)). faults ++ faults_in place (but_last mark (reverse l))) e ∙ none faults)
-
-faultless-list : (fs : List Fault) → some_count fs ≡ 0 → fs ≡ []
-faultless-list [] e = refl
-faultless-list (f ∷ fs) e = absurd (omega arith)
-
--- where no mark has faults there are none
-pub faultless : {S : Type 0} (p : ℕ) (xs : List (Mark S)) → faulty_count xs ≡ 0 → faults_in p xs ≡ []
-faultless p [] e = refl
-faultless p (x ∷ xs) e =
-    let a : some_count x.faults ≡ 0 = omega arith in
-    let b : faulty_count xs ≡ 0 = omega arith in
-    ap (λ (fs : List Fault). placed p fs ++ faults_in (p + x.len) xs) (faultless-list x.faults a) ∙ faultless (p + x.len) xs b
-
-faulty-reverse : {S : Type 0} (xs : List (Mark S)) → faulty_count (reverse xs) ≡ faulty_count xs
-faulty-reverse [] = refl
-faulty-reverse (x ∷ xs) = let a = ap faulty_count (reversed x xs) in let b = faulty-append (reverse xs) (x ∷ []) in let c = faulty-reverse xs in omega arith
-
-faulty-parts : {S : Type 0} (x : Mark S) (ys : List (Mark S)) → faulty_count (but_last x ys) ≤ faulty_count (x ∷ ys)
-faulty-parts x ys = let a = ap faulty_count (parts x ys) in let b = faulty-append (but_last x ys) (last x ys ∷ []) in omega arith
-
-none-there : (fs : List Fault) → length fs ≡ 0 → some_count fs ≡ 0
-none-there [] e = refl
-none-there (f ∷ fs) e = absurd (omega arith)
-
-pub faultless-behind : {S : Type 0} (p : ℕ) (here : Mark S) (marks : List (Mark S)) → length here.faults ≡ 0 → faulty_count marks ≡ 0 → faults_in p (but_last here (reverse marks)) ≡ []
-faultless-behind p here marks e f =
-    faultless p (but_last here (reverse marks)) (let a = none-there here.faults e in let b = faulty-reverse marks in let c = faulty-parts here (reverse marks) in omega arith)
+-- all but the last, those in front of it
+pub but-last-taken : {S : Type 0} (x : Mark S) (ys : List (Mark S)) (n : ℕ) → n + 1 ≡ length ys → but_last x ys ≡ x ∷ take n ys
+but-last-taken x [] n e = absurd (omega arith)
+but-last-taken x (y ∷ []) zero e = refl
+but-last-taken x (y ∷ []) (suc n) e = absurd (omega arith)
+but-last-taken x (y ∷ z ∷ zs) zero e = absurd (omega arith)
+but-last-taken x (y ∷ z ∷ zs) (suc n) e = ap (λ l. x ∷ l) (but-last-taken y (z ∷ zs) n (omega arith))
 
 pub fits-front : {S : Type 0} (xs ys : List (Mark S)) → FaultsFit (xs ++ ys) → FaultsFit xs
 fits-front [] ys h = tt

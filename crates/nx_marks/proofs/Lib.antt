@@ -15,7 +15,6 @@ pub mod Ends
 pub mod Starting
 pub mod Refused
 pub mod Walking
-pub mod Stacks
 pub mod Holding
 pub mod Finding
 pub mod Seen
@@ -26,6 +25,8 @@ pub mod Keeping
 pub mod Noting
 pub mod Rejoining
 pub mod Moving
-pub mod Listing
+pub mod Faults
 pub mod Counting
 pub mod Meant
+pub mod Trees
+pub mod Topping

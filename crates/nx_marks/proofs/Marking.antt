@@ -12,96 +12,6 @@ use Rattle.nx_marks.proofs.Places.{cuts-end}
 use Rattle.nx_marks.proofs.Reading.{led, Led}
 use Rattle.nx_marks.proofs.Stepping.{reach-append}
 
--- how far back the search is: no mark from here on lies at or before the place
-pub record Searching {S : Type 0} (at : ℕ) (front : List (Mark S)) (index place : ℕ) : Type 0 where
-  pub earlier : List (Mark S)
-  pub later : List (Mark S)
-  pub are : front ≡ earlier ++ later
-  pub count : index ≡ length earlier
-  pub here : place ≡ reach earlier
-  pub next : (later ≡ []) ⊎ (at < place)
-
-append-nil : {S : Type 0} (xs : List (Mark S)) → xs ++ [] ≡ xs
-append-nil [] = refl
-append-nil (x ∷ xs) = ap (λ l. x ∷ l) (append-nil xs)
-
-pub search_began : {S : Type 0} (at : ℕ) (front : List (Mark S)) (index place : ℕ) → index ≡ length front → place ≡ reach front → Searching at front index place
-search_began at front index place n p = record { earlier = front; later = []; are = sym (append-nil front); count = n; here = p; next = inl refl }
-
--- the last of some marks
-pub record Ends {S : Type 0} (xs : List (Mark S)) : Type 0 where
-  pub before : List (Mark S)
-  pub last : Mark S
-  pub are : xs ≡ before ++ last ∷ []
-
-ends : {S : Type 0} (x : Mark S) (xs : List (Mark S)) → Ends (x ∷ xs)
-ends x [] = record { before = []; last = x; are = refl }
-ends x (y ∷ ys) = let e = ends y ys in record { before = x ∷ e.before; last = e.last; are = ap (λ l. x ∷ l) e.are }
-
-pub ended : {S : Type 0} (xs : List (Mark S)) → 0 < length xs → Ends xs
-ended [] lt = absurd (omega arith)
-ended (x ∷ xs) lt = ends x xs
-
-pub at_middle : {S : Type 0} (xs : List (Mark S)) (y : Mark S) (ys : List (Mark S)) (i : ℕ) (d : Mark S) → i ≡ length xs → get_or (xs ++ y ∷ ys) i d ≡ y
-at_middle [] y ys zero d e = refl
-at_middle [] y ys (suc i) d e = absurd (omega arith)
-at_middle (x ∷ xs) y ys zero d e = absurd (omega arith)
-at_middle (x ∷ xs) y ys (suc i) d e = at_middle xs y ys i d (omega arith)
-
--- one mark further back
-pub record Steps {S : Type 0} (at : ℕ) (front : List (Mark S)) (index place : ℕ) : Type 0 where
-  pub earlier : List (Mark S)
-  pub mark : Mark S
-  pub later : List (Mark S)
-  pub are : front ≡ earlier ++ mark ∷ later
-  pub count : index - 1 ≡ length earlier
-  pub here : place ≡ reach earlier + mark.len
-  pub next : (later ≡ []) ⊎ (at < place)
-
-pub search_steps : {S : Type 0} (at : ℕ) (front : List (Mark S)) (index place : ℕ) → Searching at front index place → 0 < index → Steps at front index place
-search_steps at front index place s some =
-    let n = s.count in
-    let e = ended s.earlier (omega arith) in
-    let parts = reach-append e.before (e.last ∷ []) in
-    let all = ap reach e.are in
-    let long = ap length e.are in
-    let long2 = length-append e.before (e.last ∷ []) in
-    let p = s.here in
-    record {
-      earlier = e.before;
-      mark = e.last;
-      later = s.later;
-      are = s.are ∙ ap (λ l. l ++ s.later) e.are ∙ append_assoc e.before (e.last ∷ []) s.later;
-      count = omega arith;
-      here = omega arith;
-      next = s.next;
-    }
-
-pub search_found : {S : Type 0} (at : ℕ) (front : List (Mark S)) (index place i p : ℕ) (s : Steps at front index place) → i ≡ index - 1 → p ≡ place - s.mark.len → p ≤ at → LiesInFront at front i p
-search_found at front index place i p s e f le =
-    let n = s.count in
-    let h = s.here in
-    record { earlier = s.earlier; mark = s.mark; later = s.later; are = s.are; count = omega arith; here = omega arith; before = le; next = by s.next }
-  where
-    by : (s.later ≡ []) ⊎ (at < place) → (s.later ≡ []) ⊎ (at < p + s.mark.len)
-    by (inl none) = inl none
-    by (inr lt) = inr (let h = s.here in omega arith)
-
-pub search_more : {S : Type 0} (at : ℕ) (front : List (Mark S)) (index place i p : ℕ) (s : Steps at front index place) → i ≡ index - 1 → p ≡ place - s.mark.len → at < p → Searching at front i p
-search_more at front index place i p s e f lt =
-    let n = s.count in
-    let h = s.here in
-    record { earlier = s.earlier; later = s.mark ∷ s.later; are = s.are; count = omega arith; here = omega arith; next = inr lt }
-
--- at the start of a front that has a mark the search has found it
-pub search_nothing : {S : Type 0} (at : ℕ) (front : List (Mark S)) (index place : ℕ) → Searching at front index place → index ≡ 0 → 0 < length front → ⊥
-search_nothing at front index place s none some = by s.earlier s.later s.are s.count s.here s.next
-  where
-    by : (e l : List (Mark _)) → front ≡ e ++ l → index ≡ length e → place ≡ reach e → (l ≡ []) ⊎ (at < place) → ⊥
-    by [] l a n p (inl f) = let m = ap length a in let k = ap length f in absurd (omega arith)
-    by [] l a n p (inr lt) = absurd (omega arith)
-    by (x ∷ xs) l a n p d = absurd (omega arith)
-
 -- ---- the mark that is found
 
 pub found_here : {S : Type 0} (at place : ℕ) (k : Kept S) → (k.marked ≡ false → 0 < length k.front) → (k.marked ≡ true) ⊎ (k.front ≡ []) → place ≡ frontier_of k → place ≤ at → IsLast at place k k.here
@@ -125,32 +35,32 @@ found_here at place k some c p le = record {
     by true e = refl
     by false e = absurd (unmarked e c)
 
-pub found_front : {S : Type 0} (at index place : ℕ) (k : Kept S) (f : LiesInFront at k.front index place) → (k.marked ≡ true → at < frontier_of k) → IsLast at place k f.mark
-found_front {S = S} at index place k f ahead = by k.marked refl
+pub found_front : {S : Type 0} (at place : ℕ) (k : Kept S) (mark : Mark S) (f : LiesInFront at k.front place mark) → (k.marked ≡ true → at < frontier_of k) → IsLast at place k mark
+found_front {S = S} at place k mark f ahead = by k.marked refl
   where
-    all : all_of k ≡ f.earlier ++ f.mark ∷ (f.later ++ k.here ∷ k.aside)
-    all = ap (λ l. l ++ k.here ∷ k.aside) f.are ∙ append_assoc f.earlier (f.mark ∷ f.later) (k.here ∷ k.aside)
+    all : all_of k ≡ f.earlier ++ mark ∷ (f.later ++ k.here ∷ k.aside)
+    all = ap (λ l. l ++ k.here ∷ k.aside) f.are ∙ append_assoc f.earlier (mark ∷ f.later) (k.here ∷ k.aside)
 
     short : length f.earlier ≤ length k.front
-    short = let n = ap length f.are in let m = length-append f.earlier (f.mark ∷ f.later) in omega arith
+    short = let n = ap length f.are in let m = length-append f.earlier (mark ∷ f.later) in omega arith
 
-    far : frontier_of k ≡ reach f.earlier + (f.mark.len + reach f.later)
-    far = ap reach f.are ∙ reach-append f.earlier (f.mark ∷ f.later)
+    far : frontier_of k ≡ reach f.earlier + (mark.len + reach f.later)
+    far = ap reach f.are ∙ reach-append f.earlier (mark ∷ f.later)
 
-    nearer : k.marked ≡ true → (f.later ≡ []) ⊎ (at < place + f.mark.len) → at < place + f.mark.len
+    nearer : k.marked ≡ true → (f.later ≡ []) ⊎ (at < place + mark.len) → at < place + mark.len
     nearer m (inl none) = let e = ap reach none in let h = f.here in let a = ahead m in let n = far in omega arith
     nearer m (inr lt) = lt
 
-    unmarked : (f.later ≡ []) ⊎ (at < place + f.mark.len) → 0 < length f.later → at < place + f.mark.len
+    unmarked : (f.later ≡ []) ⊎ (at < place + mark.len) → 0 < length f.later → at < place + mark.len
     unmarked (inl none) some = absurd (let e = ap length none in omega arith)
     unmarked (inr lt) some = lt
 
-    by : (b : Bool) → k.marked ≡ b → IsLast at place k f.mark
+    by : (b : Bool) → k.marked ≡ b → IsLast at place k mark
     by true e = record {
       earlier = f.earlier;
       later = f.later ++ k.here ∷ [];
       behind = f.later ++ k.here ∷ k.aside;
-      are = ap (marks_with k.front k.here) e ∙ ap (λ l. l ++ k.here ∷ []) f.are ∙ append_assoc f.earlier (f.mark ∷ f.later) (k.here ∷ []);
+      are = ap (marks_with k.front k.here) e ∙ ap (λ l. l ++ k.here ∷ []) f.are ∙ append_assoc f.earlier (mark ∷ f.later) (k.here ∷ []);
       all = all;
       front = short;
       here = f.here;

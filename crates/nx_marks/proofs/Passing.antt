@@ -1,16 +1,15 @@
 -- Marks aside are passed, or followed.
-use Rattle.std.proofs.Common.{◌≡◌, ◌⊎◌, inl, inr, ℕ, zero, suc, ◌-◌, ◌<◌, ◌≤◌, Bool, true, false, nat_le, List, [], ◌∷◌, ◌++◌, length, reverse, refl, sym, ap, subst, ◌∙◌, arith, append_assoc}
-use Rattle.std.specs.Prelude.{if◌then◌else◌, slice_get, Some}
-use Rattle.std.proofs.lemmas.List.{reverse-append}
+use Rattle.std.proofs.Common.{◌≡◌, ◌⊎◌, inl, inr, ℕ, ◌+◌, ◌<◌, ◌≤◌, Bool, true, false, nat_le, List, [], ◌∷◌, ◌++◌, length, refl, sym, ap, subst, ◌∙◌, arith}
+use Rattle.std.specs.Prelude.{if◌then◌else◌}
+use Rattle.std.proofs.lemmas.List.{length-append}
 use Rattle.std.proofs.lemmas.Bool.Decides.{nat_tests}
-use Rattle.nx_marks.specs.Chain.{Kept, all_of}
+use Rattle.nx_marks.specs.Chain.{AreWhole, Kept}
 use Rattle.nx_marks.specs.Editing.{split}
-use Rattle.nx_marks.specs.Right.{tags_behind}
 use Rattle.nx_marks.specs.Taking.{let_go}
-use Rattle.nx_marks.specs.Walking.{StepsOn, DropsNext, PassesNext, PassesUpTo, TakesNext, Follows, farther}
+use Rattle.nx_marks.specs.Tree.{whole_count}
+use Rattle.nx_marks.specs.Walking.{MovesOn, DropsNext, PassesNext, PassesUpTo, TakesNext, Follows, farther}
 use Rattle.nx_marks.specs.declared.mark.Mark.{Mark}
 use Rattle.nx_marks.proofs.Splits.{split-on, split-off}
-use Rattle.nx_marks.proofs.Walking.{on_all}
 
 abbrev pub gone_from : {S : Type 0} → ℕ → Kept S → Kept S
 gone_from n k = let_go n k.here k.front k.marked k.aside
@@ -74,51 +73,84 @@ kept_of front here marked aside = record { front = front; here = here; marked = 
 abbrev followed : {S : Type 0} → List (Mark S) → Bool → Mark S → List (Mark S) → Kept S
 followed front marked here aside = let row = split marked here aside in record { front = front ++ row.front; here = row.here; marked = marked; aside = row.aside }
 
-pub record Following {S : Type 0} (old now : Kept S) : Type 0 where
-  pub same : followed now.front now.marked now.here now.aside ≡ followed old.front old.marked old.here old.aside
-  pub all : all_of now ≡ all_of old
-
-follow_one : {S : Type 0} (front : List (Mark S)) (marked : Bool) (x y : Mark S) (ys : List (Mark S)) → x.whole ≡ true → followed (front ++ x ∷ []) marked y ys ≡ followed front marked x (y ∷ ys)
-follow_one {S = S} front marked x y ys w =
-    let row = split marked y ys in
-    ap (λ l. kept_of l row.here marked row.aside) (append_assoc front (x ∷ []) row.front) ∙ ap (λ (k : Kept S). kept_of (front ++ k.front) k.here marked k.aside) (sym (split-on marked x y ys row w refl))
-
-pub follow_more : {S : Type 0} (old k j : Kept S) → Following old k → k.here.whole ≡ true → StepsOn k j → Following old j
-follow_more {S = S} old k j g w s =
-    let P : Kept S → Type 0 = λ i. followed i.front i.marked i.here i.aside ≡ followed k.front k.marked k.here k.aside in
-    record {
-      same = subst P (sym s.is) (follow_one k.front k.marked k.here s.mark s.behind w ∙ ap (followed k.front k.marked k.here) (sym s.are)) ∙ g.same;
-      all = on_all k j s ∙ g.all;
-    }
-
 append-nil : {S : Type 0} (xs : List (Mark S)) → xs ++ [] ≡ xs
 append-nil [] = refl
 append-nil (x ∷ xs) = ap (λ l. x ∷ l) (append-nil xs)
 
-pub follow_ended : {S : Type 0} (old k : Kept S) → Following old k → (k.here.whole ≡ false) ⊎ (k.aside ≡ []) → Follows old k
-follow_ended {S = S} old k g e = at_end k.aside e ∙ g.same
+-- whole marks are passed, up to the first that isn't or the last of all
+pub split-passed : {S : Type 0} (marked : Bool) (x : Mark S) (more : List (Mark S)) (y : Mark S) (ys : List (Mark S)) → x.whole ≡ true → AreWhole more → (ys ≡ []) ⊎ (y.whole ≡ false) → split marked x (more ++ y ∷ ys) ≡ kept_of (x ∷ more) y marked ys
+split-passed {S = S} marked x [] y ys w ws e = split-on marked x y ys (kept_of [] y marked ys) w (stays ys e)
   where
-    at_end : (l : List (Mark S)) → (k.here.whole ≡ false) ⊎ (l ≡ []) → kept_of k.front k.here k.marked l ≡ followed k.front k.marked k.here l
-    at_end [] e = ap (λ f. kept_of f k.here k.marked []) (sym (append-nil k.front))
-    at_end (y ∷ ys) (inl e) = ap (λ f. kept_of f k.here k.marked (y ∷ ys)) (sym (append-nil k.front)) ∙ ap (λ (row : Kept S). kept_of (k.front ++ row.front) row.here k.marked row.aside) (sym (split-off k.marked k.here y ys e))
-    at_end (y ∷ ys) (inr e) = absurd (let n = ap length e in omega arith)
+    stays : (l : List (Mark S)) → (l ≡ []) ⊎ (y.whole ≡ false) → split marked y l ≡ kept_of [] y marked l
+    stays [] e = refl
+    stays (z ∷ zs) (inl e) = absurd (let n = ap length e in omega arith)
+    stays (z ∷ zs) (inr e) = split-off marked y z zs e
+split-passed marked x (z ∷ zs) y ys w ws e = split-on marked x z (zs ++ y ∷ ys) (kept_of (z ∷ zs) y marked ys) w (split-passed marked z zs y ys ws.0 ws.1 e)
+
+-- no more than are whole from the first on
+pub whole-within : {S : Type 0} (xs ys : List (Mark S)) → length xs ≤ whole_count (xs ++ ys) → AreWhole xs
+whole-within [] ys le = tt
+whole-within (x ∷ xs) ys le = by x.whole refl le (λ h. whole-within xs ys h)
+  where
+    by : (b : Bool) → x.whole ≡ b → length (x ∷ xs) ≤ (if b then 1 + whole_count (xs ++ ys) else 0) → (length xs ≤ whole_count (xs ++ ys) → AreWhole xs) → AreWhole (x ∷ xs)
+    by true e h rest = (e, rest (omega arith))
+    by false e h rest = absurd (omega arith)
+
+-- the one behind all that are whole isn't
+pub whole-next : {S : Type 0} (xs : List (Mark S)) (y : Mark S) (ys : List (Mark S)) → whole_count (xs ++ y ∷ ys) ≡ length xs → y.whole ≡ false
+whole-next [] y ys e = by y.whole refl e
+  where
+    by : (b : Bool) → y.whole ≡ b → (if b then 1 + whole_count ys else 0) ≡ 0 → y.whole ≡ false
+    by true w h = absurd (omega arith)
+    by false w h = w
+whole-next (x ∷ xs) y ys e = by x.whole e (λ h. whole-next xs y ys h)
+  where
+    by : (b : Bool) → (if b then 1 + whole_count (xs ++ y ∷ ys) else 0) ≡ length (x ∷ xs) → (whole_count (xs ++ y ∷ ys) ≡ length xs → y.whole ≡ false) → y.whole ≡ false
+    by true h rest = rest (omega arith)
+    by false h rest = absurd (omega arith)
+
+none-left : {S : Type 0} (xs : List (Mark S)) → length xs ≤ 0 → xs ≡ []
+none-left [] h = refl
+none-left (x ∷ xs) h = absurd (omega arith)
+
+-- so many of those aside were passed: the whole ones and one more, if there is one
+pub followed_on : {S : Type 0} (n whole : ℕ) (old new : Kept S) → old.here.whole ≡ true → whole ≡ whole_count old.aside → (n ≤ whole + 1) × (n ≤ length old.aside) → (n ≡ length old.aside) ⊎ (n ≡ whole + 1) → MovesOn n old new → Follows old new
+followed_on {S = S} n whole old new w e le or (inl same) = same.1 ∙ by old.aside (zero or)
+  where
+    zero : (n ≡ length old.aside) ⊎ (n ≡ whole + 1) → length old.aside ≤ 0
+    zero (inl z) = omega (arith, same.0)
+    zero (inr z) = absurd (omega (arith, same.0))
+
+    by : (l : List (Mark S)) → length l ≤ 0 → kept_of old.front old.here old.marked l ≡ followed old.front old.marked old.here l
+    by [] h = ap (λ f. kept_of f old.here old.marked []) (sym (append-nil old.front))
+    by (x ∷ xs) h = absurd (omega arith)
+followed_on {S = S} n whole old new w e le or (inr m) =
+    ap (λ l. kept_of l new.here new.marked new.aside) m.front ∙ ap (λ b. kept_of (old.front ++ old.here ∷ m.more) new.here b new.aside) m.marked
+    ∙ ap (λ (r : Kept S). kept_of (old.front ++ r.front) r.here old.marked r.aside) (sym (ap (split old.marked old.here) m.aside ∙ split-passed old.marked old.here m.more new.here new.aside w wholes (ended or)))
+  where
+    wholes : AreWhole m.more
+    wholes = let C : List (Mark S) → Type 0 = λ l. length m.more ≤ whole_count l in whole-within m.more (new.here ∷ new.aside) (subst C m.aside (omega (arith, m.many, le.0)))
+
+    ended : (n ≡ length old.aside) ⊎ (n ≡ whole + 1) → (new.aside ≡ []) ⊎ (new.here.whole ≡ false)
+    ended (inl z) = inl (none-left new.aside (let l = ap length m.aside in let a = length-append m.more (new.here ∷ new.aside) in omega (arith, m.many)))
+    ended (inr z) = let C : List (Mark S) → Type 0 = λ l. whole_count l ≡ length m.more in inr (whole-next m.more new.here new.aside (subst C m.aside (omega (arith, m.many))))
+
+-- one that isn't whole is no row
+pub followed_none : {S : Type 0} (k : Kept S) → k.here.whole ≡ false → Follows k k
+followed_none {S = S} k e = at_end k.aside
+  where
+    at_end : (l : List (Mark S)) → kept_of k.front k.here k.marked l ≡ followed k.front k.marked k.here l
+    at_end [] = ap (λ f. kept_of f k.here k.marked []) (sym (append-nil k.front))
+    at_end (y ∷ ys) = ap (λ f. kept_of f k.here k.marked (y ∷ ys)) (sym (append-nil k.front)) ∙ ap (λ (row : Kept S). kept_of (k.front ++ row.front) row.here k.marked row.aside) (sym (split-off k.marked k.here y ys e))
 
 pub passed_next : {S : Type 0} (k d : Kept S) (len : ℕ) → DropsNext k d len → PassesNext k (record { front = d.front; here = farther d.here len; marked = d.marked; aside = d.aside })
 passed_next {S = S} k d len s =
     let P : Kept S → Type 0 = λ i. PassesNext k (record { front = i.front; here = farther i.here len; marked = i.marked; aside = i.aside }) in
     subst P (sym s.is) (record { mark = s.mark; behind = s.behind; are = s.are; is = ap (λ n. kept_of k.front (farther k.here n) k.marked s.behind) s.long })
 
-pub taken_next : {S : Type 0} (front : List (Mark S)) (here mark : Mark S) (marked : Bool) (asides fewer : List (Mark S)) → asides ≡ fewer ++ mark ∷ [] →
-    TakesNext (record { front = front; here = here; marked = marked; aside = reverse asides }) (record { front = front; here = mark; marked = marked; aside = reverse fewer })
-taken_next front here mark marked asides fewer e = record { mark = mark; behind = reverse fewer; are = ap reverse e ∙ reverse-append fewer (mark ∷ []); is = refl }
-
--- the last mark of a list
-pub tags_at : {S : Type 0} (n : ℕ) (xs : List (Mark S)) (d : Mark S) → Some d ≡ slice_get xs n → n ≡ length xs - 1 → d.tags ≡ tags_behind xs
-tags_at n [] d e f = absurd (cc)
-tags_at zero (x ∷ []) d e f = let same : d ≡ x = cc in ap (λ (m : Mark _). m.tags) same
-tags_at zero (x ∷ y ∷ ys) d e f = absurd (omega arith)
-tags_at (suc n) (x ∷ []) d e f = absurd (omega arith)
-tags_at (suc n) (x ∷ y ∷ ys) d e f = tags_at n (y ∷ ys) d e (omega arith)
+pub taken_next : {S : Type 0} (front : List (Mark S)) (here here' mark : Mark S) (marked : Bool) (aside fewer : List (Mark S)) → aside ≡ mark ∷ fewer → here' ≡ mark →
+    TakesNext (record { front = front; here = here; marked = marked; aside = aside }) (record { front = front; here = here'; marked = marked; aside = fewer })
+taken_next front here here' mark marked aside fewer e f = record { mark = mark; behind = fewer; are = e; is = ap (λ m. kept_of front m marked fewer) f }
 
 pub let_went : {S : Type 0} (n : ℕ) (old k : Kept S) → PassesUpTo n old k → 0 < length k.aside → k ≡ gone_from n old
 let_went n old k g some = by g.there

@@ -1,17 +1,17 @@
 -- What is seen of a line where all that is aside is in front of the frontier.
-use Rattle.std.proofs.Common.{◌≡◌, ◌⊎◌, inl, inr, ℕ, ◌+◌, ◌<◌, ◌≤◌, Bool, true, false, List, [], ◌∷◌, ◌++◌, length, reverse, refl, sym, ap, subst, ◌∙◌, arith, append_assoc}
-use Rattle.std.proofs.lemmas.List.{reverse-append, length-append}
+use Rattle.std.proofs.Common.{◌≡◌, ◌⊎◌, inl, inr, ℕ, ◌+◌, ◌-◌, ◌<◌, ◌≤◌, Bool, true, false, List, [], ◌∷◌, ◌++◌, length, refl, sym, ap, subst, ◌∙◌, arith, append_assoc}
+use Rattle.std.proofs.lemmas.List.{length-append}
 use Rattle.nx_marks.specs.Chain.{AreWhole, Kept, all_of, frontier_of, reach}
 use Rattle.nx_marks.specs.Editing.{noted, split}
 use Rattle.nx_marks.specs.Joined.{but_last, last, seen}
 use Rattle.nx_marks.specs.Right.{tags_behind}
-use Rattle.nx_marks.specs.Stack.{unsaved}
-use Rattle.nx_marks.specs.Walking.{StepsOn, GoesBack, GoesOn, Follows}
+use Rattle.nx_marks.specs.Tree.{IsAt, unsaved, whole_count}
+use Rattle.nx_marks.specs.Walking.{MovesOn, GoesBack, GoesOn, Follows}
 use Rattle.nx_marks.specs.declared.mark.Mark.{Mark}
 use Rattle.nx_marks.proofs.Backs.{reach-append}
 use Rattle.nx_marks.proofs.Cutting.{front-same}
-use Rattle.nx_marks.proofs.Splits.{split-on}
-use Rattle.nx_marks.proofs.Stacks.{tags-last}
+use Rattle.nx_marks.proofs.Holding.{longer}
+use Rattle.nx_marks.proofs.Passing.{split-passed, whole-within}
 
 append-nil : {S : Type 0} (xs : List (Mark S)) → xs ++ [] ≡ xs
 append-nil [] = refl
@@ -39,27 +39,6 @@ seen-none {S = S} true k e = by k.aside e
     by [] f = ap (λ xs. kept_of xs k.here k.marked []) (append-nil k.front)
     by (x ∷ xs) f = absurd (let n = ap length f in omega arith)
 
-pub seen-on : {S : Type 0} (k j : Kept S) → StepsOn k j → seen true j ≡ seen true k
-unfolding kept_of
-seen-on {S = S} k j s =
-    let P : Kept S → Type 0 = λ i. seen true i ≡ seen true k in
-    let A : List (Mark S) → Type 0 = λ l. kept_of ((k.front ++ k.here ∷ []) ++ but_last s.mark s.behind) (last s.mark s.behind) k.marked [] ≡ kept_of (k.front ++ but_last k.here l) (last k.here l) k.marked [] in
-    subst P (sym s.is) (subst A (sym s.are) (ap (λ l. kept_of l (last s.mark s.behind) k.marked []) (append_assoc k.front (k.here ∷ []) (but_last s.mark s.behind))))
-
-pub arrived : {S : Type 0} (joined : Bool) (old now : Kept S) → seen joined now ≡ seen joined old → (joined ≡ false) ⊎ (now.aside ≡ []) → now ≡ seen joined old
-arrived joined old now e (inr none) = sym (seen-none joined now none) ∙ e
-arrived {S = S} joined old now e (inl not) = let P : Bool → Type 0 = λ b. now ≡ seen b old in let Q : Bool → Type 0 = λ b. seen b now ≡ seen b old in let f : now ≡ old = subst Q not e in subst P (sym not) f
-
--- ---- places
-
--- the last mark lies at the frontier
-pub end-there : {S : Type 0} (k : Kept S) → frontier_of (seen true k) + (last k.here k.aside).len ≡ frontier_of k + k.here.len + reach k.aside
-end-there k =
-    let a = reach-append k.front (but_last k.here k.aside) in
-    let b = reach-append (but_last k.here k.aside) (last k.here k.aside ∷ []) in
-    let c = ap reach (parts k.here k.aside) in
-    omega arith
-
 pub last-behind : {S : Type 0} (x : Mark S) (ys : List (Mark S)) (z : Mark S) → last x (ys ++ z ∷ []) ≡ z
 last-behind x [] z = refl
 last-behind x (y ∷ ys) z = last-behind y ys z
@@ -68,57 +47,118 @@ pub but-last-behind : {S : Type 0} (x : Mark S) (ys : List (Mark S)) (z : Mark S
 but-last-behind x [] z = refl
 but-last-behind x (y ∷ ys) z = ap (λ l. x ∷ l) (but-last-behind y ys z)
 
-pub reversed : {S : Type 0} (x : Mark S) (xs : List (Mark S)) → reverse (x ∷ xs) ≡ reverse xs ++ x ∷ []
-reversed x xs = reverse-append (x ∷ []) xs
+none-left : {S : Type 0} (xs : List (Mark S)) → length xs ≤ 0 → xs ≡ []
+none-left [] h = refl
+none-left (x ∷ xs) h = absurd (omega arith)
 
--- the lowest mark of a stack is the last
-pub lowest-last : {S : Type 0} (here x : Mark S) (xs marks : List (Mark S)) → marks ≡ x ∷ xs → last here (reverse marks) ≡ x
-lowest-last here x xs marks e = ap (λ l. last here (reverse l)) e ∙ ap (last here) (reversed x xs) ∙ last-behind here (reverse xs) x
+-- all that was aside is passed
+pub arrived : {S : Type 0} (old now : Kept S) → MovesOn (length old.aside) old now → now ≡ seen true old
+unfolding kept_of
+arrived {S = S} old now (inl same) = same.1 ∙ sym (seen-none true old (none-left old.aside (omega (arith, same.0))))
+arrived {S = S} old now (inr m) =
+    ap (λ l. kept_of l now.here now.marked now.aside) m.front
+    ∙ ap (λ b. kept_of (old.front ++ old.here ∷ m.more) now.here b now.aside) m.marked
+    ∙ ap (kept_of (old.front ++ old.here ∷ m.more) now.here old.marked) none
+    ∙ ap (λ l. kept_of (old.front ++ l) now.here old.marked []) (sym (ap (but_last old.here) list ∙ but-last-behind old.here m.more now.here))
+    ∙ ap (λ x. kept_of (old.front ++ but_last old.here old.aside) x old.marked []) (sym (ap (last old.here) list ∙ last-behind old.here m.more now.here))
+  where
+    none : now.aside ≡ []
+    none = none-left now.aside (let l = ap length m.aside in let a = length-append m.more (now.here ∷ now.aside) in omega (arith, m.many))
 
-pub lowest-but-last : {S : Type 0} (here x : Mark S) (xs marks : List (Mark S)) → marks ≡ x ∷ xs → but_last here (reverse marks) ≡ here ∷ reverse xs
-lowest-but-last here x xs marks e = ap (λ l. but_last here (reverse l)) e ∙ ap (but_last here) (reversed x xs) ∙ but-last-behind here (reverse xs) x
+    list : old.aside ≡ m.more ++ now.here ∷ []
+    list = m.aside ∙ ap (λ l. m.more ++ now.here ∷ l) none
+
+-- ---- places
+
+-- what is read behind all but one is the last
+pub record Ends {S : Type 0} (marks : List (Mark S)) (x : Mark S) (place : ℕ) : Type 0 where
+  pub earlier : List (Mark S)
+  pub are : marks ≡ earlier ++ x ∷ []
+  pub there : place ≡ reach earlier
+
+pub ends-with : {S : Type 0} (marks : List (Mark S)) (n place : ℕ) (x : Mark S) → n + 1 ≡ length marks → IsAt marks n place x → Ends marks x place
+ends-with marks n place x e i = record {
+  earlier = i.earlier;
+  are = i.are ∙ ap (λ l. i.earlier ++ x ∷ l) (none-left i.later (let a = ap length i.are in let b = length-append i.earlier (x ∷ i.later) in let c = i.count in omega arith));
+  there = i.there;
+}
+
+pub last-read : {S : Type 0} (here x : Mark S) (marks : List (Mark S)) (place : ℕ) → Ends marks x place → x ≡ last here marks
+last-read here x marks place e = sym (ap (last here) e.are ∙ last-behind here e.earlier x)
+
+-- where the last mark lies
+pub end-there : {S : Type 0} (k : Kept S) (x : Mark S) (place : ℕ) → Ends k.aside x place → frontier_of k + k.here.len + place ≡ frontier_of (seen true k)
+end-there k x place e =
+    let a = ap (λ l. reach (k.front ++ l)) (ap (but_last k.here) e.are ∙ but-last-behind k.here e.earlier x) in
+    let b = reach-append k.front (k.here ∷ e.earlier) in
+    let c = e.there in
+    omega arith
+
+pub tags-last : {S : Type 0} (xs : List (Mark S)) (x : Mark S) → tags_behind (xs ++ x ∷ []) ≡ x.tags
+tags-last [] x = refl
+tags-last (y ∷ []) x = refl
+tags-last (y ∷ z ∷ xs) x = tags-last (z ∷ xs) x
 
 -- how many tags lie behind the one before the last
-pub tags-alone : {S : Type 0} (front : List (Mark S)) (here x : Mark S) (marks : List (Mark S)) → marks ≡ x ∷ [] → here.tags ≡ tags_behind (front ++ but_last here (reverse marks))
-tags-alone front here x marks e = sym (ap (λ l. tags_behind (front ++ l)) (lowest-but-last here x [] marks e) ∙ tags-last front here)
+pub tags-alone : {S : Type 0} (front : List (Mark S)) (here : Mark S) (aside : List (Mark S)) → length aside ≡ 1 → here.tags ≡ tags_behind (front ++ but_last here aside)
+tags-alone front here [] e = absurd (omega arith)
+tags-alone front here (x ∷ []) e = sym (tags-last front here)
+tags-alone front here (x ∷ y ∷ ys) e = absurd (omega arith)
 
-pub tags-second : {S : Type 0} (front : List (Mark S)) (here x y : Mark S) (ys marks : List (Mark S)) → marks ≡ x ∷ y ∷ ys → y.tags ≡ tags_behind (front ++ but_last here (reverse marks))
-tags-second front here x y ys marks e =
-    sym (ap (λ l. tags_behind (front ++ l)) (lowest-but-last here x (y ∷ ys) marks e ∙ ap (λ l. here ∷ l) (reversed y ys))
-    ∙ ap tags_behind (sym (append_assoc front (here ∷ reverse ys) (y ∷ [])))
-    ∙ tags-last (front ++ here ∷ reverse ys) y)
+pub tags-second : {S : Type 0} (front : List (Mark S)) (here y : Mark S) (aside : List (Mark S)) (n place : ℕ) → n + 2 ≡ length aside → IsAt aside n place y → y.tags ≡ tags_behind (front ++ but_last here aside)
+tags-second {S = S} front here y aside n place e i = by i.later (let a = ap length i.are in let b = length-append i.earlier (y ∷ i.later) in let c = i.count in omega arith) i.are
+  where
+    by : (l : List (Mark S)) → length l ≡ 1 → aside ≡ i.earlier ++ y ∷ l → y.tags ≡ tags_behind (front ++ but_last here aside)
+    by [] f g = absurd (omega arith)
+    by (z ∷ []) f g =
+        let split : aside ≡ (i.earlier ++ y ∷ []) ++ z ∷ [] = g ∙ sym (append_assoc i.earlier (y ∷ []) (z ∷ [])) in
+        sym (ap (λ l. tags_behind (front ++ l)) (ap (but_last here) split ∙ but-last-behind here (i.earlier ++ y ∷ []) z)
+        ∙ ap tags_behind (sym (append_assoc front (here ∷ i.earlier) (y ∷ [])))
+        ∙ tags-last (front ++ here ∷ i.earlier) y)
+    by (z ∷ w ∷ ws) f g = absurd (omega arith)
 
 -- the last one is no mark any more
-pub noted_last : {S : Type 0} (front : List (Mark S)) (here x : Mark S) (marked : Bool) (xs old new : List (Mark S)) → old ≡ x ∷ xs → new ≡ unsaved x ∷ xs →
-    seen true (record { front = front; here = here; marked = marked; aside = reverse new }) ≡ noted (seen true (record { front = front; here = here; marked = marked; aside = reverse old }))
+pub noted_last : {S : Type 0} (front : List (Mark S)) (here x y : Mark S) (marked : Bool) (others single old new : List (Mark S)) → old ≡ others ++ x ∷ [] → y ≡ unsaved x → single ≡ y ∷ [] → new ≡ others ++ single →
+    seen true (record { front = front; here = here; marked = marked; aside = new }) ≡ noted (seen true (record { front = front; here = here; marked = marked; aside = old }))
 unfolding kept_of
-noted_last front here x marked xs old new e f =
-    ap (λ l. kept_of (front ++ l) (last here (reverse new)) marked []) (lowest-but-last here (unsaved x) xs new f ∙ sym (lowest-but-last here x xs old e))
-    ∙ ap (λ z. kept_of (front ++ but_last here (reverse old)) z marked []) (lowest-last here (unsaved x) xs new f ∙ ap unsaved (sym (lowest-last here x xs old e)))
+noted_last front here x y marked others single old new e u s f =
+    let list : new ≡ others ++ unsaved x ∷ [] = f ∙ ap (λ l. others ++ l) (s ∙ ap (λ z. z ∷ []) u) in
+    ap (λ l. kept_of (front ++ l) (last here new) marked []) (ap (but_last here) list ∙ but-last-behind here others (unsaved x) ∙ sym (ap (but_last here) e ∙ but-last-behind here others x))
+    ∙ ap (λ z. kept_of (front ++ but_last here old) z marked []) (ap (last here) list ∙ last-behind here others (unsaved x) ∙ ap unsaved (sym (ap (last here) e ∙ last-behind here others x)))
 
 -- ---- rows
 
-whole-append : {S : Type 0} (xs ys : List (Mark S)) → AreWhole xs → AreWhole ys → AreWhole (xs ++ ys)
-whole-append [] ys a b = b
-whole-append (x ∷ xs) ys a b = (a.0, whole-append xs ys a.1 b)
+-- the last of some, and those in front of it
+pub record Parted {S : Type 0} (marks : List (Mark S)) : Type 0 where
+  pub earlier : List (Mark S)
+  pub mark : Mark S
+  pub are : marks ≡ earlier ++ mark ∷ []
 
-whole-reverse : {S : Type 0} (xs : List (Mark S)) → AreWhole xs → AreWhole (reverse xs)
-whole-reverse [] w = tt
-whole-reverse {S = S} (x ∷ xs) w = let W : List (Mark S) → Type 0 = λ l. AreWhole l in subst W (sym (reversed x xs)) (whole-append (reverse xs) (x ∷ []) (whole-reverse xs w.1) (w.0, tt))
+pub parted_at : {S : Type 0} (xs : List (Mark S)) → 0 < length xs → Parted xs
+parted_at [] lt = absurd (omega arith)
+parted_at (x ∷ []) lt = record { earlier = []; mark = x; are = refl }
+parted_at (x ∷ y ∷ ys) lt = let p = parted_at (y ∷ ys) (omega arith) in record { earlier = x ∷ p.earlier; mark = p.mark; are = ap (λ l. x ∷ l) p.are }
 
-row-split : {S : Type 0} (marked : Bool) (x : Mark S) (ys : List (Mark S)) (z : Mark S) → x.whole ≡ true → AreWhole ys → split marked x (ys ++ z ∷ []) ≡ kept_of (x ∷ ys) z marked []
+-- all but the last are whole
+pub row-follows : {S : Type 0} (front : List (Mark S)) (here : Mark S) (marked : Bool) (aside : List (Mark S)) (whole : ℕ) → here.whole ≡ true → 0 < length aside → whole ≡ whole_count aside → length aside - 1 ≤ whole →
+    Follows (record { front = front; here = here; marked = marked; aside = aside }) (seen true (record { front = front; here = here; marked = marked; aside = aside }))
 unfolding kept_of
-row-split marked x [] z e w = split-on marked x z [] (kept_of [] z marked []) e refl
-row-split marked x (y ∷ ys) z e w = split-on marked x y (ys ++ z ∷ []) (kept_of (y ∷ ys) z marked []) e (row-split marked y ys z w.0 w.1)
-
-pub row-follows : {S : Type 0} (front : List (Mark S)) (here x : Mark S) (marked : Bool) (xs marks : List (Mark S)) → marks ≡ x ∷ xs → here.whole ≡ true → AreWhole xs →
-    Follows (record { front = front; here = here; marked = marked; aside = reverse marks }) (seen true (record { front = front; here = here; marked = marked; aside = reverse marks }))
-unfolding kept_of
-row-follows {S = S} front here x marked xs marks e w ws =
-    let row : split marked here (reverse marks) ≡ kept_of (here ∷ reverse xs) x marked [] = ap (split marked here) (ap reverse e ∙ reversed x xs) ∙ row-split marked here (reverse xs) x w (whole-reverse xs ws) in
-    ap (λ l. kept_of (front ++ l) (last here (reverse marks)) marked []) (lowest-but-last here x xs marks e)
-    ∙ ap (λ z. kept_of (front ++ here ∷ reverse xs) z marked []) (lowest-last here x xs marks e)
+row-follows {S = S} front here marked aside whole w some e le =
+    ap (λ l. kept_of (front ++ l) (last here aside) marked []) (ap (but_last here) parted.are ∙ but-last-behind here parted.earlier parted.mark)
+    ∙ ap (λ z. kept_of (front ++ here ∷ parted.earlier) z marked []) (ap (last here) parted.are ∙ last-behind here parted.earlier parted.mark)
     ∙ ap (λ (r : Kept S). kept_of (front ++ r.front) r.here marked r.aside) (sym row)
+  where
+    parted : Parted aside
+    parted = parted_at aside some
+
+    wholes : AreWhole parted.earlier
+    wholes =
+        let C : List (Mark S) → Type 0 = λ l. length parted.earlier ≤ whole_count l in
+        let n = longer aside parted.earlier parted.mark parted.are in
+        whole-within parted.earlier (parted.mark ∷ []) (subst C parted.are (omega arith))
+
+    row : split marked here aside ≡ kept_of (here ∷ parted.earlier) parted.mark marked []
+    row = ap (split marked here) parted.are ∙ split-passed marked here parted.earlier parted.mark [] w wholes (inl refl)
 
 -- ---- before a place
 

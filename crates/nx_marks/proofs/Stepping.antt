@@ -27,7 +27,7 @@ use Rattle.nx_marks.proofs.Reading.{frontier_place, front-led}
 use Rattle.nx_marks.proofs.Later.{right_later}
 use Rattle.nx_marks.proofs.Refused.{same_right}
 use Rattle.nx_marks.proofs.Bounding.{took_nearer}
-use Rattle.nx_marks.proofs.Stacks.{parted, tags-last}
+use Rattle.nx_marks.proofs.Seen.{parted_at, tags-last}
 
 pub tag-one : (k : TokenKind) → tag_of k ≤ 1
 tag-one kind.Bom = omega arith
@@ -242,17 +242,17 @@ pub standing : {S M : Type 0} (is_state : S → Type 0) (means : S → M) (r : R
     token ≡ cut t (frontier_of j) → length token.bytes ≤ j.here.len → j.marked ≡ false → Standing is_state means r t k token
 standing {S = S} is_state means r t k j token e laws utf8 right rest is far unmarked =
     let P : Kept S → Type 0 = λ i. Standing is_state means r t i token in
-    let p = parted j.front (right.rule.some unmarked) in
+    let p = parted_at j.front (right.rule.some unmarked) in
     subst P (sym e) (record {
       right = right;
       rest = rest;
       is = is;
       far = far;
       unmarked = unmarked;
-      before = p.before;
-      last = p.last;
+      before = p.earlier;
+      last = p.mark;
       front_is = p.are;
-      ready = ready is_state means r t j p.before p.last token laws utf8 right p.are rest is;
+      ready = ready is_state means r t j p.earlier p.mark token laws utf8 right p.are rest is;
     })
 
 -- what the step leaves is what was to be taken, where the last segment of the front got longer by the token

@@ -1,16 +1,13 @@
 -- Steps along what is kept.
-use Rattle.std.proofs.Common.{◌≡◌, ◌⊎◌, ℕ, ◌+◌, ◌^◌, ◌<◌, ◌≤◌, Bool, List, [], ◌∷◌, ◌++◌, length, take, drop, reverse, refl, sym, ap, subst, ◌∙◌, arith, append_assoc}
-use Rattle.std.proofs.lemmas.List.{reverse-append, length-append}
+use Rattle.std.proofs.Common.{◌≡◌, ◌⊎◌, inl, inr, ℕ, ◌+◌, ◌-◌, ◌^◌, ◌<◌, ◌≤◌, Bool, true, false, nat_le, List, [], ◌∷◌, ◌++◌, length, take, drop, refl, sym, ap, subst, ◌∙◌, arith, append_assoc}
+use Rattle.std.specs.Prelude.{if◌then◌else◌}
+use Rattle.std.proofs.lemmas.List.{length-append}
+use Rattle.std.proofs.lemmas.Bool.Decides.{nat_tests}
 use Rattle.nx_marks.specs.Chain.{Kept, all_of, frontier_of, reach}
-use Rattle.nx_marks.specs.Walking.{StepsBack, StepsOn, DropsNext, DropsBetween, GoesBack, GoesOn, AreUpTo}
+use Rattle.nx_marks.specs.Tree.{count_up_to}
+use Rattle.nx_marks.specs.Walking.{Moved, MovesBack, MovesOn, DropsNext, DropsBetween, GoesBack, GoesOn, ComesBack, AreUpTo}
 use Rattle.nx_marks.specs.declared.mark.Mark.{Mark}
 use Rattle.nx_marks.proofs.Backs.{reach-append}
-
-pub at_last : {S : Type 0} (at : ℕ) (xs before : List (Mark S)) (x : Mark S) → at ≡ reach xs → xs ≡ before ++ x ∷ [] → at ≡ reach before + x.len
-at_last at xs before x e f = let n = reach-append before (x ∷ []) in let m = ap reach f in omega arith
-
-pub at_more : {S : Type 0} (at : ℕ) (xs more : List (Mark S)) (x y : Mark S) → at ≡ reach xs → more ≡ xs ++ x ∷ [] → y ≡ x → at + y.len ≡ reach more
-at_more at xs more x y e f g = let n = reach-append xs (x ∷ []) in let m = ap reach f in let k = ap (λ (z : Mark _). z.len) g in omega arith
 
 append-nil : {S : Type 0} (xs : List (Mark S)) → xs ++ [] ≡ xs
 append-nil [] = refl
@@ -19,114 +16,180 @@ append-nil (x ∷ xs) = ap (λ l. x ∷ l) (append-nil xs)
 kept_at : {S : Type 0} → List (Mark S) → Mark S → Bool → List (Mark S) → Kept S
 kept_at front here marked aside = record { front = front; here = here; marked = marked; aside = aside }
 
-pub stepped_back : {S : Type 0} (front before : List (Mark S)) (here behind mark next : Mark S) (marked : Bool) (asides more : List (Mark S)) → front ≡ before ++ mark ∷ [] → next ≡ mark → behind ≡ here →
-    more ≡ asides ++ behind ∷ [] → StepsBack (record { front = front; here = here; marked = marked; aside = reverse asides }) (record { front = before; here = next; marked = marked; aside = reverse more })
-unfolding kept_at
-stepped_back front before here behind mark next marked asides more e f g h = record {
-  before = before;
-  mark = mark;
-  are = e;
-  is = ap (λ n. kept_at before n marked (reverse more)) f ∙ ap (kept_at before mark marked) (ap reverse h ∙ reverse-append asides (behind ∷ []) ∙ ap (λ n. n ∷ reverse asides) g);
-}
-
-pub stepped_on : {S : Type 0} (front more : List (Mark S)) (here before mark next : Mark S) (marked : Bool) (asides fewer : List (Mark S)) → asides ≡ fewer ++ mark ∷ [] → next ≡ mark → before ≡ here →
-    more ≡ front ++ before ∷ [] → StepsOn (record { front = front; here = here; marked = marked; aside = reverse asides }) (record { front = more; here = next; marked = marked; aside = reverse fewer })
-unfolding kept_at
-stepped_on front more here before mark next marked asides fewer e f g h = record {
-  mark = mark;
-  behind = reverse fewer;
-  are = ap reverse e ∙ reverse-append fewer (mark ∷ []);
-  is = ap (λ l. kept_at l next marked (reverse fewer)) (h ∙ ap (λ n. front ++ n ∷ []) g) ∙ ap (λ n. kept_at (front ++ here ∷ []) n marked (reverse fewer)) f;
-}
-
-pub dropped_next : {S : Type 0} (front : List (Mark S)) (here mark : Mark S) (marked : Bool) (asides fewer : List (Mark S)) → asides ≡ fewer ++ mark ∷ [] →
-    DropsNext (record { front = front; here = here; marked = marked; aside = reverse asides }) (record { front = front; here = here; marked = marked; aside = reverse fewer }) mark.len
-dropped_next front here mark marked asides fewer e = record { mark = mark; behind = reverse fewer; are = ap reverse e ∙ reverse-append fewer (mark ∷ []); is = refl; long = refl }
-
-pub at_same : {S : Type 0} (at : ℕ) (xs ys more : List (Mark S)) (x : Mark S) → at ≡ reach xs → ys ≡ xs → more ≡ ys ++ x ∷ [] → x.len ≡ 0 → at ≡ reach more
-at_same at xs ys more x e f g h = let n = reach-append ys (x ∷ []) in let m = ap reach g in let k = ap reach f in omega arith
+pub dropped_next : {S : Type 0} (front : List (Mark S)) (here mark : Mark S) (marked : Bool) (aside fewer : List (Mark S)) → aside ≡ mark ∷ fewer →
+    DropsNext (record { front = front; here = here; marked = marked; aside = aside }) (record { front = front; here = here; marked = marked; aside = fewer }) mark.len
+dropped_next front here mark marked aside fewer e = record { mark = mark; behind = fewer; are = e; is = refl; long = refl }
 
 -- ---- several steps
 
-pub back_all : {S : Type 0} (k j : Kept S) → StepsBack k j → all_of j ≡ all_of k
-back_all {S = S} k j s =
-    let P : Kept S → Type 0 = λ i. all_of i ≡ all_of k in
-    subst P (sym s.is) (sym (append_assoc s.before (s.mark ∷ []) (k.here ∷ k.aside)) ∙ ap (λ l. l ++ k.here ∷ k.aside) (sym s.are))
+pub moved-all : {S : Type 0} (n : ℕ) (k j : Kept S) → Moved n k j → all_of j ≡ all_of k
+moved-all n k j m =
+    ap (λ l. l ++ j.here ∷ j.aside) m.front ∙ append_assoc k.front (k.here ∷ m.more) (j.here ∷ j.aside) ∙ ap (λ l. k.front ++ k.here ∷ l) (sym m.aside)
 
-pub on_all : {S : Type 0} (k j : Kept S) → StepsOn k j → all_of j ≡ all_of k
-on_all {S = S} k j s =
-    let P : Kept S → Type 0 = λ i. all_of i ≡ all_of k in
-    subst P (sym s.is) (append_assoc k.front (k.here ∷ []) (s.mark ∷ s.behind) ∙ ap (λ l. k.front ++ k.here ∷ l) (sym s.are))
+-- the one that lies at the count is where the old place was
+pub moved_on : {S : Type 0} (front front' front'' aside within behind more : List (Mark S)) (here here' node node' : Mark S) (marked : Bool) (n : ℕ) →
+    aside ≡ within ++ behind → length within ≡ n → within ≡ more ++ node ∷ [] → node' ≡ here → here' ≡ node → front' ≡ front ++ node' ∷ [] → front'' ≡ front' ++ more →
+    Moved n (record { front = front; here = here; marked = marked; aside = aside }) (record { front = front''; here = here'; marked = marked; aside = behind })
+moved_on front front' front'' aside within behind more here here' node node' marked n a l w s h f g = record {
+  more = more;
+  front = g ∙ ap (λ x. x ++ more) f ∙ append_assoc front (node' ∷ []) more ∙ ap (λ x. front ++ x ∷ more) s;
+  aside = a ∙ ap (λ x. x ++ behind) w ∙ append_assoc more (node ∷ []) behind ∙ ap (λ x. more ++ x ∷ behind) (sym h);
+  marked = refl;
+  many = (let i = ap length w in let j = length-append more (node ∷ []) in omega arith);
+}
 
-pub back_marked : {S : Type 0} (k j : Kept S) → StepsBack k j → j.marked ≡ k.marked
-back_marked k j s = ap (λ (i : Kept _). i.marked) s.is
+pub moved_back : {S : Type 0} (front kept aside aside' single both passed more : List (Mark S)) (here here' node node' : Mark S) (marked : Bool) (n : ℕ) →
+    front ≡ kept ++ passed → length kept + n ≡ length front → passed ≡ node ∷ more → node' ≡ here → here' ≡ node → single ≡ node' ∷ [] → both ≡ more ++ single → aside' ≡ both ++ aside →
+    Moved n (record { front = kept; here = here'; marked = marked; aside = aside' }) (record { front = front; here = here; marked = marked; aside = aside })
+moved_back front kept aside aside' single both passed more here here' node node' marked n f l p s h t b a = record {
+  more = more;
+  front = f ∙ ap (λ x. kept ++ x) p ∙ ap (λ x. kept ++ x ∷ more) (sym h);
+  aside = a ∙ ap (λ x. x ++ aside) (b ∙ ap (λ x. more ++ x) t) ∙ append_assoc more (node' ∷ []) aside ∙ ap (λ x. more ++ x ∷ aside) s;
+  marked = refl;
+  many = (let i = ap length f in let j = length-append kept passed in let k = ap length p in omega arith);
+}
 
-pub back_front : {S : Type 0} (k j : Kept S) (s : StepsBack k j) → j.front ≡ s.before
-back_front k j s = ap (λ (i : Kept _). i.front) s.is
+-- ---- how far it goes
 
-pub record GoingBack {S : Type 0} (from : ℕ) (old new : Kept S) : Type 0 where
-  pub all : all_of new ≡ all_of old
-  pub passed : List (Mark S)
-  pub front : old.front ≡ new.front ++ passed
-  pub touched : from ≤ frontier_of new + new.here.len
+-- marks no more than there are up to a place reach no farther
+pub up-to-within : {S : Type 0} (at : ℕ) (xs ys : List (Mark S)) → length xs ≤ count_up_to at (xs ++ ys) → reach xs ≤ at
+up-to-within at [] ys le = omega arith
+up-to-within at (x ∷ xs) ys le = by (nat_le x.len at) refl le (λ h. up-to-within (at - x.len) xs ys h)
+  where
+    by : (c : Bool) → nat_le x.len at ≡ c → length (x ∷ xs) ≤ (if c then 1 + count_up_to (at - x.len) (xs ++ ys) else 0) → (length xs ≤ count_up_to (at - x.len) (xs ++ ys) → reach xs ≤ at - x.len) → reach (x ∷ xs) ≤ at
+    by true e h rest = let n : x.len ≤ at = grind (arith, nat_tests) in let r = rest (omega arith) in omega arith
+    by false e h rest = absurd (omega arith)
 
-pub back_began : {S : Type 0} (from : ℕ) (k : Kept S) → from ≤ frontier_of k → GoingBack from k k
-back_began from k le = record { all = refl; passed = []; front = sym (append-nil k.front); touched = omega arith }
+-- the one behind them reaches farther
+pub up-to-next : {S : Type 0} (at : ℕ) (xs : List (Mark S)) (y : Mark S) (ys : List (Mark S)) → count_up_to at (xs ++ y ∷ ys) ≤ length xs → at < reach xs + y.len
+up-to-next at [] y ys le = by (nat_le y.len at) refl le
+  where
+    by : (c : Bool) → nat_le y.len at ≡ c → (if c then 1 + count_up_to (at - y.len) ys else 0) ≤ 0 → at < 0 + y.len
+    by true e h = absurd (omega arith)
+    by false e h = grind (arith, nat_tests)
+up-to-next at (x ∷ xs) y ys le = by (nat_le x.len at) refl le (λ h. up-to-next (at - x.len) xs y ys h)
+  where
+    by : (c : Bool) → nat_le x.len at ≡ c → (if c then 1 + count_up_to (at - x.len) (xs ++ y ∷ ys) else 0) ≤ length (x ∷ xs) → (count_up_to (at - x.len) (xs ++ y ∷ ys) ≤ length xs → at - x.len < reach xs + y.len) → at < reach (x ∷ xs) + y.len
+    by true e h rest = let n : x.len ≤ at = grind (arith, nat_tests) in let r = rest (omega arith) in omega arith
+    by false e h rest = let n : at < x.len = grind (arith, nat_tests) in omega arith
 
-pub back_more : {S : Type 0} (from : ℕ) (old k j : Kept S) → GoingBack from old k → from ≤ frontier_of k → StepsBack k j → GoingBack from old j
-back_more {S = S} from old k j g le s =
-    let P : Kept S → Type 0 = λ i. from ≤ frontier_of i + i.here.len in
-    let last = at_last (frontier_of k) k.front s.before s.mark refl s.are in
+pub up-to-most : {S : Type 0} (at : ℕ) (xs : List (Mark S)) → count_up_to at xs ≤ length xs
+up-to-most at [] = omega arith
+up-to-most at (x ∷ xs) = by (nat_le x.len at) (up-to-most (at - x.len) xs)
+  where
+    by : (c : Bool) → count_up_to (at - x.len) xs ≤ length xs → (if c then 1 + count_up_to (at - x.len) xs else 0) ≤ length (x ∷ xs)
+    by true r = omega arith
+    by false r = omega arith
+
+-- so many of the front stay: those up to the place before
+pub went_back : {S : Type 0} (from kept n : ℕ) (old new : Kept S) → ((from ≡ 0) × (kept ≡ 0)) ⊎ ((0 < from) × (kept ≡ count_up_to (from - 1) old.front)) → n ≡ length old.front - kept → from ≤ frontier_of old → MovesBack n old new → GoesBack from old new
+went_back {S = S} from kept n old new k e le (inl same) =
+    let all : length old.front ≤ kept = omega (arith, same.0) in
+    let P : Kept S → Type 0 = λ i. GoesBack from old i in
+    subst P (sym same.1) (record { all = refl; passed = []; front = sym (append-nil old.front); touched = omega arith; there = stays k all })
+  where
+    stays : ((from ≡ 0) × (kept ≡ 0)) ⊎ ((0 < from) × (kept ≡ count_up_to (from - 1) old.front)) → length old.front ≤ kept → (frontier_of old < from) ⊎ (old.front ≡ [])
+    stays (inl z) all = inr (none old.front (omega (arith, z.1)))
+      where
+        none : (xs : List (Mark S)) → length xs ≤ 0 → xs ≡ []
+        none [] h = refl
+        none (x ∷ xs) h = absurd (omega arith)
+    stays (inr z) all =
+        let C : List (Mark S) → Type 0 = λ l. length old.front ≤ count_up_to (from - 1) l in
+        let r = up-to-within (from - 1) old.front [] (subst C (sym (append-nil old.front)) (omega (arith, z.1))) in
+        inl (omega (arith, z.0))
+went_back {S = S} from kept n old new k e le (inr m) =
     record {
-      all = back_all k j s ∙ g.all;
-      passed = s.mark ∷ g.passed;
-      front = g.front ∙ ap (λ l. l ++ g.passed) s.are ∙ append_assoc s.before (s.mark ∷ []) g.passed ∙ ap (λ l. l ++ s.mark ∷ g.passed) (sym (back_front k j s));
-      touched = subst P (sym s.is) (omega arith);
+      all = sym (moved-all n new old m);
+      passed = new.here ∷ m.more;
+      front = m.front;
+      touched = touches k;
+      there = before k;
     }
+  where
+    long : length old.front ≡ length new.front + (length m.more + 1)
+    long = let a = ap length m.front in let b = length-append new.front (new.here ∷ m.more) in omega arith
 
-pub back_ended : {S : Type 0} (from : ℕ) (old new : Kept S) → GoingBack from old new → (frontier_of new < from) ⊎ (new.front ≡ []) → GoesBack from old new
-back_ended from old new g e = record { all = g.all; passed = g.passed; front = g.front; touched = g.touched; there = e }
+    count : kept ≤ length old.front → length new.front ≡ kept
+    count h = omega (arith, long, m.many, e)
 
-pub back_fewer : {S : Type 0} (k j : Kept S) → StepsBack k j → length j.front < length k.front
-back_fewer k j s = let a = ap length s.are in let b = length-append s.before (s.mark ∷ []) in let c = ap length (back_front k j s) in omega arith
+    touches : ((from ≡ 0) × (kept ≡ 0)) ⊎ ((0 < from) × (kept ≡ count_up_to (from - 1) old.front)) → from ≤ reach new.front + new.here.len
+    touches (inl z) = omega (arith, z.0)
+    touches (inr z) =
+        let most = up-to-most (from - 1) old.front in
+        let c = count (omega (arith, z.1)) in
+        let C : List (Mark S) → Type 0 = λ l. count_up_to (from - 1) l ≤ length new.front in
+        let r = up-to-next (from - 1) new.front new.here m.more (subst C m.front (omega (arith, z.1))) in
+        omega (arith, z.0)
 
-pub record GoingOn {S : Type 0} (from : ℕ) (old new : Kept S) : Type 0 where
-  pub all : all_of new ≡ all_of old
-  pub marked : new.marked ≡ old.marked
-  pub passed : List (Mark S)
-  pub front : new.front ≡ old.front ++ passed
-  pub before : frontier_of new < from
+    before : ((from ≡ 0) × (kept ≡ 0)) ⊎ ((0 < from) × (kept ≡ count_up_to (from - 1) old.front)) → (reach new.front < from) ⊎ (new.front ≡ [])
+    before (inl z) = inr (none new.front (let c = count (omega (arith, z.1)) in omega (arith, z.1)))
+      where
+        none : (xs : List (Mark S)) → length xs ≤ 0 → xs ≡ []
+        none [] h = refl
+        none (x ∷ xs) h = absurd (omega arith)
+    before (inr z) =
+        let most = up-to-most (from - 1) old.front in
+        let c = count (omega (arith, z.1)) in
+        let C : List (Mark S) → Type 0 = λ l. length new.front ≤ count_up_to (from - 1) l in
+        let r = up-to-within (from - 1) new.front (new.here ∷ m.more) (subst C m.front (omega (arith, z.1))) in
+        inl (omega (arith, z.0))
 
-pub on_began : {S : Type 0} (from : ℕ) (k : Kept S) → frontier_of k < from → GoingOn from k k
-on_began from k lt = record { all = refl; marked = refl; passed = []; front = sym (append-nil k.front); before = lt }
+pub stayed : {S : Type 0} (from : ℕ) (k : Kept S) → frontier_of k < from → from ≤ frontier_of k + k.here.len → GoesOn from k k
+stayed from k lt le = record { all = refl; marked = refl; passed = []; front = sym (append-nil k.front); before = lt; there = inr le }
 
-pub on_more : {S : Type 0} (from : ℕ) (old k j : Kept S) → GoingOn from old k → frontier_of k + k.here.len < from → StepsOn k j → GoingOn from old j
-on_more {S = S} from old k j g lt s =
-    let P : Kept S → Type 0 = λ i. frontier_of i < from in
-    let far = reach-append k.front (k.here ∷ []) in
+-- so many of those aside were passed: those up to the place before, and one more, if there is one
+pub went_on : {S : Type 0} (from next before n : ℕ) (old new : Kept S) → frontier_of old < from → next ≡ frontier_of old + old.here.len → next < from → before ≡ count_up_to (from - 1 - next) old.aside → (n ≤ before + 1) × (n ≤ length old.aside) → (n ≡ length old.aside) ⊎ (n ≡ before + 1) → MovesOn n old new → GoesOn from old new
+went_on {S = S} from next before n old new lt e far b le or (inl same) =
+    let P : Kept S → Type 0 = λ i. GoesOn from old i in
+    subst P (sym same.1) (record { all = refl; marked = refl; passed = []; front = sym (append-nil old.front); before = lt; there = inl (none old.aside (zero or)) })
+  where
+    none : (xs : List (Mark S)) → length xs ≤ 0 → xs ≡ []
+    none [] h = refl
+    none (x ∷ xs) h = absurd (omega arith)
+
+    zero : (n ≡ length old.aside) ⊎ (n ≡ before + 1) → length old.aside ≤ 0
+    zero (inl z) = omega (arith, same.0)
+    zero (inr z) = absurd (omega (arith, same.0))
+went_on {S = S} from next before n old new lt e far b le or (inr m) =
     record {
-      all = on_all k j s ∙ g.all;
-      marked = ap (λ (i : Kept S). i.marked) s.is ∙ g.marked;
-      passed = g.passed ++ k.here ∷ [];
-      front = ap (λ (i : Kept S). i.front) s.is ∙ ap (λ l. l ++ k.here ∷ []) g.front ∙ append_assoc old.front g.passed (k.here ∷ []);
-      before = subst P (sym s.is) (omega arith);
+      all = moved-all n old new m;
+      marked = m.marked;
+      passed = old.here ∷ m.more;
+      front = m.front;
+      before = omega (arith, there, within);
+      there = behind or;
     }
+  where
+    there : reach new.front ≡ next + reach m.more
+    there = let r = ap reach m.front in let a = reach-append old.front (old.here ∷ m.more) in omega arith
 
-pub on_ended : {S : Type 0} (from : ℕ) (old new : Kept S) → GoingOn from old new → (new.aside ≡ []) ⊎ (from ≤ frontier_of new + new.here.len) → GoesOn from old new
-on_ended from old new g e = record { all = g.all; marked = g.marked; passed = g.passed; front = g.front; before = g.before; there = e }
+    within : reach m.more ≤ from - 1 - next
+    within =
+        let C : List (Mark S) → Type 0 = λ l. length m.more ≤ count_up_to (from - 1 - next) l in
+        up-to-within (from - 1 - next) m.more (new.here ∷ new.aside) (subst C m.aside (omega (arith, m.many, le.0)))
 
-pub on_fewer : {S : Type 0} (k j : Kept S) → StepsOn k j → length j.aside < length k.aside
-on_fewer k j s = let a = ap length s.are in let c = ap (λ (i : Kept _). length i.aside) s.is in omega arith
+    none : (xs : List (Mark S)) → length xs ≤ 0 → xs ≡ []
+    none [] h = refl
+    none (x ∷ xs) h = absurd (omega arith)
 
-pub record ComingBack {S : Type 0} (len : ℕ) (old new : Kept S) : Type 0 where
-  pub all : all_of new ≡ all_of old
-  pub marked : new.marked ≡ old.marked
-  pub long : len ≤ length new.front
+    behind : (n ≡ length old.aside) ⊎ (n ≡ before + 1) → (new.aside ≡ []) ⊎ (from ≤ reach new.front + new.here.len)
+    behind (inl z) = inl (none new.aside (let l = ap length m.aside in let a = length-append m.more (new.here ∷ new.aside) in omega (arith, m.many)))
+    behind (inr z) =
+        let C : List (Mark S) → Type 0 = λ l. count_up_to (from - 1 - next) l ≤ length m.more in
+        let r = up-to-next (from - 1 - next) m.more new.here new.aside (subst C m.aside (omega (arith, m.many))) in
+        inr (omega (arith, there))
 
-pub come_more : {S : Type 0} (len : ℕ) (old k j : Kept S) → ComingBack len old k → len < length k.front → StepsBack k j → ComingBack len old j
-come_more len old k j g lt s =
-    let a = ap length s.are in let b = length-append s.before (s.mark ∷ []) in let c = ap length (back_front k j s) in
-    record { all = back_all k j s ∙ g.all; marked = back_marked k j s ∙ g.marked; long = omega arith }
+pub came_back : {S : Type 0} (len n : ℕ) (old new : Kept S) → n + len ≡ length old.front → MovesBack n old new → ComesBack len old new
+came_back {S = S} len n old new e (inl same) =
+    let P : Kept S → Type 0 = λ i. ComesBack len old i in
+    subst P (sym same.1) (record { all = refl; marked = refl; front = omega (arith, same.0) })
+came_back len n old new e (inr m) =
+    record {
+      all = sym (moved-all n new old m);
+      marked = sym m.marked;
+      front = (let l = ap length m.front in let a = length-append new.front (new.here ∷ m.more) in omega (arith, m.many));
+    }
 
 pub record Dropping {S : Type 0} (next to : ℕ) (old new : Kept S) (place : ℕ) : Type 0 where
   pub gone : List (Mark S)

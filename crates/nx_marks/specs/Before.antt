@@ -26,13 +26,11 @@ pub record IsLast {S : Type 0} (at place : ℕ) (k : Kept S) (mark : Mark S) : T
   pub before : place ≤ at
   pub none_later : 0 < length later → at < place + mark.len
 
--- a mark of the front lies at the place: so many are in front of it, and the next one, if there is one, lies behind `at`
-pub record LiesInFront {S : Type 0} (at : ℕ) (front : List (Mark S)) (index place : ℕ) : Type 0 where
+-- this mark of the front lies at the place, at or before `at`, and the next one, if there is one, lies behind `at`
+pub record LiesInFront {S : Type 0} (at : ℕ) (front : List (Mark S)) (place : ℕ) (mark : Mark S) : Type 0 where
   pub earlier : List (Mark S)
-  pub mark : Mark S
   pub later : List (Mark S)
   pub are : front ≡ earlier ++ mark ∷ later
-  pub count : index ≡ length earlier
   pub here : place ≡ reach earlier
   pub before : place ≤ at
   pub next : (later ≡ []) ⊎ (at < place + mark.len)

@@ -11,7 +11,8 @@ pub mod Room
 pub mod Starting
 pub mod Walking
 pub mod Rejoining
-pub mod Stack
 pub mod Joined
 pub mod Keeping
 pub mod Meant
+pub mod Tree
+pub mod Nodes

@@ -9,19 +9,20 @@ use Rattle.nx_marks.specs.declared.mark.Mark.{Mark}
 abbrev pub farther : {S : Type 0} → Mark S → ℕ → Mark S
 farther x len = record { state = x.state; len = x.len + len; tags = x.tags; faults = x.faults; whole = x.whole; saved = x.saved }
 
--- one mark back
-pub record StepsBack {S : Type 0} (old new : Kept S) : Type 0 where
-  pub before : List (Mark S)
-  pub mark : Mark S
-  pub are : old.front ≡ before ++ mark ∷ []
-  pub is : new ≡ record { front = before; here = mark; marked = old.marked; aside = old.here ∷ old.aside }
+-- so many marks on, and one at the least: `more` are those between the old place and the new one
+pub record Moved {S : Type 0} (count : ℕ) (old new : Kept S) : Type 0 where
+  pub more : List (Mark S)
+  pub front : new.front ≡ old.front ++ old.here ∷ more
+  pub aside : old.aside ≡ more ++ new.here ∷ new.aside
+  pub marked : new.marked ≡ old.marked
+  pub many : length more + 1 ≡ count
 
--- one mark on
-pub record StepsOn {S : Type 0} (old new : Kept S) : Type 0 where
-  pub mark : Mark S
-  pub behind : List (Mark S)
-  pub are : old.aside ≡ mark ∷ behind
-  pub is : new ≡ record { front = old.front ++ old.here ∷ []; here = mark; marked = old.marked; aside = behind }
+abbrev pub MovesOn : {S : Type 0} → ℕ → Kept S → Kept S → Type 0
+MovesOn count old new = ((count ≡ 0) × (new ≡ old)) ⊎ Moved count old new
+
+-- so many marks back
+abbrev pub MovesBack : {S : Type 0} → ℕ → Kept S → Kept S → Type 0
+MovesBack count old new = ((count ≡ 0) × (new ≡ old)) ⊎ Moved count new old
 
 -- each of these marks, the first of them at p, lies at or before a place
 abbrev pub AreUpTo : {S : Type 0} → ℕ → ℕ → List (Mark S) → Type 0

@@ -15,13 +15,18 @@
 //! takes the frontier back to 63; 17 tokens lead to 135, where the mark that was at 127 is, and the rest is joined.
 #![tactic(auto)]
 
+mod front;
 pub mod kept;
 pub mod law;
 mod line;
+mod listing;
 pub mod mark;
 pub mod marks;
+mod parts;
 mod rows;
-mod stack;
+mod single;
 pub mod stored;
+mod sums;
+mod tree;
 
 pub use marks::Marks;

@@ -17,12 +17,15 @@ ghost use Rattle.nx_marks.specs.Ruling.{is_due};
 ghost use Rattle.nx_base.specs.Tokens.{cut};
 ghost use Rattle.nx_marks.specs.Starting.{started};
 ghost use Rattle.nx_marks.specs.Taking.{begun, let_go};
-ghost use Rattle.nx_marks.specs.Walking.{StepsBack, StepsOn, DropsNext, DropsBetween, PassesNext, PassesUpTo, TakesNext};
+ghost use Rattle.nx_marks.specs.Walking.{MovesBack, MovesOn, DropsNext, DropsBetween, PassesNext, PassesUpTo, TakesNext};
 ghost use Rattle.nx_marks.specs.Walking.{GoesBack, GoesOn, ComesBack, Follows, Fits, cut_off};
 
+use crate::front::{Front, lengthen_last};
+use crate::listing::add_faults;
 use crate::mark::Mark;
-use crate::stack::{Stack, lengthen_topmost};
+use crate::single::Single;
 use crate::stored::{Stored, copied};
+use crate::tree::Tree;
 use nx_base::edit::Edit;
 use nx_base::fault::Faults;
 use nx_base::machine::Machine;
@@ -34,28 +37,33 @@ use std::alloc::Global;
 use std::marker::Model;
 use std::mem;
 
-/// The marks up to a place, the one there, and the marks behind it, which are aside. `front` has room for all that is aside and
-/// `aside` for all of the front, so that marks move from one to the other without memory.
+/// The marks up to a place, the one there, and the marks behind it, which are aside. However many marks the place passes, it moves in
+/// steps that grow with the depth of a tree alone, and without memory.
 #[derive(Drop)]
 pub struct Line<S> {
-    pub(crate) front: Stack<S>,
+    pub(crate) front: Front<S>,
     pub(crate) here: Mark<S>,
     /// Whether a mark stands at the frontier.
     pub(crate) marked: bool,
-    /// The lowest of them is the last, so that the next one is at hand.
-    pub(crate) aside: Stack<S>,
+    pub(crate) aside: Tree<S>,
+    /// The weight of the last node that was made.
+    weight: u32,
 }
 
 impl<S> Model for Line<S> {
-    ghost use Rattle.std.specs.Prelude.{reverse};
     ghost use Rattle.nx_marks.specs.Chain.{Kept};
     ghost use Rattle.nx_marks.specs.Room.{Held};
 
     ghost Value = { Kept S };
 
-    ghost view = { λ k. record { front = k.front.marks; here = k.here; marked = k.marked; aside = reverse k.aside.marks } };
+    ghost view = { λ k. record { front = k.front; here = k.here; marked = k.marked; aside = k.aside } };
 
-    ghost invariant = { λ k. Held k.front.marks k.here k.aside.marks k.front.room k.aside.room };
+    ghost invariant = { λ k. Held k.front k.here k.aside };
+}
+
+/// The weight that comes after this one. Weights rise and fall as if by lot.
+fn next_weight(weight: u32) -> u32 {
+    weight.wrapping_mul(747_796_405).wrapping_add(2_891_336_453)
 }
 
 /// Drops all faults.
@@ -66,22 +74,12 @@ fn clear(faults: &mut Faults)
     faults.cut(0, count);
 }
 
-/// Adds faults whose places are counted from a place.
-fn add_faults(faults: &mut Faults, more: &Faults, place: usize) -> Result<(), NoMemory>
-    requires { AllByRecursion (IsWithin (2 ^ 64 - 1 - place)) more.now }
-    ensures { OnOk result (faults.new ≡ faults.old ++ placed place more.now) }
+/// One more than so many, or all.
+fn one_more(count: usize, all: usize) -> usize
+    ensures most { (result ≤ count + 1) × (result ≤ all) }
+    ensures either { (result ≡ all) ⊎ (result ≡ count + 1) }
 {
-    if more.is_empty() {
-        return Ok(());
-    }
-    let mut moved = more.copy()?;
-    moved.shift(&Edit {
-        from: 0,
-        to: 0,
-        added: place,
-    });
-    faults.append(moved)?;
-    Ok(())
+    if count < all { count + 1 } else { all }
 }
 
 impl<S: Drop> Line<S> {
@@ -90,7 +88,7 @@ impl<S: Drop> Line<S> {
         ensures { result ≡ started state }
     {
         Line {
-            front: Stack::new(alloc),
+            front: Front::empty(),
             here: Mark {
                 state,
                 len: 0,
@@ -100,28 +98,42 @@ impl<S: Drop> Line<S> {
                 saved: false,
             },
             marked: true,
-            aside: Stack::new(alloc),
+            aside: Tree::empty(),
+            weight: 0,
         }
     }
 
-    /// Goes one mark back.
-    pub(crate) fn step_back(&mut self)
-        requires { 0 < length self.old.front }
-        ensures { StepsBack self.old self.new }
+    /// Goes so many marks back.
+    fn move_back(&mut self, count: usize)
+        requires { count ≤ length self.old.front }
+        ensures { MovesBack count self.old self.new }
     {
-        let mark = self.front.pop();
-        let behind = mem::replace(&mut self.here, mark);
-        self.aside.push(behind);
+        if count == 0 {
+            return;
+        }
+        let kept = self.front.count() - count;
+        let mut passed = self.front.split_off(kept);
+        let mut node = passed.pop_first();
+        node.swap(&mut self.here);
+        let behind = mem::replace(&mut self.aside, passed);
+        self.aside.append(node.into_tree());
+        self.aside.append(behind);
     }
 
-    /// Goes one mark on.
-    pub(crate) fn step_on(&mut self)
-        requires { 0 < length self.old.aside }
-        ensures { StepsOn self.old self.new }
+    /// Goes so many marks on.
+    fn move_on(&mut self, count: usize)
+        requires { count ≤ length self.old.aside }
+        ensures { MovesOn count self.old self.new }
     {
-        let mark = self.aside.pop();
-        let before = mem::replace(&mut self.here, mark);
-        self.front.push(before);
+        if count == 0 {
+            return;
+        }
+        let behind = self.aside.split_off(count);
+        let mut node = self.aside.pop_last();
+        node.swap(&mut self.here);
+        let passed = mem::replace(&mut self.aside, behind);
+        self.front.push(node);
+        self.front.append(passed);
     }
 
     /// Drops the first mark aside. How far on the next one is.
@@ -129,8 +141,8 @@ impl<S: Drop> Line<S> {
         requires { 0 < length self.old.aside }
         ensures { DropsNext self.old self.new result }
     {
-        let mark = self.aside.pop();
-        mark.len
+        let mark = self.aside.pop_first();
+        mark.get().len
     }
 
     /// Where the next mark lies, if there is one.
@@ -153,9 +165,9 @@ impl<S: Drop> Line<S> {
         requires { from ≤ frontier_of self.old }
         ensures { GoesBack from self.old self.new }
     {
-        while self.front.reach() >= from && !self.front.is_empty() {
-            self.step_back();
-        }
+        let kept = self.front.count_before(from);
+        let count = self.front.count() - kept;
+        self.move_back(count);
     }
 
     /// Goes on to the last mark before a place.
@@ -163,9 +175,13 @@ impl<S: Drop> Line<S> {
         requires { frontier_of self.old < from }
         ensures { GoesOn from self.old self.new }
     {
-        while !self.aside.is_empty() && self.next() < from {
-            self.step_on();
+        let next = self.next();
+        if next >= from {
+            return;
         }
+        let before = self.aside.count_up_to(from - 1 - next);
+        let count = one_more(before, self.aside.count());
+        self.move_on(count);
     }
 
     /// Has the last mark of all say that it is no mark, unless it is whole.
@@ -175,7 +191,9 @@ impl<S: Drop> Line<S> {
         if self.aside.is_empty() {
             self.here.saved = false;
         } else {
-            self.aside.unsave_lowest();
+            let mut last = self.aside.pop_last();
+            last.unsave();
+            self.aside.append(last.into_tree());
         }
     }
 
@@ -184,9 +202,8 @@ impl<S: Drop> Line<S> {
         requires { len ≤ length self.old.front }
         ensures { ComesBack len self.old self.new }
     {
-        while self.front.len() > len {
-            self.step_back();
-        }
+        let count = self.front.count() - len;
+        self.move_back(count);
     }
 
     /// Lets the marks go that lie in an edit, and what was known of the tokens in front of it. The mark at hand is the last
@@ -244,7 +261,7 @@ impl<S: Drop> Line<S> {
             → AreWhole self.old.front → self.old.here.whole ≡ false
             → self.new ≡ edit_noted edit.now.from edit.now.to edit.now.added self.old }
     {
-        let len = self.front.len();
+        let len = self.front.count();
         self.go_on(edit.from);
         self.cut_off(edit);
         self.come_back(len);
@@ -279,8 +296,9 @@ impl<S: Drop> Line<S> {
     pub(crate) fn arrive(&mut self, joined: bool)
         ensures { self.new ≡ seen joined self.old }
     {
-        while joined && !self.aside.is_empty() {
-            self.step_on();
+        if joined {
+            let count = self.aside.count();
+            self.move_on(count);
         }
     }
 
@@ -289,8 +307,8 @@ impl<S: Drop> Line<S> {
         requires { 0 < length self.old.aside }
         ensures { PassesNext self.old self.new }
     {
-        let mark = self.aside.pop();
-        self.here.len += mark.len;
+        let mark = self.aside.pop_first();
+        self.here.len += mark.get().len;
     }
 
     /// Drops the marks aside until the next one is so many bytes behind the frontier, or none is left.
@@ -318,8 +336,10 @@ impl<S: Drop> Line<S> {
     pub(crate) fn follow(&mut self)
         ensures { Follows self.old self.new }
     {
-        while self.here.whole && !self.aside.is_empty() {
-            self.step_on();
+        if self.here.whole {
+            let whole = self.aside.whole_count();
+            let count = one_more(whole, self.aside.count());
+            self.move_on(count);
         }
     }
 
@@ -328,25 +348,22 @@ impl<S: Drop> Line<S> {
         requires { 0 < length self.old.aside }
         ensures { TakesNext self.old self.new }
     {
-        let mark = self.aside.pop();
-        self.here = mark;
+        let mut next = self.aside.pop_first();
+        next.swap(&mut self.here);
     }
 
     /// How many marks are in front.
     pub(crate) fn front_len(&self) -> usize
         ensures { result ≡ length self.now.front }
     {
-        self.front.len()
+        self.front.count()
     }
 
     /// How many tags lie behind the last mark of the front.
     pub(crate) fn last_tags(&self) -> usize
         ensures { result ≡ tags_behind self.now.front }
     {
-        match self.front.as_slice().last() {
-            Some(mark) => mark.tags,
-            None => 0,
-        }
+        self.front.last_tags()
     }
 
     /// Whether the mark at hand and all that is aside are one row, with a segment at the least.
@@ -354,7 +371,13 @@ impl<S: Drop> Line<S> {
         ensures some { IsTrue result → 0 < length self.now.aside }
         ensures row { IsTrue result → Follows self.now (seen true self.now) }
     {
-        self.here.whole && self.aside.is_row()
+        if !self.here.whole {
+            return false;
+        }
+        if self.aside.is_empty() {
+            return false;
+        }
+        self.aside.whole_count() >= self.aside.count() - 1
     }
 
     /// The state at the frontier.
@@ -372,10 +395,11 @@ impl<S: Drop> Line<S> {
     pub(crate) fn last(&self) -> &Mark<S>
         ensures { result.now ≡ last self.now.here self.now.aside }
     {
-        match self.aside.as_slice().first() {
-            Some(mark) => mark,
-            None => &self.here,
+        let count = self.aside.count();
+        if count == 0 {
+            return &self.here;
         }
+        self.aside.get(count - 1).1
     }
 
     /// How many tags lie in front of the last mark of all, behind the one before it.
@@ -383,10 +407,11 @@ impl<S: Drop> Line<S> {
         requires { 0 < length self.now.aside }
         ensures { result ≡ tags_behind (seen true self.now).front }
     {
-        match self.aside.as_slice().get(1) {
-            Some(mark) => mark.tags,
-            None => self.here.tags,
+        let count = self.aside.count();
+        if count == 1 {
+            return self.here.tags;
         }
+        self.aside.get(count - 2).1.tags
     }
 
     /// Where the last mark of all lies. It stands outside of the loop over tokens, which seldom asks.
@@ -394,10 +419,11 @@ impl<S: Drop> Line<S> {
     fn end(&self) -> usize
         ensures { result ≡ frontier_of (seen true self.now) }
     {
-        match self.aside.as_slice().first() {
-            Some(last) => self.front.reach() + self.here.len + self.aside.reach() - last.len,
-            None => self.front.reach(),
+        let count = self.aside.count();
+        if count == 0 {
+            return self.front.reach();
         }
+        self.next() + self.aside.get(count - 1).0
     }
 
     /// The frontier as a byte offset.
@@ -411,32 +437,17 @@ impl<S: Drop> Line<S> {
         }
     }
 
-    /// The last mark of the front at or before a place: how many are in front of it, and its byte offset.
-    fn find_in_front(&self, at: usize) -> (usize, usize)
-        requires { 0 < length self.now.front }
-        ensures { LiesInFront at self.now.front result.0 result.1 }
-    {
-        let marks = self.front.as_slice();
-        let mut index = marks.len();
-        let mut place = self.front.reach();
-        while index > 0 {
-            index -= 1;
-            place -= marks[index].len;
-            if place <= at {
-                return (index, place);
-            }
-        }
-        unreachable!()
-    }
-
-    /// The marks behind the one at hand up to the frontier, the lowest first.
-    fn marks_aside(&self) -> &[Mark<S>]
+    /// How many marks aside there are up to the frontier, if that is at the last of them.
+    fn marks_aside(&self) -> usize
         requires { 0 < length self.now.aside }
-        ensures { marks_with (but_last self.now.here self.now.aside) (last self.now.here self.now.aside) self.now.marked
-            ≡ self.now.here ∷ reverse result.now }
+        ensures marked { self.now.marked ≡ true → result ≡ length self.now.aside }
+        ensures not { self.now.marked ≡ false → result + 1 ≡ length self.now.aside }
     {
-        let marks = self.aside.as_slice();
-        if self.marked { marks } else { &marks[1..] }
+        if self.marked {
+            self.aside.count()
+        } else {
+            self.aside.count() - 1
+        }
     }
 
     /// The last mark aside up to the frontier that is at or before a place, or the one at hand, with its byte offset.
@@ -445,18 +456,14 @@ impl<S: Drop> Line<S> {
         requires there { frontier_of self.now ≤ at }
         ensures { IsLast at result.0 (seen true self.now) result.1.now }
     {
-        let mut left = self.marks_aside();
-        let mut place = self.front.reach();
-        let mut mark = &self.here;
-        while let Some((next, rest)) = left.split_last() {
-            if place + mark.len > at {
-                return (place, mark);
-            }
-            place += mark.len;
-            mark = next;
-            left = rest;
+        let count = self.marks_aside();
+        let next = self.next();
+        if next > at || count == 0 {
+            return (self.front.reach(), &self.here);
         }
-        (place, mark)
+        let before = self.aside.count_up_to(at - next);
+        let (place, mark) = self.aside.get(one_more(before, count) - 1);
+        (next + place, mark)
     }
 
     /// The last mark at or before both a place and the one at hand, or the start, with its byte offset.
@@ -471,9 +478,7 @@ impl<S: Drop> Line<S> {
         if self.marked && here <= at {
             return (here, &self.here);
         }
-        let (index, place) = self.find_in_front(at);
-        let marks = self.front.as_slice();
-        (place, &marks[index])
+        self.front.find(at)
     }
 
     /// The last mark at or before both a place and the frontier, or the start, with its byte offset.
@@ -487,9 +492,7 @@ impl<S: Drop> Line<S> {
         if self.front.reach() <= at {
             return self.find_aside(at);
         }
-        let (index, place) = self.find_in_front(at);
-        let marks = self.front.as_slice();
-        (place, &marks[index])
+        self.front.find(at)
     }
 
     /// The faults of the segments in front, in their places.
@@ -498,14 +501,7 @@ impl<S: Drop> Line<S> {
         ensures { IfOk result (λ faults. faults ≡ faults_in 0 self.now.front) }
     {
         let mut faults = Faults::new(alloc);
-        if self.front.has_no_faults() {
-            return Ok(faults);
-        }
-        let mut place = 0;
-        for mark in self.front.as_slice().iter() {
-            add_faults(&mut faults, &mark.faults, place)?;
-            place += mark.len;
-        }
+        self.front.add_faults(&mut faults)?;
         Ok(faults)
     }
 
@@ -514,19 +510,12 @@ impl<S: Drop> Line<S> {
         requires { FaultsFit (but_last self.now.here self.now.aside) }
         ensures { OnOk result (faults.new ≡ faults.old ++ faults_in (frontier_of self.now) (but_last self.now.here self.now.aside)) }
     {
-        if self.here.faults.is_empty() && self.aside.has_no_faults() {
+        let count = self.aside.count();
+        if count == 0 {
             return Ok(());
         }
-        let mut place = self.front.reach();
-        let mut mark = &self.here;
-        let mut left = self.aside.as_slice();
-        while let Some((next, rest)) = left.split_last() {
-            add_faults(faults, &mark.faults, place)?;
-            place += mark.len;
-            mark = next;
-            left = rest;
-        }
-        Ok(())
+        add_faults(faults, &self.here.faults, self.front.reach())?;
+        self.aside.add_faults(count - 1, faults, self.next())
     }
 
     /// Saves a state that means what the one at the frontier does as a mark there. The mark gets the copy, which has no more memory
@@ -535,17 +524,20 @@ impl<S: Drop> Line<S> {
         ensures ok { OnOk result (self.new ≡ begun self.old state) }
         ensures err { OnErr result (self.new ≡ self.old) }
     {
-        let fresh = Stored::new(alloc, state)?;
-        self.front.reserve(self.aside.len() + 1)?;
-        self.aside.reserve(self.front.len() + 1)?;
-        self.front.push(Mark {
-            state: fresh,
+        if self.front.count() + self.aside.count() >= usize::MAX - 1 {
+            return Err(NoMemory);
+        }
+        let mark = Mark {
+            state: Stored::new(alloc, state)?,
             len: 0,
             tags: 0,
             faults: Faults::new(alloc),
             whole: true,
             saved: true,
-        });
+        };
+        let weight = next_weight(self.weight);
+        self.front.push(Single::new(alloc, mark, weight)?);
+        self.weight = weight;
         self.marked = false;
         Ok(())
     }
@@ -556,10 +548,11 @@ pub(crate) fn next_is_same<A: Machine>(machine: &A, line: &Line<A::State>) -> bo
     requires { OwnStates (A.is_state machine.now) line.now }
     ensures { IsTrue result ↔ FirstMeans (A.means machine.now) (A.means machine.now line.now.here.state) line.now.aside }
 {
-    match line.aside.as_slice().last() {
-        Some(mark) => machine.same(mark.state.get(), line.here.state.get()),
-        None => false,
+    if line.aside.is_empty() {
+        return false;
     }
+    let (_, next) = line.aside.get(0);
+    machine.same(next.state.get(), line.here.state.get())
 }
 
 /// Whether a mark is saved behind a token: no text run is pending, and as many tags lie since the last mark as elements are open,
@@ -619,7 +612,7 @@ pub(crate) fn step<A: Machine>(
     ensures keeps { KeepsMarks (A.means machine.old) (A.rules machine.old) text.now line.old line.new }
 {
     let _len = text.len();
-    let tags = lengthen_topmost(alloc, machine, &mut line.here.state, token, &mut line.front)?;
+    let tags = lengthen_last(alloc, machine, &mut line.here.state, token, &mut line.front)?;
     line.here.len -= token.bytes.len();
     line.marked = is_due(machine, &line.here.state, tags);
     Ok(())

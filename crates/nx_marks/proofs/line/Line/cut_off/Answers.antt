@@ -3,13 +3,11 @@ use Rattle.nx_marks.specs.Chain.{Kept, frontier_of, reach}
 use Rattle.nx_marks.specs.Walking.{DropsBetween, cut_off}
 use Rattle.nx_marks.specs.Editing.{broken}
 use Rattle.nx_marks.proofs.Cutting.{cut_there, cut_fits}
-use Rattle.nx_marks.proofs.Holding.{reach-reverse}
 use Rattle.nx_marks.proofs.line.Line.cut_off.Goals as goal
 
 pub invariant_of-self : goal.invariant_of-self
 invariant_of-self g c = record {
-  in_front = c.self.invariant.in_front;
-  in_aside = c.self.invariant.in_aside;
+  counted = c.self.invariant.counted;
   fits = (let i = c.self.invariant.fits in grind (arith, i, c.reach-at.ensures, c.reach.ensures, c.min-self-inside.ensures));
 }
 
@@ -21,8 +19,8 @@ returns-clause-cut g c = λ ordered fits.
     let len = c.min-self-inside.result in
     let P : ℕ → Type 0 = λ n. DropsBetween n edit.to k d c.drop_between-kept.result in
     let drops = subst P c.next-next.ensures c.drop_between-kept.ensures in
-    let at : reach c.self.inside.front.marks ≡ frontier_of k = ap (λ (k : Kept _). frontier_of k) c.self.view_is ∙ ap reach drops.front in
-    let behind : reach c.self.inside.aside.marks ≡ reach d.aside = sym (reach-reverse c.self.inside.aside.marks) ∙ ap (λ (k : Kept _). reach k.aside) c.self.view_is in
+    let at : reach c.self.inside.front ≡ frontier_of k = ap (λ (k : Kept _). frontier_of k) c.self.view_is ∙ ap reach drops.front in
+    let behind : reach c.self.inside.aside ≡ reach d.aside = ap (λ (k : Kept _). reach k.aside) c.self.view_is in
     let long : len ≡ edit.from + edit.added + (c.drop_between-kept.result - edit.to) - frontier_of k =
     (let fit = cut_fits edit.from edit.to edit.added k d c.drop_between-kept.result fits drops in
     grind (arith, at, behind, fit, c.saturating_add.ensures, c.saturating_add-moved.ensures, c.saturating_sub.ensures, c.saturating_sub-2.ensures, c.min-self-inside.ensures, c.reach-at.ensures, c.reach.ensures)) in

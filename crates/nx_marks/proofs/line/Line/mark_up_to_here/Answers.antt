@@ -1,9 +1,8 @@
-use Rattle.std.proofs.Common.{◌≡◌, inl, inr, ◌<◌, true, [], length, sym, ap, subst, ◌∙◌, arith}
-use Rattle.std.specs.Prelude.{slice_index_or}
-use Rattle.nx_marks.specs.Before.{IsLast}
+use Rattle.std.proofs.Common.{◌≡◌, inl, inr, ◌<◌, true, [], List, length, sym, ap, subst, ◌∙◌, arith}
+use Rattle.nx_marks.specs.Before.{IsLast, LiesInFront}
 use Rattle.nx_marks.specs.Chain.{Kept, frontier_of, reach}
 use Rattle.nx_marks.specs.declared.mark.Mark.{Mark}
-use Rattle.nx_marks.proofs.Marking.{found_here, found_front, at_middle}
+use Rattle.nx_marks.proofs.Marking.{found_here, found_front}
 use Rattle.nx_marks.proofs.Rejoining.{nothing}
 use Rattle.nx_marks.proofs.line.Line.mark_up_to_here.Goals as goal
 use Rattle.nx_marks.proofs.line.Line.mark_up_to_here.Goals.{else-self-via-then-self+else-here-at, else-self-via-else-self}
@@ -12,7 +11,7 @@ pub returns-then-is_empty : goal.returns-then-is_empty
 returns-then-is_empty g c =
     let k = c.args.self.now in
     let P : Mark _ → Type 0 = λ m. IsLast c.args.at c.reach-here.result k m in
-    let n : length c.self.inside.front.marks ≡ length k.front = ap (λ (i : Kept _). length i.front) c.self.view_is in
+    let n : length c.self.inside.front ≡ length k.front = ap (λ (i : Kept _). length i.front) c.self.view_is in
     let none : k.front ≡ [] = nothing k.front (grind (arith, n, c.if-is_empty.true, c.is_empty.ensures)) in
     let at : c.reach-here.result ≡ frontier_of k = c.reach-here.ensures ∙ ap (λ (i : Kept _). frontier_of i) c.self.view_is in
     let zero = ap reach none in
@@ -29,8 +28,7 @@ returns-then-here-at g c =
 pub returns : goal.returns
 returns g c =
     let k = c.args.self.now in
-    let f = c.find_in_front-index.ensures in
-    let P : Mark _ → Type 0 = λ m. IsLast c.args.at c.find_in_front-index.result.1 k m in
+    let P : List (Mark _) → Type 0 = λ l. LiesInFront c.args.at l c.find.result.0 c.find.result.1.now in
     let at : c.reach-here.result ≡ frontier_of k = c.reach-here.ensures ∙ ap (λ (i : Kept _). frontier_of i) c.self.view_is in
     let marked : c.self.inside.marked ≡ k.marked = ap (λ (i : Kept _). i.marked) c.self.view_is in
     let ahead : k.marked ≡ true → c.args.at < frontier_of k = λ m.
@@ -38,6 +36,4 @@ returns g c =
       | else-self-via-then-self+else-here-at w ↦ omega (arith, at, w.if-here-at.false)
       | else-self-via-else-self w ↦ absurd (let no = w.if-self.false in let both = marked ∙ m in cc)
     ] in
-    let same : slice_index_or c.as_slice-marks.result.now c.find_in_front-index.result.0 c.index-marks-index.result ≡ f.mark =
-    ap (λ l. slice_index_or l c.find_in_front-index.result.0 c.index-marks-index.result) (c.as_slice-marks.ensures ∙ ap (λ (i : Kept _). i.front) c.self.view_is ∙ f.are) ∙ at_middle f.earlier f.mark f.later c.find_in_front-index.result.0 c.index-marks-index.result f.count in
-    subst P (sym (c.index-marks-index.is ∙ same)) (found_front c.args.at c.find_in_front-index.result.0 c.find_in_front-index.result.1 k f ahead)
+    found_front c.args.at c.find.result.0 k c.find.result.1.now (subst P (ap (λ (i : Kept _). i.front) c.self.view_is) c.find.ensures) ahead

@@ -1,14 +1,23 @@
-use Rattle.std.proofs.Common.{arith}
+use Rattle.std.proofs.Common.{ap, arith}
+use Rattle.nx_marks.specs.Chain.{reach}
+use Rattle.nx_marks.specs.declared.mark.Mark.{Mark}
 use Rattle.nx_marks.proofs.Seen.{noted_last}
-use Rattle.nx_marks.proofs.Holding.{lowest_of, unsaved_held}
+use Rattle.nx_marks.proofs.Holding.{further, unsaved_held}
 use Rattle.nx_marks.proofs.line.Line.note_last.Goals as goal
+
+pub append-requires-clause-reach : goal.append-requires-clause-reach
+append-requires-clause-reach g c =
+    let a = further c.self.inside.aside c.pop_last-last.new.self c.pop_last-last.result c.pop_last-last.ensures in
+    let d = ap reach c.into_tree.ensures in
+    let e = ap (λ (x : Mark _). x.len) c.unsave.ensures in
+    omega (arith, c.self.invariant.fits)
 
 pub invariant_of-self-else-is_empty : goal.invariant_of-self-else-is_empty
 invariant_of-self-else-is_empty g c =
-    let l = lowest_of c.self.inside.aside.marks (grind (arith, c.is_empty.ensures, c.if-is_empty.false)) in
-    unsaved_held c.self.inside.front.marks c.self.inside.here l.mark l.others c.self.inside.aside.marks c.unsave_lowest.new.self.marks c.self.inside.front.room c.self.inside.aside.room c.unsave_lowest.new.self.room c.self.invariant l.are (c.unsave_lowest.ensures.marks l.mark l.others l.are) c.unsave_lowest.ensures.room
+    unsaved_held c.self.inside.front c.self.inside.aside c.append.new.self c.pop_last-last.new.self c.into_tree.result c.self.inside.here c.pop_last-last.result c.unsave.new.self c.self.invariant
+    c.pop_last-last.ensures c.unsave.ensures c.into_tree.ensures c.append.ensures
 
 pub returns-else-is_empty : goal.returns-else-is_empty
 returns-else-is_empty g c =
-    let l = lowest_of c.self.inside.aside.marks (grind (arith, c.is_empty.ensures, c.if-is_empty.false)) in
-    rw (← c.self.view_is) (noted_last c.self.inside.front.marks c.self.inside.here l.mark c.self.inside.marked l.others c.self.inside.aside.marks c.unsave_lowest.new.self.marks l.are (c.unsave_lowest.ensures.marks l.mark l.others l.are))
+    rw (← c.self.view_is) (noted_last c.self.inside.front c.self.inside.here c.pop_last-last.result c.unsave.new.self c.self.inside.marked c.pop_last-last.new.self c.into_tree.result c.self.inside.aside c.append.new.self
+    c.pop_last-last.ensures c.unsave.ensures c.into_tree.ensures c.append.ensures)

@@ -1,10 +1,5 @@
-use Rattle.std.proofs.Common.{arith}
 use Rattle.nx_marks.proofs.Passing.{taken_next}
-use Rattle.nx_marks.proofs.Holding.{dropped}
 use Rattle.nx_marks.proofs.line.Line.take_next.Goals as goal
 
-pub invariant_of-self : goal.invariant_of-self
-invariant_of-self g c = dropped c.self.inside.front.marks c.self.inside.here c.self.inside.aside.marks c.pop-mark.new.self.marks c.pop-mark.result c.pop-mark.result c.self.inside.front.room c.self.inside.aside.room c.pop-mark.new.self.room c.self.invariant c.pop-mark.ensures.marks c.pop-mark.ensures.room (omega arith)
-
 pub returns : goal.returns
-returns g c = rw (← c.self.view_is) (taken_next c.self.inside.front.marks c.self.inside.here c.pop-mark.result c.self.inside.marked c.self.inside.aside.marks c.pop-mark.new.self.marks c.pop-mark.ensures.marks)
+returns g c = rw (← c.self.view_is) (taken_next c.self.inside.front c.self.inside.here c.swap.new.mark c.pop_first-next.result c.self.inside.marked c.self.inside.aside c.pop_first-next.new.self c.pop_first-next.ensures c.swap.ensures.mark)

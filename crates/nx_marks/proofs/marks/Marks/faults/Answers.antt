@@ -1,7 +1,7 @@
 use Rattle.std.proofs.Common.{◌-◌, ◌++◌, ap, sym, subst, ◌∙◌, arith}
 use Rattle.nx_base.specs.Shifting.{placed}
 use Rattle.nx_marks.specs.Chain.{faults_in}
-use Rattle.nx_marks.proofs.Listing.{faults_fit}
+use Rattle.nx_marks.proofs.Faults.{faults_fit}
 use Rattle.nx_marks.proofs.Reading.{all_faults}
 use Rattle.nx_marks.proofs.Stepping.{own_states, back_within}
 use Rattle.nx_marks.proofs.marks.Marks.faults.Goals as goal

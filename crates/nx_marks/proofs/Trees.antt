@@ -1,0 +1,204 @@
+-- What marks of two parts come to, and where they lie.
+use Rattle.std.proofs.Common.{◌≡◌, ℕ, ◌+◌, ◌-◌, ◌<◌, ◌≤◌, ◌==◌, ◌^◌, Bool, true, false, not, ◌&&◌, ◌||◌, List, [], ◌∷◌, ◌++◌, length, suc, Option, Some, Box, refl, sym, ap, subst, ◌∙◌, arith, append_assoc, length-append}
+use Rattle.std.specs.Prelude.{nat_le, if◌then◌else◌}
+use Rattle.std.specs.declared.alloc.Global.{Global}
+use Rattle.std.proofs.lemmas.Bool.Decides.{nat_tests}
+use Rattle.nx_marks.specs.Chain.{reach}
+use Rattle.nx_marks.specs.Tree.{at_root, if_root, Summed, all_whole, any_faulty, has_some, count_up_to, whole_count, IsAt}
+use Rattle.nx_marks.specs.declared.mark.Mark.{Mark}
+use Rattle.nx_marks.specs.declared.tree.Node.{Node}
+use Rattle.nx_marks.proofs.Backs.{reach-append}
+
+-- what is known of a tree's marks once its root is a node
+pub record AtNode {S : Type 0} (all l : List (Mark S)) (m : Mark S) (r : List (Mark S)) : Type 0 where
+  pub is : all ≡ l ++ m ∷ r
+  pub counts : length all ≡ length l + 1 + length r
+  pub reaches : reach all ≡ reach l + m.len + reach r
+  pub count_fits : length all < 2 ^ 64
+  pub reach_fits : reach all < 2 ^ 64
+
+at_some : {S : Type 0} (all l : List (Mark S)) (m : Mark S) (r : List (Mark S)) (count far : ℕ) (whole faulty : Bool) → all ≡ l ++ m ∷ r → Summed (l ++ m ∷ r) count far whole faulty → AtNode all l m r
+at_some all l m r count far whole faulty is sums =
+    let n = length-append l (m ∷ r) in
+    let f = reach-append l (m ∷ r) in
+    record { is = is; counts = rw is (omega arith); reaches = rw is (omega arith); count_fits = rw is sums.count_fits; reach_fits = rw is sums.reach_fits }
+
+pub at_node : {S : Type 0} {root : Option (Box (Node S) Global)} {all : List (Mark S)} {b : Box (Node S) Global} → at_root [] (λ b. b.value.left ++ b.value.mark ∷ b.value.right) root ≡ all → if_root (λ b. Summed (b.value.left ++ b.value.mark ∷ b.value.right) b.value.sums.count b.value.sums.reach b.value.sums.whole b.value.sums.faulty) root → root ≡ Some b → AtNode all b.value.left b.value.mark b.value.right
+at_node {S} {root} {all} {b} view_is sums is =
+    at_some _ _ _ _ _ _ _ _
+    (sym view_is ∙ ap (λ o. at_root [] (λ b. b.value.left ++ b.value.mark ∷ b.value.right) o) is)
+    (subst (λ o. if_root (λ b. Summed (b.value.left ++ b.value.mark ∷ b.value.right) b.value.sums.count b.value.sums.reach b.value.sums.whole b.value.sums.faulty) o) is sums)
+
+-- how far marks reach without some of them
+
+pub reach-parts : {S : Type 0} (l : List (Mark S)) (m : Mark S) (r : List (Mark S)) → reach (l ++ m ∷ r) ≡ reach l + m.len + reach r
+reach-parts l m r = let f = reach-append l (m ∷ r) in omega arith
+
+pub length-parts : {S : Type 0} (l : List (Mark S)) (m : Mark S) (r : List (Mark S)) → length (l ++ m ∷ r) ≡ length l + 1 + length r
+length-parts l m r = let n = length-append l (m ∷ r) in omega arith
+
+pub fits-without-front : {S : Type 0} (most : ℕ) (l a b : List (Mark S)) (m : Mark S) (r : List (Mark S)) → l ≡ a ++ b → reach (l ++ m ∷ r) < most → reach (b ++ m ∷ r) < most
+fits-without-front most l a b m r is fits =
+    let e = ap reach is ∙ reach-append a b in
+    let f = reach-parts l m r in
+    let n = reach-parts b m r in
+    omega arith
+
+pub fits-without-end : {S : Type 0} (most : ℕ) (l : List (Mark S)) (m : Mark S) (r a b : List (Mark S)) → r ≡ a ++ b → reach (l ++ m ∷ r) < most → reach (l ++ m ∷ a) < most
+fits-without-end most l m r a b is fits =
+    let e = ap reach is ∙ reach-append a b in
+    let f = reach-parts l m r in
+    let n = reach-parts l m a in
+    omega arith
+
+-- what two tests come to
+
+pub and-then : {a b v : Bool} → a ≡ true → v ≡ b → v ≡ (a && b)
+and-then {a} {b} {v} h e = rw h e
+
+pub and-else : {a v : Bool} (b : Bool) → a ≡ false → v ≡ false → v ≡ (a && b)
+and-else {a} {v} b h e = rw h e
+
+pub or-then : {a v : Bool} (b : Bool) → a ≡ true → v ≡ true → v ≡ (a || b)
+or-then {a} {v} b h e = rw h e
+
+pub or-else : {a b v : Bool} → a ≡ false → v ≡ b → v ≡ (a || b)
+or-else {a} {b} {v} h e = rw h e
+
+pub is-false : (b : Bool) → not b ≡ true → b ≡ false
+is-false true e = absurd (cc)
+is-false false e = refl
+
+pub is-true : (b : Bool) → not b ≡ false → b ≡ true
+is-true true e = refl
+is-true false e = absurd (cc)
+
+-- whether all are whole and whether one is faulty
+
+and-assoc : (a b c : Bool) → (a && (b && c)) ≡ ((a && b) && c)
+and-assoc true b c = refl
+and-assoc false b c = refl
+
+or-assoc : (a b c : Bool) → (a || (b || c)) ≡ ((a || b) || c)
+or-assoc true b c = refl
+or-assoc false b c = refl
+
+pub whole-append : {S : Type 0} (xs ys : List (Mark S)) → all_whole (xs ++ ys) ≡ (all_whole xs && all_whole ys)
+whole-append [] ys = refl
+whole-append (x ∷ xs) ys = rw (whole-append xs ys) (and-assoc x.whole (all_whole xs) (all_whole ys))
+
+pub faulty-append : {S : Type 0} (xs ys : List (Mark S)) → any_faulty (xs ++ ys) ≡ (any_faulty xs || any_faulty ys)
+faulty-append [] ys = refl
+faulty-append (x ∷ xs) ys = rw (faulty-append xs ys) (or-assoc (has_some x.faults) (any_faulty xs) (any_faulty ys))
+
+pub whole-parts : {S : Type 0} (l : List (Mark S)) (m : Mark S) (r : List (Mark S)) (v : Bool) → v ≡ ((all_whole l && m.whole) && all_whole r) → v ≡ all_whole (l ++ m ∷ r)
+whole-parts l m r v e = rw (whole-append l (m ∷ r)) (rw (and-assoc (all_whole l) m.whole (all_whole r)) e)
+
+pub faulty-parts : {S : Type 0} (l : List (Mark S)) (m : Mark S) (r : List (Mark S)) (v : Bool) → v ≡ ((any_faulty l || has_some m.faults) || any_faulty r) → v ≡ any_faulty (l ++ m ∷ r)
+faulty-parts l m r v e = rw (faulty-append l (m ∷ r)) (rw (or-assoc (any_faulty l) (has_some m.faults) (any_faulty r)) e)
+
+has-length : (n : ℕ) → (suc n == 0) ≡ false
+has-length n = grind (arith, nat_tests)
+
+pub some-or-none : {X : Type 0} (xs : List X) → has_some xs ≡ not (length xs == 0)
+some-or-none [] = refl
+some-or-none (x ∷ xs) = rw (has-length (length xs)) refl
+
+-- how many come to a mark, and on
+
+one-more : (b : Bool) (n k : ℕ) → b ≡ true → n + (if b then 1 + k else 0) ≡ n + 1 + k
+one-more true n k e = omega arith
+one-more false n k e = absurd (cc)
+
+none-more : (b : Bool) (n k : ℕ) → b ≡ false → n + (if b then 1 + k else 0) ≡ n
+none-more true n k e = absurd (cc)
+none-more false n k e = omega arith
+
+-- how many reach up to a place
+
+fits-up-to : (a b : ℕ) → a ≤ b → nat_le a b ≡ true
+fits-up-to a b h = grind (arith, nat_tests)
+
+goes-beyond : (a b : ℕ) → b < a → nat_le a b ≡ false
+goes-beyond a b h = grind (arith, nat_tests)
+
+is-up-to : (a b : ℕ) → nat_le a b ≡ true → a ≤ b
+is-up-to a b h = grind (arith, nat_tests)
+
+pub count-most : {S : Type 0} (place : ℕ) (xs : List (Mark S)) → count_up_to place xs ≤ length xs
+count-most place [] = omega arith
+count-most place (x ∷ xs) = by (nat_le x.len place) (count-most (place - x.len) xs)
+  where
+    by : (b : Bool) → count_up_to (place - x.len) xs ≤ length xs → (if b then 1 + count_up_to (place - x.len) xs else 0) ≤ suc (length xs)
+    by true on = omega arith
+    by false on = omega arith
+
+pub count-before : {S : Type 0} (place : ℕ) (xs ys : List (Mark S)) → place < reach xs → count_up_to place (xs ++ ys) ≡ count_up_to place xs
+count-before place [] ys lt = absurd (omega arith)
+count-before place (x ∷ xs) ys lt = by (nat_le x.len place) refl (λ h. count-before (place - x.len) xs ys h)
+  where
+    by : (b : Bool) → nat_le x.len place ≡ b → (place - x.len < reach xs → count_up_to (place - x.len) (xs ++ ys) ≡ count_up_to (place - x.len) xs) → (if b then 1 + count_up_to (place - x.len) (xs ++ ys) else 0) ≡ (if b then 1 + count_up_to (place - x.len) xs else 0)
+    by true e on = let h = is-up-to x.len place e in ap (λ n. 1 + n) (on (omega arith))
+    by false e on = refl
+
+pub count-behind : {S : Type 0} (place : ℕ) (xs ys : List (Mark S)) → reach xs ≤ place → count_up_to place (xs ++ ys) ≡ length xs + count_up_to (place - reach xs) ys
+count-behind place [] ys le = let e : place - 0 ≡ place = omega arith in rw e (omega arith)
+count-behind {S = S} place (x ∷ xs) ys le =
+    let h = fits-up-to x.len place (omega arith) in
+    let e : place - x.len - reach xs ≡ place - (x.len + reach xs) = omega arith in
+    let on = rw e at (count-behind {S = S} (place - x.len) xs ys (omega arith)) in
+    rw h (omega arith)
+
+pub count-here : {S : Type 0} (place : ℕ) (xs : List (Mark S)) (m : Mark S) (ys : List (Mark S)) → reach xs ≤ place → place - reach xs < m.len → count_up_to place (xs ++ m ∷ ys) ≡ length xs
+count-here place xs m ys le lt = count-behind place xs (m ∷ ys) le ∙ none-more _ _ _ (goes-beyond m.len (place - reach xs) lt)
+
+pub count-on : {S : Type 0} (place : ℕ) (xs : List (Mark S)) (m : Mark S) (ys : List (Mark S)) → reach xs ≤ place → m.len ≤ place - reach xs → count_up_to place (xs ++ m ∷ ys) ≡ length xs + 1 + count_up_to (place - reach xs - m.len) ys
+count-on place xs m ys le there = count-behind place xs (m ∷ ys) le ∙ one-more _ _ _ (fits-up-to m.len (place - reach xs) there)
+
+-- how many are whole
+
+pub wholes-most : {S : Type 0} (xs : List (Mark S)) → whole_count xs ≤ length xs
+wholes-most [] = omega arith
+wholes-most (x ∷ xs) = by x.whole (wholes-most xs)
+  where
+    by : (b : Bool) → whole_count xs ≤ length xs → (if b then 1 + whole_count xs else 0) ≤ suc (length xs)
+    by true on = omega arith
+    by false on = omega arith
+
+pub wholes-before : {S : Type 0} (xs ys : List (Mark S)) → all_whole xs ≡ false → whole_count (xs ++ ys) ≡ whole_count xs
+wholes-before [] ys h = absurd (cc)
+wholes-before (x ∷ xs) ys h = by x.whole h (λ e. wholes-before xs ys e)
+  where
+    by : (b : Bool) → (b && all_whole xs) ≡ false → (all_whole xs ≡ false → whole_count (xs ++ ys) ≡ whole_count xs) → (if b then 1 + whole_count (xs ++ ys) else 0) ≡ (if b then 1 + whole_count xs else 0)
+    by true e on = ap (λ n. 1 + n) (on e)
+    by false e on = refl
+
+pub wholes-behind : {S : Type 0} (xs ys : List (Mark S)) → all_whole xs ≡ true → whole_count (xs ++ ys) ≡ length xs + whole_count ys
+wholes-behind [] ys h = omega arith
+wholes-behind (x ∷ xs) ys h = by x.whole h (λ e. wholes-behind xs ys e)
+  where
+    by : (b : Bool) → (b && all_whole xs) ≡ true → (all_whole xs ≡ true → whole_count (xs ++ ys) ≡ length xs + whole_count ys) → (if b then 1 + whole_count (xs ++ ys) else 0) ≡ suc (length xs) + whole_count ys
+    by true e on = let f = on e in omega arith
+    by false e on = absurd (cc)
+
+pub wholes-here : {S : Type 0} (xs : List (Mark S)) (m : Mark S) (ys : List (Mark S)) → all_whole xs ≡ true → m.whole ≡ false → whole_count (xs ++ m ∷ ys) ≡ length xs
+wholes-here xs m ys h ends = wholes-behind xs (m ∷ ys) h ∙ none-more _ _ _ ends
+
+pub wholes-on : {S : Type 0} (xs : List (Mark S)) (m : Mark S) (ys : List (Mark S)) → all_whole xs ≡ true → m.whole ≡ true → whole_count (xs ++ m ∷ ys) ≡ length xs + 1 + whole_count ys
+wholes-on xs m ys h goes_on = wholes-behind xs (m ∷ ys) h ∙ one-more _ _ _ goes_on
+
+-- where a mark lies
+
+pub lies-behind : {S : Type 0} (xs : List (Mark S)) (m : Mark S) {ys : List (Mark S)} {i p j q : ℕ} {x : Mark S} → IsAt ys i p x → j ≡ length xs + 1 + i → q ≡ reach xs + m.len + p → IsAt (xs ++ m ∷ ys) j q x
+lies-behind xs m {ys} {i} {p} {j} {q} {x} a counts reaches =
+    let n = length-append xs (m ∷ a.earlier) in
+    let r = reach-append xs (m ∷ a.earlier) in
+    let c = a.count in
+    let t = a.there in
+    record {
+      earlier = xs ++ m ∷ a.earlier;
+      later = a.later;
+      are = rw a.are (sym (append_assoc xs (m ∷ a.earlier) (x ∷ a.later)));
+      count = omega arith;
+      there = omega arith;
+    }

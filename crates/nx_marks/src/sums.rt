@@ -1,0 +1,109 @@
+//! What marks in a tree come to, and where they lie.
+
+ghost use Rattle.std.specs.Prelude.{◌≡◌, ◌<◌, ◌==◌, length, []};
+ghost use Rattle.nx_marks.specs.Chain.{reach};
+ghost use Rattle.nx_marks.specs.Tree.{all_whole, any_faulty, count_up_to, whole_count, IsAt};
+
+use crate::mark::Mark;
+use crate::tree::{Sums, Tree};
+
+impl<S: Drop> Tree<S> {
+    /// No marks.
+    pub(crate) fn empty() -> Tree<S>
+        ensures { result ≡ [] }
+    {
+        Tree { root: None }
+    }
+
+    /// What all marks come to.
+    pub(crate) fn sums(&self) -> Sums
+        ensures count { result.count ≡ length self.now }
+        ensures reach { result.reach ≡ reach self.now }
+        ensures whole { result.whole ≡ all_whole self.now }
+        ensures faulty { result.faulty ≡ any_faulty self.now }
+    {
+        match &self.root {
+            Some(node) => node.sums,
+            None => Sums {
+                count: 0,
+                reach: 0,
+                whole: true,
+                faulty: false,
+            },
+        }
+    }
+
+    /// Whether there is none.
+    pub(crate) fn is_empty(&self) -> bool
+        ensures { result ≡ (length self.now == 0) }
+    {
+        self.sums().count == 0
+    }
+
+    /// How many there are.
+    pub(crate) fn count(&self) -> usize
+        ensures { result ≡ length self.now }
+    {
+        self.sums().count
+    }
+
+    /// How many bytes they reach.
+    pub(crate) fn reach(&self) -> usize
+        ensures { result ≡ reach self.now }
+    {
+        self.sums().reach
+    }
+
+    /// How many marks, from the first on, reach no farther than a place.
+    pub(crate) fn count_up_to(&self, at: usize) -> usize
+        ensures { result ≡ count_up_to at self.now }
+    {
+        let Some(node) = &self.root else {
+            return 0;
+        };
+        let before = node.left.reach();
+        if before > at {
+            return node.left.count_up_to(at);
+        }
+        let left = at - before;
+        if node.mark.len > left {
+            return node.left.count();
+        }
+        node.left.count() + 1 + node.right.count_up_to(left - node.mark.len)
+    }
+
+    /// How many marks, from the first on, are whole.
+    pub(crate) fn whole_count(&self) -> usize
+        ensures { result ≡ whole_count self.now }
+    {
+        let Some(node) = &self.root else {
+            return 0;
+        };
+        if !node.left.sums().whole {
+            return node.left.whole_count();
+        }
+        if !node.mark.whole {
+            return node.left.count();
+        }
+        node.left.count() + 1 + node.right.whole_count()
+    }
+
+    /// The mark behind so many, and how far those reach.
+    pub(crate) fn get(&self, index: usize) -> (usize, &Mark<S>)
+        requires { index < length self.now }
+        ensures { IsAt self.now index result.0 result.1.now }
+    {
+        let Some(node) = &self.root else {
+            unreachable!()
+        };
+        let before = node.left.sums();
+        if index < before.count {
+            return node.left.get(index);
+        }
+        if index == before.count {
+            return (before.reach, &node.mark);
+        }
+        let (place, mark) = node.right.get(index - before.count - 1);
+        (before.reach + node.mark.len + place, mark)
+    }
+}

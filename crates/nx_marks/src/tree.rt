@@ -1,0 +1,55 @@
+//! Marks in a tree: what it is.
+
+use crate::mark::Mark;
+use std::marker::Model;
+
+/// What marks come to, so that nobody has to walk over them for it.
+#[derive(Clone, Copy)]
+pub(crate) struct Sums {
+    /// How many there are.
+    pub(crate) count: usize,
+    /// How many bytes they reach.
+    pub(crate) reach: usize,
+    /// Whether all are whole.
+    pub(crate) whole: bool,
+    /// Whether one has faults.
+    pub(crate) faulty: bool,
+}
+
+/// Marks in their order. A node's weight is at least that of each node below it, and weights are as good as drawn by lot, so a tree of
+/// n marks is about 2 log n deep, whatever was put together and parted. Trees are put together and parted without memory.
+#[cycle(tree)]
+#[derive(Drop)]
+pub(crate) struct Tree<S> {
+    pub(crate) root: Option<Box<Node<S>>>,
+}
+
+/// A mark, the marks in front of it and those behind it.
+#[cycle(tree)]
+#[derive(Drop)]
+pub(crate) struct Node<S> {
+    pub(crate) mark: Mark<S>,
+    pub(crate) left: Tree<S>,
+    pub(crate) right: Tree<S>,
+    pub(crate) sums: Sums,
+    pub(crate) weight: u32,
+}
+
+impl<S> Model for Tree<S> {
+    ghost use Rattle.std.specs.Prelude.{List, [], ◌∷◌, ◌++◌, length};
+    ghost use Rattle.nx_marks.specs.Tree.{at_root, if_root, Summed};
+    ghost use Rattle.nx_marks.specs.declared.mark.Mark.{Mark};
+
+    ghost Value = { List (Mark S) };
+
+    ghost view = { λ t. at_root [] (λ b. b.value.left ++ b.value.mark ∷ b.value.right) t.root };
+
+    ghost invariant = { λ t. if_root (λ b. Summed (b.value.left ++ b.value.mark ∷ b.value.right)
+        b.value.sums.count b.value.sums.reach b.value.sums.whole b.value.sums.faulty) t.root };
+
+    ghost size = { length };
+
+    ghost use Rattle.std.proofs.Common.{arith, length-append};
+
+    ghost size_decreases = { λ a h. Prim.grind (arith, length-append) };
+}
