@@ -1,5 +1,5 @@
 -- The faults of the segments are copied to their places.
-use Rattle.std.proofs.Common.{◌≡◌, Bool, true, false, ℕ, zero, suc, ◌+◌, ◌-◌, ◌^◌, ◌<◌, ◌≤◌, List, [], ◌∷◌, ◌++◌, length, map, take, get_or, refl, sym, ap, subst, ◌∙◌, arith, append_assoc}
+use Rattle.std.proofs.Common.{◌≡◌, Bool, true, false, ℕ, zero, suc, ◌+◌, ◌-◌, ◌^◌, ◌<◌, ◌≤◌, List, [], ◌∷◌, ◌++◌, length, map, take, refl, sym, ap, subst, ◌∙◌, arith, append_assoc}
 use Rattle.std.specs.Prelude.{min, nat_lt, nat_le, ◌||◌, Option, Some, Result, Ok, Err, OnOk}
 use Rattle.std.specs.Option.{option_to_list}
 use Rattle.std.proofs.lemmas.List.{length-append, take_all, take-append-le}
@@ -91,33 +91,8 @@ pub none : (fs : List Fault) → fs ++ [] ≡ fs
 none [] = refl
 none (f ∷ fs) = ap (λ l. f ∷ l) (none fs)
 
-pub one-more-listed : {S : Type 0} (xs : List (Mark S)) (x : Mark S) (old new : List Fault) (place : ℕ) → old ≡ faults_in 0 xs → place ≡ reach xs → new ≡ old ++ placed place x.faults → new ≡ faults_in 0 (xs ++ x ∷ [])
-one-more-listed xs x old new place e p f =
-    f ∙ ap (λ l. l ++ placed place x.faults) e ∙ ap (λ l. faults_in 0 xs ++ l) (sym (none (placed place x.faults))) ∙ sym (faults-append 0 place xs (x ∷ []) (omega arith))
-
-pub one-more-reached : {S : Type 0} (xs : List (Mark S)) (x : Mark S) (place : ℕ) → place ≡ reach xs → place + x.len ≡ reach (xs ++ x ∷ [])
-one-more-reached xs x place e = let n = reach-append xs (x ∷ []) in omega arith
-
--- the mark at an index
-at-index : {S : Type 0} (P : Mark S → Type 0) (x y : Mark S) → x ≡ y → P y → P x
-at-index P x y e h = subst P (sym e) h
-
-pub fits_at : {S : Type 0} (xs : List (Mark S)) (i : ℕ) (x : Mark S) → FaultsFit xs → i < length xs → x ≡ get_or xs i x → AllByRecursion (IsWithin x.len) x.faults
-fits_at [] i x h lt e = absurd (omega arith)
-fits_at (y ∷ ys) zero x h lt e = at-index (λ z. AllByRecursion (IsWithin z.len) z.faults) x y e h.0
-fits_at (y ∷ ys) (suc i) x h lt e = fits_at ys i x h.1 (omega arith) e
-
-pub reach_at : {S : Type 0} (xs : List (Mark S)) (i : ℕ) (x : Mark S) → i < length xs → x ≡ get_or xs i x → reach (take i xs) + x.len ≤ reach xs
-reach_at [] i x lt e = absurd (omega arith)
-reach_at (y ∷ ys) zero x lt e = let n = ap (λ (z : Mark _). z.len) e in omega arith
-reach_at (y ∷ ys) (suc i) x lt e = let n = reach_at ys i x (omega arith) e in omega arith
-
-pub fits_wider : {S : Type 0} (xs : List (Mark S)) (i place : ℕ) (x : Mark S) → FaultsFit xs → reach xs < 2 ^ 64 → i < length xs → x ≡ get_or xs i x → place ≡ reach (take i xs) → AllByRecursion (IsWithin (2 ^ 64 - 1 - place)) x.faults
-fits_wider xs i place x h small lt e p = let n = reach_at xs i x lt e in all-wider x.len (2 ^ 64 - 1 - place) x.faults (omega arith) (fits_at xs i x h lt e)
-
 -- ---- of some of the marks
 
--- where no mark has faults there are none
 either : (a b : Bool) → a || b ≡ false → (a ≡ false) × (b ≡ false)
 either false false e = (refl, refl)
 either false true e = (refl, e)
@@ -127,6 +102,7 @@ has-none : (fs : List Fault) → has_some fs ≡ false → fs ≡ []
 has-none [] e = refl
 has-none (f ∷ fs) e = absurd (cc)
 
+-- where no mark has faults there are none
 pub faultless : {S : Type 0} (p : ℕ) (xs : List (Mark S)) → any_faulty xs ≡ false → faults_in p xs ≡ []
 faultless p [] e = refl
 faultless p (x ∷ xs) e =

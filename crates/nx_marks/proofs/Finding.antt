@@ -9,7 +9,7 @@ use Rattle.nx_marks.specs.Tree.{IsAt, count_up_to}
 use Rattle.nx_marks.specs.declared.mark.Mark.{Mark}
 use Rattle.nx_marks.proofs.Backs.{reach-append}
 use Rattle.nx_marks.proofs.Cutting.{front-same}
-use Rattle.nx_marks.proofs.Faults.{faults-append}
+use Rattle.nx_marks.proofs.Faults.{faults-append, fit-behind, fit-front}
 use Rattle.nx_marks.proofs.Holding.{longer}
 use Rattle.nx_marks.proofs.Marking.{found_front}
 use Rattle.nx_marks.proofs.Seen.{Parted, parted_at, parts}
@@ -164,20 +164,12 @@ but-last-taken x (y ∷ []) (suc n) e = absurd (omega arith)
 but-last-taken x (y ∷ z ∷ zs) zero e = absurd (omega arith)
 but-last-taken x (y ∷ z ∷ zs) (suc n) e = ap (λ l. x ∷ l) (but-last-taken y (z ∷ zs) n (omega arith))
 
-pub fits-front : {S : Type 0} (xs ys : List (Mark S)) → FaultsFit (xs ++ ys) → FaultsFit xs
-fits-front [] ys h = tt
-fits-front (x ∷ xs) ys h = (h.0, fits-front xs ys h.1)
-
-pub fits-behind : {S : Type 0} (xs ys : List (Mark S)) → FaultsFit (xs ++ ys) → FaultsFit ys
-fits-behind [] ys h = h
-fits-behind (x ∷ xs) ys h = fits-behind xs ys h.1
-
 pub front-fits : {S : Type 0} (joined : Bool) (k : Kept S) → FaultsFit (seen joined k).front → FaultsFit k.front
 front-fits false k h = h
-front-fits true k h = fits-front k.front (but_last k.here k.aside) h
+front-fits true k h = fit-front k.front (but_last k.here k.aside) h
 
 pub behind-fits : {S : Type 0} (joined : Bool) (k : Kept S) → joined ≡ true → FaultsFit (seen joined k).front → FaultsFit (but_last k.here k.aside)
-behind-fits true k e h = fits-behind k.front (but_last k.here k.aside) h
+behind-fits true k e h = fit-behind k.front (but_last k.here k.aside) h
 behind-fits false k e h = absurd (cc)
 
 pub faults-seen : {S : Type 0} (joined : Bool) (k : Kept S) → joined ≡ true → faults_in 0 (seen joined k).front ≡ faults_in 0 k.front ++ faults_in (frontier_of k) (but_last k.here k.aside)

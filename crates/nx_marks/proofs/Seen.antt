@@ -11,6 +11,7 @@ use Rattle.nx_marks.specs.declared.mark.Mark.{Mark}
 use Rattle.nx_marks.proofs.Backs.{reach-append}
 use Rattle.nx_marks.proofs.Cutting.{front-same}
 use Rattle.nx_marks.proofs.Holding.{longer}
+use Rattle.nx_marks.proofs.Topping.{tags-last}
 use Rattle.nx_marks.proofs.Passing.{split-passed, whole-within}
 
 append-nil : {S : Type 0} (xs : List (Mark S)) → xs ++ [] ≡ xs
@@ -93,11 +94,6 @@ end-there k x place e =
     let b = reach-append k.front (k.here ∷ e.earlier) in
     let c = e.there in
     omega arith
-
-pub tags-last : {S : Type 0} (xs : List (Mark S)) (x : Mark S) → tags_behind (xs ++ x ∷ []) ≡ x.tags
-tags-last [] x = refl
-tags-last (y ∷ []) x = refl
-tags-last (y ∷ z ∷ xs) x = tags-last (z ∷ xs) x
 
 -- how many tags lie behind the one before the last
 pub tags-alone : {S : Type 0} (front : List (Mark S)) (here : Mark S) (aside : List (Mark S)) → length aside ≡ 1 → here.tags ≡ tags_behind (front ++ but_last here aside)

@@ -27,7 +27,8 @@ use Rattle.nx_marks.proofs.Reading.{frontier_place, front-led}
 use Rattle.nx_marks.proofs.Later.{right_later}
 use Rattle.nx_marks.proofs.Refused.{same_right}
 use Rattle.nx_marks.proofs.Bounding.{took_nearer}
-use Rattle.nx_marks.proofs.Seen.{parted_at, tags-last}
+use Rattle.nx_marks.proofs.Seen.{parted_at}
+use Rattle.nx_marks.proofs.Topping.{tags-last}
 
 pub tag-one : (k : TokenKind) → tag_of k ≤ 1
 tag-one kind.Bom = omega arith

@@ -14,6 +14,7 @@ use Rattle.nx_marks.specs.Taking.{longer}
 use Rattle.nx_marks.specs.Tree.{IsAt, count_up_to}
 use Rattle.nx_marks.specs.declared.mark.Mark.{Mark}
 use Rattle.nx_marks.proofs.Backs.{reach-append}
+use Rattle.nx_marks.proofs.Walking.{up-to-next, up-to-within}
 
 -- ---- how many reach no farther than a place
 
@@ -108,28 +109,6 @@ tree-tags xs all top n place x are e len some i =
     let l : i.later ≡ [] = nothing-behind i.later (omega (arith, some)) in
     sym (tags-last i.earlier x) ∙ ap (λ l. tags_behind (i.earlier ++ x ∷ l)) (sym l) ∙ ap tags_behind (sym i.are ∙ last-of-all xs all top are e)
 
--- those that are counted lie at or before the place
-up-to : {S : Type 0} (at : ℕ) (xs : List (Mark S)) (x : Mark S) (ys : List (Mark S)) → length xs ≤ count_up_to at (xs ++ x ∷ ys) → reach xs ≤ at
-up-to at [] x ys le = omega arith
-up-to at (z ∷ zs) x ys le =
-    elim (one-or-none z.len at) [
-      | inl h ↦ (let a = count-on at z (zs ++ x ∷ ys) h in let b = up-to (at - z.len) zs x ys (omega arith) in omega arith)
-      | inr h ↦ (let a = count-stop at z (zs ++ x ∷ ys) h in absurd (omega arith))
-    ]
-
--- the first that isn't reaches farther
-first-behind : {S : Type 0} (at : ℕ) (xs : List (Mark S)) (x : Mark S) (ys : List (Mark S)) → count_up_to at (xs ++ x ∷ ys) ≡ length xs → at < reach xs + x.len
-first-behind at [] x ys e =
-    elim (one-or-none x.len at) [
-      | inl h ↦ (let a = count-on at x ys h in absurd (omega arith))
-      | inr h ↦ omega arith
-    ]
-first-behind at (z ∷ zs) x ys e =
-    elim (one-or-none z.len at) [
-      | inl h ↦ (let a = count-on at z (zs ++ x ∷ ys) h in let b = first-behind (at - z.len) zs x ys (omega arith) in omega arith)
-      | inr h ↦ (let a = count-stop at z (zs ++ x ∷ ys) h in absurd (omega arith))
-    ]
-
 none-later : {S : Type 0} (xs : List (Mark S)) (index place : ℕ) (x : Mark S) (i : IsAt xs index place x) → index + 1 ≡ length xs → i.later ≡ []
 none-later xs index place x i e =
     let a = i.count in
@@ -142,7 +121,7 @@ reaches-behind at index place xs x i e =
     let a = i.there in
     let b = ap (count_up_to at) i.are in
     let c = i.count in
-    let d = first-behind at i.earlier x i.later (omega arith) in
+    let d = up-to-next at i.earlier x i.later (omega arith) in
     omega arith
 
 lies-within : {S : Type 0} (at index place : ℕ) (xs : List (Mark S)) (x : Mark S) → IsAt xs index place x → index ≤ count_up_to at xs → place ≤ at
@@ -150,7 +129,7 @@ lies-within at index place xs x i le =
     let a = i.there in
     let b = ap (count_up_to at) i.are in
     let c = i.count in
-    let d = up-to at i.earlier x i.later (omega arith) in
+    let d = up-to-within at i.earlier (x ∷ i.later) (omega arith) in
     omega arith
 
 -- the last one apart lies behind the place, if there is one

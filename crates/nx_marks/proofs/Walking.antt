@@ -8,6 +8,7 @@ use Rattle.nx_marks.specs.Tree.{count_up_to}
 use Rattle.nx_marks.specs.Walking.{Moved, MovesBack, MovesOn, DropsNext, DropsBetween, GoesBack, GoesOn, ComesBack, AreUpTo}
 use Rattle.nx_marks.specs.declared.mark.Mark.{Mark}
 use Rattle.nx_marks.proofs.Backs.{reach-append}
+use Rattle.nx_marks.proofs.Trees.{count-most}
 
 append-nil : {S : Type 0} (xs : List (Mark S)) → xs ++ [] ≡ xs
 append-nil [] = refl
@@ -73,14 +74,6 @@ up-to-next at (x ∷ xs) y ys le = by (nat_le x.len at) refl le (λ h. up-to-nex
     by true e h rest = let n : x.len ≤ at = grind (arith, nat_tests) in let r = rest (omega arith) in omega arith
     by false e h rest = let n : at < x.len = grind (arith, nat_tests) in omega arith
 
-pub up-to-most : {S : Type 0} (at : ℕ) (xs : List (Mark S)) → count_up_to at xs ≤ length xs
-up-to-most at [] = omega arith
-up-to-most at (x ∷ xs) = by (nat_le x.len at) (up-to-most (at - x.len) xs)
-  where
-    by : (c : Bool) → count_up_to (at - x.len) xs ≤ length xs → (if c then 1 + count_up_to (at - x.len) xs else 0) ≤ length (x ∷ xs)
-    by true r = omega arith
-    by false r = omega arith
-
 -- so many of the front stay: those up to the place before
 pub went_back : {S : Type 0} (from kept n : ℕ) (old new : Kept S) → ((from ≡ 0) × (kept ≡ 0)) ⊎ ((0 < from) × (kept ≡ count_up_to (from - 1) old.front)) → n ≡ length old.front - kept → from ≤ frontier_of old → MovesBack n old new → GoesBack from old new
 went_back {S = S} from kept n old new k e le (inl same) =
@@ -116,7 +109,7 @@ went_back {S = S} from kept n old new k e le (inr m) =
     touches : ((from ≡ 0) × (kept ≡ 0)) ⊎ ((0 < from) × (kept ≡ count_up_to (from - 1) old.front)) → from ≤ reach new.front + new.here.len
     touches (inl z) = omega (arith, z.0)
     touches (inr z) =
-        let most = up-to-most (from - 1) old.front in
+        let most = count-most (from - 1) old.front in
         let c = count (omega (arith, z.1)) in
         let C : List (Mark S) → Type 0 = λ l. count_up_to (from - 1) l ≤ length new.front in
         let r = up-to-next (from - 1) new.front new.here m.more (subst C m.front (omega (arith, z.1))) in
@@ -129,7 +122,7 @@ went_back {S = S} from kept n old new k e le (inr m) =
         none [] h = refl
         none (x ∷ xs) h = absurd (omega arith)
     before (inr z) =
-        let most = up-to-most (from - 1) old.front in
+        let most = count-most (from - 1) old.front in
         let c = count (omega (arith, z.1)) in
         let C : List (Mark S) → Type 0 = λ l. length new.front ≤ count_up_to (from - 1) l in
         let r = up-to-within (from - 1) new.front (new.here ∷ m.more) (subst C m.front (omega (arith, z.1))) in

@@ -18,8 +18,8 @@ use std::alloc::Global;
 use std::marker::Model;
 
 /// The marks up to the frontier, the state there, whether a mark stands there, and the marks aside. Where a row is joined behind
-/// which none is aside, no mark is moved: the line stays parted where it was, and the frontier is at its end. So an edit moves the
-/// marks between it and the edit before, and no others, however long the text is.
+/// which none is aside, no mark is moved: the line stays parted where it was, and the frontier is at its end. So what is typed next
+/// to the last edit finds the line parted there.
 #[derive(Drop)]
 pub struct Kept<S> {
     pub(crate) line: Line<S>,

@@ -1,4 +1,4 @@
-use Rattle.std.proofs.Common.{◌≡◌, ◌+◌, ◌-◌, ◌<◌, List, length, reverse, refl, ap, subst, sym, ◌∙◌, arith}
+use Rattle.std.proofs.Common.{◌≡◌, ◌+◌, ◌-◌, ◌<◌, List, length, refl, ap, subst, sym, ◌∙◌, arith}
 use Rattle.nx_base.specs.Rules.{Rules, lexeme_of}
 use Rattle.nx_marks.specs.Bound.{WillReach}
 use Rattle.nx_marks.specs.Chain.{Kept, frontier_of, reach}
@@ -8,7 +8,7 @@ use Rattle.nx_marks.specs.Taking.{took}
 use Rattle.nx_marks.specs.declared.mark.Mark.{Mark}
 use Rattle.nx_marks.proofs.Holding.{refilled, further}
 use Rattle.nx_marks.proofs.Keeping.{keeps_took, keeps_same, standing-same}
-use Rattle.nx_marks.proofs.Seen.{tags-last}
+use Rattle.nx_marks.proofs.Topping.{tags-last}
 use Rattle.nx_marks.proofs.Stepping.{ready, standing, lengthened_is, stepped_right, stepped_near, refused_right}
 use Rattle.nx_marks.proofs.line.step.Goals as goal
 

@@ -1,4 +1,4 @@
-use Rattle.std.proofs.Common.{◌≡◌, ◌∷◌, ◌++◌, ◌+◌, ◌-◌, ◌^◌, List, length, take, ap, subst, sym, ◌∙◌, arith, append_assoc}
+use Rattle.std.proofs.Common.{◌≡◌, ◌++◌, ◌+◌, ◌-◌, ◌^◌, List, take, ap, subst, sym, ◌∙◌, arith, append_assoc}
 use Rattle.std.specs.Prelude.{OnOk}
 use Rattle.nx_base.specs.Shifting.{placed}
 use Rattle.nx_marks.specs.Chain.{FaultsFit, Kept, faults_in, frontier_of}

@@ -1,4 +1,4 @@
-use Rattle.std.proofs.Common.{ap, refl, arith}
+use Rattle.std.proofs.Common.{ap, arith}
 use Rattle.nx_marks.specs.declared.mark.Mark.{Mark}
 use Rattle.nx_marks.proofs.Holding.{began}
 use Rattle.nx_marks.proofs.line.Line.begin.Goals as goal

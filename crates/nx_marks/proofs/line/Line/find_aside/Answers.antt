@@ -1,4 +1,4 @@
-use Rattle.std.proofs.Common.{◌≡◌, ◌⊎◌, ◌-◌, ◌<◌, ◌∷◌, inl, inr, true, List, length, ap, subst, sym, refl, ◌∙◌, arith}
+use Rattle.std.proofs.Common.{◌≡◌, ◌⊎◌, ◌-◌, ◌<◌, ◌∷◌, inl, inr, true, List, ap, subst, sym, refl, ◌∙◌, arith}
 use Rattle.nx_marks.specs.Before.{IsLast}
 use Rattle.nx_marks.specs.Chain.{Kept, frontier_of, reach}
 use Rattle.nx_marks.specs.Joined.{seen}

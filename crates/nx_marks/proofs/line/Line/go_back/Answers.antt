@@ -1,15 +1,16 @@
-use Rattle.std.proofs.Common.{◌≡◌, ◌⊎◌, ◌-◌, ◌<◌, ◌≤◌, ℕ, List, inl, inr, length, ap, subst, arith}
-use Rattle.nx_marks.specs.Chain.{Kept, frontier_of}
+use Rattle.std.proofs.Common.{◌≡◌, ◌⊎◌, ◌-◌, ◌<◌, List, inl, inr, length, ap, subst, arith}
+use Rattle.nx_marks.specs.Chain.{Kept}
 use Rattle.nx_marks.specs.Tree.{count_up_to}
 use Rattle.nx_marks.specs.declared.mark.Mark.{Mark}
-use Rattle.nx_marks.proofs.Walking.{went_back, up-to-most}
+use Rattle.nx_marks.proofs.Trees.{count-most}
+use Rattle.nx_marks.proofs.Walking.{went_back}
 use Rattle.nx_marks.proofs.line.Line.go_back.Goals as goal
 
 pub overflow_sub-count : goal.overflow_sub-count
 overflow_sub-count g c =
     elim c.count_before-kept.ensures [
       | inl z ↦ omega (arith, z.1)
-      | inr z ↦ omega (arith, z.1, up-to-most (c.args.from - 1) c.self.inside.front, c.count.ensures)
+      | inr z ↦ omega (arith, z.1, count-most (c.args.from - 1) c.self.inside.front, c.count.ensures)
     ]
 
 pub returns : goal.returns

@@ -1,4 +1,4 @@
-use Rattle.std.proofs.Common.{◌≡◌, ◌⊎◌, ◌+◌, ◌-◌, ◌≤◌, ℕ, length, ap, subst, ◌∙◌, arith}
+use Rattle.std.proofs.Common.{◌≡◌, ◌⊎◌, ◌+◌, ◌-◌, ◌≤◌, ℕ, length, ap, subst, ◌∙◌}
 use Rattle.nx_marks.specs.Chain.{Kept}
 use Rattle.nx_marks.specs.Tree.{count_up_to}
 use Rattle.nx_marks.proofs.Walking.{went_on}

@@ -1,4 +1,4 @@
-use Rattle.std.proofs.Common.{true, ap, ◌∙◌, arith}
+use Rattle.std.proofs.Common.{arith}
 use Rattle.std.proofs.lemmas.Bool.Decides.{nat_tests}
 use Rattle.nx_marks.proofs.Seen.{row-follows}
 use Rattle.nx_marks.proofs.line.Line.is_row.Goals as goal
