@@ -1,7 +1,7 @@
 -- How far recovery has come along items.
-use Rattle.std.proofs.Common.{◌≡◌, ◌≤◌, ℕ, zero, suc, List, [], ◌∷◌, ◌++◌, length, drop, refl, ap, sym, subst, ◌∙◌, arith, append_assoc}
+use Rattle.std.proofs.Common.{◌≡◌, ◌+◌, ◌<◌, ◌≤◌, ℕ, zero, suc, List, [], ◌∷◌, ◌++◌, length, drop, get_or, set, refl, ap, sym, subst, ◌∙◌, arith, append_assoc}
 use Rattle.std.specs.List.{AllByRecursion}
-use Rattle.std.proofs.lemmas.List.{append-nil}
+use Rattle.std.proofs.lemmas.List.{append-nil, drop_more, drop-set-lt}
 use Rattle.nx_base.specs.declared.fault.Fault.{Fault}
 use Rattle.nx_events.specs.declared.item.Item.{Item}
 use Rattle.nx_base.specs.Rules.{LaterLaws}
@@ -26,6 +26,10 @@ none_left zero [] h = refl
 none_left zero (x ∷ xs) h = absurd (omega arith)
 none_left (suc n) [] h = refl
 none_left (suc n) (x ∷ xs) h = none_left n xs (omega arith)
+
+-- the item at a place comes next, and others behind it, whatever is put in its place
+pub comes_next : {X : Type 0} (xs : List X) (i : ℕ) (x y : X) → i < length xs → x ≡ get_or xs i x → drop i xs ≡ x ∷ drop (i + 1) (set xs i y)
+comes_next xs i x y lt at = drop_more xs i x lt ∙ ap (λ z. z ∷ drop (i + 1) xs) (sym at) ∙ ap (λ zs. x ∷ zs) (sym (drop-set-lt (i + 1) xs i y (omega arith)))
 
 -- what holds of all holds of the first and of the others
 pub first_and_rest : {X : Type 0} (P : X → Type 0) (xs : List X) (x : X) (rest : List X) → xs ≡ x ∷ rest → AllByRecursion P xs → P x × AllByRecursion P rest

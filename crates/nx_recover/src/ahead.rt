@@ -6,6 +6,7 @@ ghost use Rattle.nx_recover.specs.Items.{form_along};
 ghost use Rattle.nx_recover.specs.States.{AreStates, view_of, form};
 
 use crate::along;
+use crate::levels::Change;
 use crate::state::RecoverState;
 use crate::step::{make_room, put};
 use nx_base::memory::NoMemory;
@@ -32,15 +33,16 @@ pub fn take_items<M: Matcher>(
 {
     let mut own = items.copy()?.into_vec();
     let mut found = Sequence::new(alloc);
-    let change = along::take_items(
+    let mut change = Change::new(alloc);
+    along::take_items(
         alloc,
         matcher,
         &state.levels,
+        &mut change,
         &mut own,
-        Vec::new(alloc),
         &mut found,
     )?;
     make_room(&mut state.levels, &change)?;
-    put(&mut state.levels, change);
+    put(&mut state.levels, &mut change);
     Ok(())
 }

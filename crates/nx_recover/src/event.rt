@@ -10,10 +10,12 @@ use crate::levels::{Begun, Change, Ended, Levels, Open, Turn};
 use crate::row;
 use nx_base::memory::NoMemory;
 use nx_base::name::Name;
+use nx_base::sequence::Sequence;
 use nx_events::flaw::Flaw;
 use nx_events::item::Event;
 use rng_live::matcher::Matcher;
 use std::alloc::Global;
+use std::mem;
 
 // The state here.
 fn here<'a, S: Drop>(levels: &'a Levels<S>, change: &'a Change<S>) -> &'a Option<S>
@@ -160,25 +162,39 @@ fn take_other<M: Matcher>(
     }
 }
 
-/// An event: what is wrong with it is the answer.
+// Takes a name out of its place, and leaves an empty one there.
+fn take_name(alloc: Global, name: &mut Name) -> Name
+    ensures { result ≡ name.old }
+{
+    let empty = Name {
+        ns: Sequence::new(alloc),
+        local: Sequence::new(alloc),
+    };
+    mem::replace(name, empty)
+}
+
+/// An event: what is wrong with it is the answer. The name of an element that begins is taken out of it.
 #[tactic(auto, unfolding(crate::specs::Table::done_by))]
 pub fn take_event<M: Matcher>(
     alloc: Global,
     matcher: &mut M,
     levels: &Levels<M::State>,
     change: &mut Change<M::State>,
-    event: Event,
+    event: &mut Event,
 ) -> Result<Option<Flaw>, NoMemory>
     requires change { IsChange (M.is_state matcher.old) levels.now change.old }
-    requires text { EventIsText event }
+    requires text { EventIsText event.old }
     ensures later { M.later matcher.old matcher.new }
     ensures gives { IfOk result (Takes (M.is_state matcher.new) (M.means matcher.new) levels.now change.new
-        (t.done_by (M.language matcher.old) (form (M.means matcher.old) (changed levels.now change.old)) event)) }
+        (t.done_by (M.language matcher.old) (form (M.means matcher.old) (changed levels.now change.old)) event.old)) }
 {
     match event {
-        Event::Enter(name) => take_enter(alloc, matcher, levels, change, name),
+        Event::Enter(name) => {
+            let name = take_name(alloc, name);
+            take_enter(alloc, matcher, levels, change, name)
+        }
         Event::EnterLost => take_lost(alloc, matcher, levels, change),
         Event::Leave => take_leave(alloc, matcher, levels, change),
-        other => take_other(alloc, matcher, levels, change, &other),
+        _ => take_other(alloc, matcher, levels, change, event),
     }
 }

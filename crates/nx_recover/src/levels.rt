@@ -9,6 +9,7 @@
 
 use nx_base::name::Name;
 use nx_events::flaw::Flaw;
+use std::alloc::Global;
 
 /// An open element.
 #[derive(Drop)]
@@ -50,12 +51,23 @@ pub struct Ended<S> {
     pub flaw: Option<Flaw>,
 }
 
-/// Other levels, aside: of the open elements so many are the old ones, and the others stand above them. The list's memory is kept from
-/// token to token, since each start tag would take and free a list otherwise.
+/// Other levels, aside: of the open elements so many are the old ones, and the others stand above them. It is kept from token to token,
+/// since each start tag would take and free a list otherwise.
 #[derive(Drop)]
 pub struct Change<S> {
     /// The frame that goes on here, where it isn't the old one.
     pub here: Option<Option<S>>,
     pub kept: usize,
     pub above: Vec<Open<S>>,
+}
+
+impl<S: Drop> Change<S> {
+    /// No levels at all, and no memory yet.
+    pub(crate) fn new(alloc: Global) -> Change<S> {
+        Change {
+            here: None,
+            kept: 0,
+            above: Vec::new(alloc),
+        }
+    }
 }

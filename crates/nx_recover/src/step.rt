@@ -15,7 +15,6 @@ use crate::levels::{Change, Levels, Open};
 use crate::state::RecoverState;
 use nx_base::fault::Faults;
 use nx_base::memory::NoMemory;
-use nx_base::sequence::Sequence;
 use nx_base::token::Token;
 use nx_events::item::Items;
 use nx_events::reader::{Declared, pass_token, read};
@@ -24,12 +23,15 @@ use rng_live::matcher::Matcher;
 use std::alloc::Global;
 use std::mem;
 
-/// Memory that a token is read in: its items, and the elements that it opens. Whoever takes many tokens keeps it; what it holds before
-/// is dropped.
+/// Memory that a token is read in. Whoever takes many tokens keeps it; what it holds before is dropped.
 #[derive(Drop)]
 pub struct Scratch<S> {
+    /// The token's items.
     pub items: Items,
-    pub above: Vec<Open<S>>,
+    /// The levels behind it.
+    pub change: Change<S>,
+    /// The faults among its items, and those of recovery.
+    pub found: Faults,
 }
 
 impl<S: Drop> Scratch<S> {
@@ -37,25 +39,26 @@ impl<S: Drop> Scratch<S> {
     pub fn new(alloc: Global) -> Scratch<S> {
         Scratch {
             items: Items::new(alloc),
-            above: Vec::new(alloc),
+            change: Change::new(alloc),
+            found: Faults::new(alloc),
         }
     }
 }
 
-// Adds faults and passes a token, both or neither.
+// Adds faults and passes a token, both or neither. The faults are taken out of their list.
 fn pass_with(
     alloc: Global,
     events: &mut EventState,
     token: &Token,
     declared: &Declared,
     faults: &mut Faults,
-    more: Faults,
+    more: &mut Faults,
 ) -> Result<(), NoMemory>
     requires place { run_back events.old.run ≤ token.now.from }
     requires room { token.now.from + length token.now.bytes < 2 ^ 64 }
     requires declared { declared.now.own ≡ declared_in token.now }
     ensures events { OnOk result (events.new ≡ state_behind events.old token.now) }
-    ensures faults { OnOk result (faults.new ≡ faults.old ++ more) }
+    ensures faults { OnOk result (faults.new ≡ faults.old ++ more.old) }
     ensures unchanged { OnErr result (events.new ≡ events.old) }
     ensures no_faults { OnErr result (faults.new ≡ faults.old) }
     ensures text { TokenIsText token.now → StateIsText events.old → StateIsText events.new }
@@ -65,7 +68,7 @@ fn pass_with(
         return pass_token(alloc, events, token, declared);
     }
     let len = faults.len();
-    faults.append(more)?;
+    faults.append(mem::replace(more, Faults::new(alloc)))?;
     match pass_token(alloc, events, token, declared) {
         Ok(()) => Ok(()),
         Err(error) => {
@@ -98,48 +101,43 @@ fn move_onto<S: Drop>(elements: &mut Vec<Open<S>>, above: &mut Vec<Open<S>>)
     let _ = elements.append(above);
 }
 
-/// The changed levels, in room that there is. The answer is the change's list, which may be filled anew.
-pub fn put<S: Drop>(levels: &mut Levels<S>, change: Change<S>) -> Vec<Open<S>>
-    requires { HasRoom levels.old change }
-    ensures { view_of levels.new ≡ changed levels.old change }
+/// The changed levels, in room that there is. What is new is taken out of the change.
+pub fn put<S: Drop>(levels: &mut Levels<S>, change: &mut Change<S>)
+    requires { HasRoom levels.old change.old }
+    ensures { view_of levels.new ≡ changed levels.old change.old }
 {
-    let Change {
-        here,
-        kept,
-        mut above,
-    } = change;
-    levels.elements.truncate(kept);
-    move_onto(&mut levels.elements, &mut above);
-    if let Some(here) = here {
+    levels.elements.truncate(change.kept);
+    move_onto(&mut levels.elements, &mut change.above);
+    if let Some(here) = change.here.take() {
         levels.here = here;
     }
-    above
 }
 
-// Puts a change in place with the faults of its token, all or nothing. The answer is the change's list.
+// Puts a change in place with the faults of its token, all or nothing.
 fn install<S: Drop>(
     alloc: Global,
     state: &mut RecoverState<S>,
     token: &Token,
     declared: &Declared,
-    change: Change<S>,
+    change: &mut Change<S>,
     faults: &mut Faults,
-    more: Faults,
-) -> Result<Vec<Open<S>>, NoMemory>
+    more: &mut Faults,
+) -> Result<(), NoMemory>
     requires place { run_back state.old.events.run ≤ token.now.from }
     requires room { token.now.from + length token.now.bytes < 2 ^ 64 }
     requires declared { declared.now.own ≡ declared_in token.now }
     ensures events { OnOk result (state.new.events ≡ state_behind state.old.events token.now) }
-    ensures levels { OnOk result (view_of state.new.levels ≡ changed state.old.levels change) }
-    ensures faults { OnOk result (faults.new ≡ faults.old ++ more) }
+    ensures levels { OnOk result (view_of state.new.levels ≡ changed state.old.levels change.old) }
+    ensures faults { OnOk result (faults.new ≡ faults.old ++ more.old) }
     ensures same_events { OnErr result (state.new.events ≡ state.old.events) }
     ensures same_levels { OnErr result (view_of state.new.levels ≡ view_of state.old.levels) }
     ensures no_faults { OnErr result (faults.new ≡ faults.old) }
     ensures text { TokenIsText token.now → StateIsText state.old.events → StateIsText state.new.events }
 {
-    make_room(&mut state.levels, &change)?;
+    make_room(&mut state.levels, change)?;
     pass_with(alloc, &mut state.events, token, declared, faults, more)?;
-    Ok(put(&mut state.levels, change))
+    put(&mut state.levels, change);
+    Ok(())
 }
 
 /// A step over a matcher. For want of memory the state means what it meant, and the faults are as before.
@@ -168,18 +166,21 @@ pub fn step_over<M: Matcher>(
     ensures unchanged { OnErr result (over (M.means matcher.new) state.new ≡ over (M.means matcher.old) state.old) }
     ensures no_faults { OnErr result (faults.new ≡ faults.old) }
 {
-    let Scratch { items, above } = scratch;
+    let Scratch {
+        items,
+        change,
+        found,
+    } = scratch;
     items.clear();
     let declared = read(alloc, items, &state.events, token)?;
     // A text that goes on with its run, or a comment: the levels stay.
     if items.is_empty() {
         return pass_token(alloc, &mut state.events, token, &declared);
     }
-    let mut list = mem::replace(items, Items::new(alloc)).into_vec();
-    let room = mem::replace(above, Vec::new(alloc));
-    let mut more = Sequence::new(alloc);
-    let change = take_items(alloc, matcher, &state.levels, &mut list, room, &mut more)?;
-    *items = Items::from_vec(list);
-    *above = install(alloc, state, token, &declared, change, faults, more)?;
+    let mut taken = mem::replace(items, Items::new(alloc)).into_vec();
+    found.clear();
+    take_items(alloc, matcher, &state.levels, change, &mut taken, found)?;
+    *items = Items::from_vec(taken);
+    install(alloc, state, token, &declared, change, faults, found)?;
     Ok(())
 }

@@ -10,7 +10,7 @@ ghost use Rattle.nx_recover.specs.States.{AreStates, IsOpen, open_form, view_of}
 ghost use Rattle.nx_recover.specs.Machine.{over};
 
 use crate::along::take_items;
-use crate::levels::{Levels, Open};
+use crate::levels::{Change, Levels, Open};
 use crate::row::{copy_here, copy_open};
 use crate::state::RecoverState;
 use nx_base::equal::Equal;
@@ -60,13 +60,14 @@ pub fn end_over<M: Matcher>(
     ensures no_faults { OnErr result (faults.new ≡ faults.old) }
 {
     let mut items = reader::finish(alloc, &state.events, len)?.into_vec();
+    let mut change = Change::new(alloc);
     let mut more = Sequence::new(alloc);
     take_items(
         alloc,
         matcher,
         &state.levels,
+        &mut change,
         &mut items,
-        Vec::new(alloc),
         &mut more,
     )?;
     faults.append(more)?;
