@@ -7,7 +7,7 @@ ghost use Rattle.nx_recover.specs.States.{IsChange, AreStates, view_of, changed,
 ghost use Rattle.nx_recover.specs.Items.{form_behind, faults_found, form_along, found_along};
 
 use crate::event::take_event;
-use crate::levels::{Change, Levels};
+use crate::levels::{Change, Levels, Open};
 use nx_base::fault::{Fault, Faults, Span};
 use nx_base::memory::NoMemory;
 use nx_base::sequence::Sequence;
@@ -68,6 +68,16 @@ fn take_item<M: Matcher>(
     Ok(())
 }
 
+// Drops what a list holds.
+fn drop_all<S: Drop>(elements: &mut Vec<Open<S>>)
+    ensures { elements.new.items ≡ [] }
+{
+    // It holds nothing mostly, and then no call is made.
+    if !elements.is_empty() {
+        elements.clear();
+    }
+}
+
 /// All items, whose names and details are taken out, so that they pass to the levels and to the faults as they are: the levels behind
 /// them as a change, and the faults in the order in which they arise. What the change was before is dropped, and so are the items.
 pub fn take_items<M: Matcher>(
@@ -90,7 +100,7 @@ pub fn take_items<M: Matcher>(
 {
     change.here = None;
     change.kept = levels.elements.len();
-    change.above.clear();
+    drop_all(&mut change.above);
     let mut i = 0;
     while i < items.len() {
         let item = &mut items[i];

@@ -1,6 +1,6 @@
 //! A step over a matcher, all or nothing: the levels behind the token are kept aside, and put in place last.
 
-ghost use Rattle.std.specs.Prelude.{◌≡◌, ◌+◌, ◌-◌, ◌<◌, ◌≤◌, ◌^◌, ◌++◌, length, take, IsUtf8, IfOk, OnOk, OnErr, Some, vec_len, vec_capacity};
+ghost use Rattle.std.specs.Prelude.{◌≡◌, ◌+◌, ◌-◌, ◌<◌, ◌≤◌, ◌^◌, [], ◌++◌, length, take, IsUtf8, IfOk, OnOk, OnErr, Some, vec_len, vec_capacity};
 ghost use Rattle.nx_base.specs.Rules.{lexeme_of, IsLexeme};
 ghost use Rattle.nx_base.specs.Shifting.{placed};
 ghost use Rattle.nx_events.specs.Items.{declared_in, state_behind};
@@ -140,6 +140,16 @@ fn install<S: Drop>(
     Ok(())
 }
 
+// Drops what a refused token left.
+fn drop_left(found: &mut Faults)
+    ensures { found.new ≡ [] }
+{
+    // There is nothing mostly, and then no call is made.
+    if !found.is_empty() {
+        found.clear();
+    }
+}
+
 /// A step over a matcher. For want of memory the state means what it meant, and the faults are as before.
 pub fn step_over<M: Matcher>(
     alloc: Global,
@@ -178,7 +188,7 @@ pub fn step_over<M: Matcher>(
         return pass_token(alloc, &mut state.events, token, &declared);
     }
     let mut taken = mem::replace(items, Items::new(alloc)).into_vec();
-    found.clear();
+    drop_left(found);
     take_items(alloc, matcher, &state.levels, change, &mut taken, found)?;
     *items = Items::from_vec(taken);
     install(alloc, state, token, &declared, change, faults, found)?;

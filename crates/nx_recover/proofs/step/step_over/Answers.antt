@@ -30,7 +30,7 @@ returns-clause-faults g c =
     let m = g.M.Matcher in
     let s = c.args.state.now in
     let all : c.into_vec-taken.result.items ≡ items_of_token s.events c.args.token.now = from_empty (c.into_vec-taken.ensures ∙ c.replace.ensures.value) c.in_ok-declared.ensures.items c.clear.ensures in
-    given (Some (m.language c.args.matcher.now)) (over (m.means c.args.matcher.now) s) c.args.token.now c.args.faults.now c.take_items.new.faults c.install.new.faults c.into_vec-taken.result.items c.requires.place c.in_ok-install.ensures.faults (from_empty refl c.in_ok-take_items.ensures.faults c.clear-2.ensures) all
+    given (Some (m.language c.args.matcher.now)) (over (m.means c.args.matcher.now) s) c.args.token.now c.args.faults.now c.take_items.new.faults c.install.new.faults c.into_vec-taken.result.items c.requires.place c.in_ok-install.ensures.faults (from_empty refl c.in_ok-take_items.ensures.faults c.drop_left.ensures) all
 
 pub returns-then-is_empty-clause-after : goal.returns-then-is_empty-clause-after
 returns-then-is_empty-clause-after g c =
