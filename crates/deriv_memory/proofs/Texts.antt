@@ -52,11 +52,11 @@ module _ {K : Type 0} (f : K → List ℕ) where
       let at = stored ks n k there in
       record { there = at.0; meaning = at.1 ∙ (sym ((bytes_decides own (f k)).0 same) ∙ is) }
 
-  -- the text of the first key
-  pub first_text : (ks : List K) (k : K) (text own : List ℕ) (same : Bool) → slice_get ks 0 ≡ Some k → own ≡ f k
-      → same ≡ pointwise nat_eq text own → same ≡ true → IsText (map f ks) text 0
-  first_text ks k text own same there is compared so =
-      text_stored ks 0 k text text refl there (ap (pointwise nat_eq text) (sym is) ∙ (sym compared ∙ so))
+  -- a text that is compared with the key of a number
+  pub compared_text : (ks : List K) (n : ℕ) (k : K) (text own : List ℕ) (same : Bool) → slice_get ks n ≡ Some k → own ≡ f k
+      → same ≡ pointwise nat_eq text own → same ≡ true → IsText (map f ks) text n
+  compared_text ks n k text own same there is compared so =
+      text_stored ks n k text text refl there (ap (pointwise nat_eq text) (sym is) ∙ (sym compared ∙ so))
 
   found_at : (texts : List (List ℕ)) (text : List ℕ) (r : Option ℕ) → r ≡ position (pointwise nat_eq text) texts → IfSome r (IsText texts text)
   found_at texts text None e = tt

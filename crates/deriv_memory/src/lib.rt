@@ -6,5 +6,6 @@
 #![tactic(auto)]
 
 pub mod asked;
+mod guesses;
 pub mod memory;
 mod places;

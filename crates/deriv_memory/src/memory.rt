@@ -5,6 +5,7 @@ ghost use Rattle.deriv_memory.specs.declared.asked.Asked.{Asked as TheAsked};
 ghost use Rattle.deriv_memory.specs.Remembered.{noted, IsText, IsName, AreOnce, IsAtMostOneMore, LaterMemory, IsNoted};
 
 use crate::asked::Asked;
+use crate::guesses::Guesses;
 use crate::places::Places;
 use indexmap::{IndexMap, IndexSet};
 use nx_base::memory::NoMemory;
@@ -16,6 +17,7 @@ use std::marker::Model;
 #[derive(Drop)]
 pub struct Memory {
     texts: IndexSet<Vec<u8>>,
+    guesses: Guesses,
     answers: IndexMap<Asked, Option<usize>>,
     places: Places,
 }
@@ -39,18 +41,19 @@ impl Memory {
     {
         Memory {
             texts: IndexSet::new(alloc),
+            guesses: Guesses::new(alloc),
             answers: IndexMap::new(alloc),
             places: Places::new(alloc),
         }
     }
 
-    // Whether a text is the first that was kept.
-    fn is_first(&self, text: &[u8]) -> bool
+    // Whether a text is the one that has this number.
+    fn has_number(&self, text: &[u8], number: usize) -> bool
         ensures once { AreOnce self.now.texts }
-        ensures first { IsTrue result → IsText self.now.texts text.now 0 }
+        ensures has { IsTrue result → IsText self.now.texts text.now number }
     {
-        match self.texts.get_index(0) {
-            Some(first) => text == first.as_slice(),
+        match self.texts.get_index(number) {
+            Some(kept) => text == kept.as_slice(),
             None => false,
         }
     }
@@ -61,9 +64,9 @@ impl Memory {
         ensures found { IfSome result (IsText self.now.texts text.now) }
         ensures none { IfNone result ((i : ℕ) → IsText self.now.texts text.now i → ⊥) }
     {
-        // The text that is asked for most, as no namespace, mostly was kept first.
-        if self.is_first(text) {
-            return Some(0);
+        let guess = self.guesses.of(text);
+        if self.has_number(text, guess) {
+            return Some(guess);
         }
         self.texts.get_index_of(text)
     }
@@ -91,6 +94,7 @@ impl Memory {
         ensures made { IfOk result (IsText self.new.texts text.now) }
         ensures only { IsAtMostOneMore self.old.texts self.new.texts text.now }
     {
+        self.guesses.put(text, self.texts.len())?;
         let (number, _) = self.texts.insert_full(Vec::from_slice(alloc, text)?)?;
         Ok(number)
     }

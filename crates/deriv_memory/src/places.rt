@@ -1,19 +1,25 @@
 //! Where answers are looked for first.
 //!
-//! States are numbers from 0, and nearly all calls have no name. So a list by states leads to their answers, and no hash is made. A
-//! place is a guess, and whoever takes it looks at what stands there: so no clause speaks of places, and none of them can be wrong.
+//! States are numbers from 0, so a list by states leads to their answers, and no hash is made. A place is a guess, and whoever takes
+//! it looks at what stands there: so no clause speaks of places, and none of them can be wrong.
 
 use crate::asked::Asked;
+use crate::guesses::narrowed;
 use nx_base::memory::NoMemory;
 use std::alloc::Global;
 
-/// The places of one state's answers, a guess for each call that has no name.
+/// How many guesses a state has for its calls with names.
+const NAMED: usize = 4;
+
+/// The places of one state's answers: a guess for each call that has no name, and some for those that have one, which the numbers
+/// of names are dealt out to.
 #[derive(Clone, Copy)]
 struct Row {
-    tag_end: usize,
-    leave: usize,
-    blank: usize,
-    solid: usize,
+    tag_end: u32,
+    leave: u32,
+    blank: u32,
+    solid: u32,
+    named: [u32; NAMED],
 }
 
 /// The places of answers among all answers, by states.
@@ -28,7 +34,36 @@ const FIRST: Row = Row {
     leave: 0,
     blank: 0,
     solid: 0,
+    named: [0; NAMED],
 };
+
+impl Row {
+    // The guess for a call on this state.
+    fn of(&self, call: &Asked) -> u32 {
+        match call {
+            Asked::TagEnd(_) => self.tag_end,
+            Asked::Leave(_) => self.leave,
+            Asked::Blank(_) => self.blank,
+            Asked::Solid(_) => self.solid,
+            Asked::Enter(_, _, local) => self.named[*local % NAMED],
+            Asked::BlankValue(_, _, local) => self.named[*local % NAMED],
+            Asked::SolidValue(_, _, local) => self.named[*local % NAMED],
+        }
+    }
+
+    // From now on this is the guess for this call.
+    fn put(&mut self, call: &Asked, place: u32) {
+        match call {
+            Asked::TagEnd(_) => self.tag_end = place,
+            Asked::Leave(_) => self.leave = place,
+            Asked::Blank(_) => self.blank = place,
+            Asked::Solid(_) => self.solid = place,
+            Asked::Enter(_, _, local) => self.named[*local % NAMED] = place,
+            Asked::BlankValue(_, _, local) => self.named[*local % NAMED] = place,
+            Asked::SolidValue(_, _, local) => self.named[*local % NAMED] = place,
+        }
+    }
+}
 
 impl Places {
     /// No places.
@@ -38,18 +73,10 @@ impl Places {
         }
     }
 
-    /// Where the answer of a call may stand; none where the call has a name.
+    /// Where the answer of a call may stand; none where nothing was put of so high a state.
     pub fn of(&self, call: &Asked) -> Option<usize> {
         let row = self.rows.as_slice().get(call.state())?;
-        match call {
-            Asked::TagEnd(_) => Some(row.tag_end),
-            Asked::Leave(_) => Some(row.leave),
-            Asked::Blank(_) => Some(row.blank),
-            Asked::Solid(_) => Some(row.solid),
-            Asked::Enter(_, _, _) => None,
-            Asked::BlankValue(_, _, _) => None,
-            Asked::SolidValue(_, _, _) => None,
-        }
+        Some(row.of(call) as usize)
     }
 
     /// From now on the answer of this call is looked for at this place.
@@ -58,16 +85,7 @@ impl Places {
         while self.rows.len() <= state {
             self.rows.push(FIRST)?;
         }
-        let row = &mut self.rows[state];
-        match call {
-            Asked::TagEnd(_) => row.tag_end = place,
-            Asked::Leave(_) => row.leave = place,
-            Asked::Blank(_) => row.blank = place,
-            Asked::Solid(_) => row.solid = place,
-            Asked::Enter(_, _, _) => {}
-            Asked::BlankValue(_, _, _) => {}
-            Asked::SolidValue(_, _, _) => {}
-        }
+        self.rows[state].put(call, narrowed(place));
         Ok(())
     }
 }

@@ -1,0 +1,72 @@
+//! Where texts are looked for first.
+//!
+//! The names of a document are few, and they mostly differ in their first byte, their last one or their length. So these lead to a
+//! number, and no hash is made. A number is a guess, and whoever takes it looks at the text that has it: so no clause speaks of
+//! guesses, and none of them can be wrong.
+
+use nx_base::memory::NoMemory;
+use std::alloc::Global;
+
+/// A number for each of so many kinds of texts.
+const KINDS: usize = 256;
+
+/// The numbers of texts that were kept last, one for each kind; none before the first text is put.
+#[derive(Drop)]
+pub struct Guesses {
+    numbers: Vec<u32>,
+}
+
+/// A guess in half of its memory. What doesn't fit is a wrong guess.
+pub fn narrowed(guess: usize) -> u32 {
+    u32::try_from(guess).unwrap_or(0)
+}
+
+// The kind of a text with these ends.
+fn kind(length: usize, first: u8, last: u8) -> usize {
+    ((length % 8 * 32) ^ (first as usize) ^ (last as usize * 8)) % KINDS
+}
+
+// The kind of a text; none where it is empty.
+fn kind_of(text: &[u8]) -> Option<usize> {
+    let first = text.first()?;
+    let last = text.last()?;
+    Some(kind(text.len(), *first, *last))
+}
+
+impl Guesses {
+    /// No guesses.
+    pub fn new(alloc: Global) -> Guesses {
+        Guesses {
+            numbers: Vec::new(alloc),
+        }
+    }
+
+    /// The number that a text may have. The empty one, as no namespace, mostly was kept first.
+    pub fn of(&self, text: &[u8]) -> usize {
+        match kind_of(text) {
+            Some(kind) => self.at(kind),
+            None => 0,
+        }
+    }
+
+    // The guess for a kind.
+    fn at(&self, kind: usize) -> usize {
+        match self.numbers.as_slice().get(kind) {
+            Some(number) => *number as usize,
+            None => 0,
+        }
+    }
+
+    /// From now on this text is looked for at this number, and so is each other of its kind.
+    pub fn put(&mut self, text: &[u8], number: usize) -> Result<(), NoMemory> {
+        while self.numbers.len() < KINDS {
+            self.numbers.push(0)?;
+        }
+        if let Some(kind) = kind_of(text) {
+            if let Some(guess) = self.numbers.get_mut(kind) {
+                *guess = narrowed(number);
+            }
+        }
+        Ok(())
+    }
+}
