@@ -10,7 +10,7 @@ use std::alloc::Global;
 /// A number for each of so many kinds of texts.
 const KINDS: usize = 256;
 
-/// The numbers of texts that were kept last, one for each kind; none before the first text is put.
+/// The numbers of the texts that were kept first, one for each kind; none before any text is put.
 #[derive(Drop)]
 pub struct Guesses {
     numbers: Vec<u32>,
@@ -57,15 +57,23 @@ impl Guesses {
         }
     }
 
-    /// From now on this text is looked for at this number, and so is each other of its kind.
+    // From now on this is the guess for a kind that has none.
+    fn put_at(&mut self, kind: usize, number: u32) {
+        if let Some(guess) = self.numbers.get_mut(kind) {
+            if *guess == 0 {
+                *guess = number;
+            }
+        }
+    }
+
+    /// From now on this text is looked for at this number, and so is each other of its kind, unless they have a guess: names that come
+    /// often mostly come early.
     pub fn put(&mut self, text: &[u8], number: usize) -> Result<(), NoMemory> {
         while self.numbers.len() < KINDS {
             self.numbers.push(0)?;
         }
         if let Some(kind) = kind_of(text) {
-            if let Some(guess) = self.numbers.get_mut(kind) {
-                *guess = narrowed(number);
-            }
+            self.put_at(kind, narrowed(number));
         }
         Ok(())
     }

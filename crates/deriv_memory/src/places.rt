@@ -37,6 +37,11 @@ const FIRST: Row = Row {
     named: [0; NAMED],
 };
 
+// Another number for a name, so that its blank values and its other ones have a guess each.
+fn beside(local: usize) -> usize {
+    local ^ 1
+}
+
 impl Row {
     // The guess for a call on this state.
     fn of(&self, call: &Asked) -> u32 {
@@ -46,21 +51,29 @@ impl Row {
             Asked::Blank(_) => self.blank,
             Asked::Solid(_) => self.solid,
             Asked::Enter(_, _, local) => self.named[*local % NAMED],
-            Asked::BlankValue(_, _, local) => self.named[*local % NAMED],
+            Asked::BlankValue(_, _, local) => self.named[beside(*local) % NAMED],
             Asked::SolidValue(_, _, local) => self.named[*local % NAMED],
         }
     }
 
-    // From now on this is the guess for this call.
+    // From now on this is the guess for names of the number's kind, unless they have one: names that come often mostly come early.
+    fn put_named(&mut self, local: usize, place: u32) {
+        let guess = &mut self.named[local % NAMED];
+        if *guess == 0 {
+            *guess = place;
+        }
+    }
+
+    // From now on this is the guess for this call, or for calls with names of its kind.
     fn put(&mut self, call: &Asked, place: u32) {
         match call {
             Asked::TagEnd(_) => self.tag_end = place,
             Asked::Leave(_) => self.leave = place,
             Asked::Blank(_) => self.blank = place,
             Asked::Solid(_) => self.solid = place,
-            Asked::Enter(_, _, local) => self.named[*local % NAMED] = place,
-            Asked::BlankValue(_, _, local) => self.named[*local % NAMED] = place,
-            Asked::SolidValue(_, _, local) => self.named[*local % NAMED] = place,
+            Asked::Enter(_, _, local) => self.put_named(*local, place),
+            Asked::BlankValue(_, _, local) => self.put_named(beside(*local), place),
+            Asked::SolidValue(_, _, local) => self.put_named(*local, place),
         }
     }
 }
@@ -79,7 +92,7 @@ impl Places {
         Some(row.of(call) as usize)
     }
 
-    /// From now on the answer of this call is looked for at this place.
+    /// From now on the answer of this call is looked for at this place; that of a call with a name, where its guess was free.
     pub fn put(&mut self, call: &Asked, place: usize) -> Result<(), NoMemory> {
         let state = call.state();
         while self.rows.len() <= state {
