@@ -71,7 +71,7 @@ fn close(state: &mut EventState, token: &Token, n: usize)
     state.elements.shorten(n);
     state.scope.shorten(outer);
     state.came = true;
-    state.run = None;
+    state.run.end();
 }
 
 /// Adds the items of an end tag.

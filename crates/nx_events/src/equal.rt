@@ -3,7 +3,7 @@
 ghost use Rattle.std.specs.Prelude.{◌≡◌, ◌↔◌, IsTrue};
 
 use crate::scope::Binding;
-use crate::state::{EventState, OpenElement, Run};
+use crate::state::{EventState, OpenElement, Pending, Run};
 use nx_base::equal::{Equal, same_each};
 
 impl Equal for Binding {
@@ -21,6 +21,12 @@ impl Equal for OpenElement {
 impl Equal for Run {
     fn equals(&self, other: &Run) -> bool {
         self.len == other.len && self.gap == other.gap && self.string.equals(&other.string)
+    }
+}
+
+impl Equal for Pending {
+    fn equals(&self, other: &Pending) -> bool {
+        self.get().equals(other.get())
     }
 }
 

@@ -143,7 +143,16 @@ fn push_front<'a>(
 pub(crate) fn string_of(alloc: Global, reading: Reading, bytes: &[u8]) -> Result<Bytes, NoMemory>
     ensures { IfOk result (λ string. string ≡ string_of reading bytes.now) }
 {
-    let mut out = Vec::with_capacity(alloc, bytes.len())?;
+    let string = string_in(Vec::with_capacity(alloc, bytes.len())?, reading, bytes)?;
+    Ok(string)
+}
+
+/// The same in memory that lay aside.
+pub(crate) fn string_in(memory: Vec<u8>, reading: Reading, bytes: &[u8]) -> Result<Bytes, NoMemory>
+    ensures { IfOk result (λ string. string ≡ string_of reading bytes.now) }
+{
+    let mut out = memory;
+    out.clear();
     let mut rest = bytes;
     while !rest.is_empty() {
         rest = push_front(reading, &mut out, rest)?;

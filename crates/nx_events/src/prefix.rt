@@ -38,7 +38,7 @@ pub enum TagPrefix {
 pub fn run_of(state: &EventState) -> Result<Option<Bytes>, NoMemory>
     ensures { IfOk result (λ string. string ≡ run_string state.now.run) }
 {
-    match &state.run {
+    match state.run.get() {
         None => Ok(None),
         Some(run) => {
             if run.string.is_empty() {

@@ -14,7 +14,7 @@ use crate::reading::Reading;
 use crate::scope::Bindings;
 use crate::stack::Stack;
 use crate::start_tag::{empty, open, push_empty, push_start};
-use crate::state::{EventState, pass_run, push_run};
+use crate::state::{EventState, Pending, push_run};
 use crate::text_token::{cdata_content, join, push_cdata, push_text};
 use nx_base::fault::{Kind, Span};
 use nx_base::memory::NoMemory;
@@ -32,7 +32,7 @@ pub fn begin(alloc: Global) -> Result<EventState, NoMemory>
         came: false,
         doctype: false,
         started: false,
-        run: None,
+        run: Pending::new(alloc),
     })
 }
 
@@ -133,9 +133,9 @@ fn pass_by_kind(
 {
     let bytes = token.bytes.as_slice();
     match token.kind {
-        TokenKind::Bom => pass_run(&mut state.run, token.bytes.len()),
-        TokenKind::Text => join(alloc, state, token, Reading::Text, bytes)?,
-        TokenKind::Cdata => join(alloc, state, token, Reading::Plain, cdata_content(bytes))?,
+        TokenKind::Bom => state.run.pass(token.bytes.len()),
+        TokenKind::Text => join(state, token, Reading::Text, bytes)?,
+        TokenKind::Cdata => join(state, token, Reading::Plain, cdata_content(bytes))?,
         TokenKind::Start => open(alloc, state, token, declared.own.as_slice())?,
         TokenKind::Empty => empty(state),
         TokenKind::End => end(state, token),
@@ -234,7 +234,7 @@ fn items_at_end(alloc: Global, state: &EventState, len: usize) -> Result<Items, 
 pub fn pending(state: &EventState) -> bool
     ensures { result ≡ is_some state.now.run }
 {
-    state.run.is_some()
+    state.run.get().is_some()
 }
 
 /// The number of open elements.
@@ -248,10 +248,6 @@ pub fn depth(state: &EventState) -> usize
 pub fn copy(alloc: Global, state: &EventState) -> Result<EventState, NoMemory>
     ensures { IfOk result (λ copied. copied ≡ state.now) }
 {
-    let run = match &state.run {
-        None => None,
-        Some(run) => Some(run.copy()?),
-    };
     let _ = alloc;
     Ok(EventState {
         elements: state.elements.copy()?,
@@ -259,6 +255,6 @@ pub fn copy(alloc: Global, state: &EventState) -> Result<EventState, NoMemory>
         came: state.came,
         doctype: state.doctype,
         started: state.started,
-        run,
+        run: state.run.copy()?,
     })
 }

@@ -4,7 +4,7 @@ ghost use Rattle.std.specs.Prelude.{◌≡◌, ◌+◌, ◌<◌, ◌^◌, length
 ghost use Rattle.nx_events.specs.Runs.{run_back};
 ghost use Rattle.nx_events.specs.Items.{is_inside, passed};
 
-use crate::state::{EventState, pass_run};
+use crate::state::EventState;
 use nx_base::token::Token;
 
 pub(crate) fn is_inside(state: &EventState) -> bool
@@ -18,6 +18,6 @@ pub(crate) fn pass(state: &mut EventState, token: &Token)
     requires { run_back state.old.run + length token.now.bytes < 2 ^ 64 }
     ensures { state.new ≡ passed state.old token.now }
 {
-    pass_run(&mut state.run, token.bytes.len());
+    state.run.pass(token.bytes.len());
     state.came = true;
 }

@@ -136,7 +136,7 @@ pub(crate) fn open(
     }
     state.came = true;
     state.started = true;
-    state.run = None;
+    state.run.end();
     Ok(())
 }
 
@@ -163,5 +163,5 @@ pub(crate) fn empty(state: &mut EventState)
 {
     state.came = true;
     state.started = true;
-    state.run = None;
+    state.run.end();
 }

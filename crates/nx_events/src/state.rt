@@ -1,6 +1,6 @@
 //! What is known between two tokens.
 
-ghost use Rattle.std.specs.Prelude.{◌≡◌, ◌+◌, ◌<◌, ◌≤◌, ◌^◌, ◌++◌, length, IfOk, OnOk, OnErr};
+ghost use Rattle.std.specs.Prelude.{◌≡◌, ◌+◌, ◌<◌, ◌≤◌, ◌^◌, ◌++◌, length, None, IfOk, OnOk, OnErr};
 ghost use Rattle.nx_events.specs.Runs.{run_passed, run_joined, run_back, run_items};
 
 use crate::item::{Event, Item, Items};
@@ -9,6 +9,9 @@ use crate::stack::{Named, Stack};
 use nx_base::fault::Span;
 use nx_base::memory::NoMemory;
 use nx_base::sequence::{Bytes, TryCopy};
+use std::alloc::Global;
+use std::marker::Model;
+use std::mem;
 
 /// An open element.
 #[derive(Drop)]
@@ -31,6 +34,23 @@ pub struct Run {
     pub gap: usize,
 }
 
+/// The run that is pending, if one is, and the memory of the one before it, in which the next one's string is put. To a
+/// contract it is the run.
+#[derive(Drop)]
+pub struct Pending {
+    run: Option<Run>,
+    spare: Vec<u8>,
+}
+
+impl Model for Pending {
+    ghost use Rattle.std.specs.Prelude.{Option};
+    ghost use Rattle.nx_events.specs.declared.state.Run.{Run};
+
+    ghost Value = { Option Run };
+
+    ghost view = { λ p. p.run };
+}
+
 /// What is known of the tokens so far. It holds no place of the text.
 #[derive(Drop)]
 pub struct EventState {
@@ -45,7 +65,7 @@ pub struct EventState {
     /// Whether a start tag or an empty-element tag came.
     pub(crate) started: bool,
     /// The text run that is pending.
-    pub(crate) run: Option<Run>,
+    pub(crate) run: Pending,
 }
 
 impl TryCopy for OpenElement {
@@ -75,46 +95,96 @@ impl TryCopy for Run {
     }
 }
 
-/// A run behind one more token of `n` bytes that isn't part of it.
-pub(crate) fn pass_run(run: &mut Option<Run>, n: usize)
-    requires { run_back run.old + n < 2 ^ 64 }
-    ensures { run.new ≡ run_passed n run.old }
-{
-    if let Some(run) = run {
-        run.gap += n;
+impl Pending {
+    /// No run.
+    pub(crate) fn new(alloc: Global) -> Pending
+        ensures { result ≡ None }
+    {
+        Pending {
+            run: None,
+            spare: Vec::new(alloc),
+        }
+    }
+
+    /// The run.
+    pub(crate) fn get(&self) -> &Option<Run>
+        ensures { result.now ≡ self.now }
+    {
+        &self.run
+    }
+
+    /// Gives away the memory that is kept.
+    pub(crate) fn give_spare(&mut self) -> Vec<u8>
+        ensures { self.new ≡ self.old }
+    {
+        let alloc = *self.spare.allocator();
+        mem::replace(&mut self.spare, Vec::new(alloc))
+    }
+
+    /// The run is over.
+    pub(crate) fn end(&mut self)
+        ensures { self.new ≡ None }
+    {
+        if let Some(run) = self.run.take() {
+            self.spare = run.string.into_vec();
+        }
+    }
+
+    /// The run behind one more token of `n` bytes that isn't part of it.
+    pub(crate) fn pass(&mut self, n: usize)
+        requires { run_back self.old + n < 2 ^ 64 }
+        ensures { self.new ≡ run_passed n self.old }
+    {
+        if let Some(run) = &mut self.run {
+            run.gap += n;
+        }
+    }
+
+    /// The run behind one more token of `n` bytes that has this string.
+    pub(crate) fn join(&mut self, string: Bytes, n: usize) -> Result<(), NoMemory>
+        requires { run_back self.old + n < 2 ^ 64 }
+        ensures ok { OnOk result (self.new ≡ run_joined string n self.old) }
+        ensures err { OnErr result (self.new ≡ self.old) }
+    {
+        match &mut self.run {
+            None => {
+                self.run = Some(Run {
+                    string,
+                    len: n,
+                    gap: 0,
+                });
+            }
+            Some(run) => {
+                run.string.append(string)?;
+                run.len = run.gap + run.len + n;
+                run.gap = 0;
+            }
+        }
+        Ok(())
     }
 }
 
-/// A run behind one more token of `n` bytes that has this string.
-pub(crate) fn join_run(run: &mut Option<Run>, string: Bytes, n: usize) -> Result<(), NoMemory>
-    requires { run_back run.old + n < 2 ^ 64 }
-    ensures ok { OnOk result (run.new ≡ run_joined string n run.old) }
-    ensures err { OnErr result (run.new ≡ run.old) }
-{
-    match run {
-        None => {
-            *run = Some(Run {
-                string,
-                len: n,
-                gap: 0,
-            });
-        }
-        Some(run) => {
-            run.string.append(string)?;
-            run.len = run.gap + run.len + n;
-            run.gap = 0;
-        }
+impl TryCopy for Pending {
+    // States are kept by the ten thousand, so the memory of runs that are over stays behind.
+    fn copy(&self) -> Result<Pending, NoMemory> {
+        let run = match &self.run {
+            None => None,
+            Some(run) => Some(run.copy()?),
+        };
+        Ok(Pending {
+            run,
+            spare: Vec::new(*self.spare.allocator()),
+        })
     }
-    Ok(())
 }
 
 /// Adds what a run gives that ends, where the last token ended at the place `at`.
 #[tactic(auto, unfolding(crate::specs::Runs::run_items))]
-pub(crate) fn push_run(items: &mut Items, at: usize, run: &Option<Run>) -> Result<(), NoMemory>
+pub(crate) fn push_run(items: &mut Items, at: usize, run: &Pending) -> Result<(), NoMemory>
     requires { run_back run.now ≤ at }
     ensures { OnOk result (items.new ≡ items.old ++ run_items at run.now) }
 {
-    if let Some(run) = run {
+    if let Some(run) = run.get() {
         if !run.string.is_empty() {
             let to = at - run.gap;
             let span = Span {

@@ -7,10 +7,10 @@ ghost use Rattle.nx_events.specs.Items.{cdata_items, text_items, joined};
 
 use crate::front::are_spaces;
 use crate::item::Items;
-use crate::piece::string_of;
+use crate::piece::string_in;
 use crate::reading::Reading;
 use crate::stage::{is_inside, pass};
-use crate::state::{EventState, join_run};
+use crate::state::EventState;
 use crate::token_fault::push_characters;
 use nx_base::fault::Kind;
 use nx_base::memory::NoMemory;
@@ -29,7 +29,6 @@ pub(crate) fn cdata_content(bytes: &[u8]) -> &[u8]
 
 // The state behind character data with this content.
 pub(crate) fn join(
-    alloc: Global,
     state: &mut EventState,
     token: &Token,
     reading: Reading,
@@ -40,8 +39,8 @@ pub(crate) fn join(
     ensures err { OnErr result (state.new ≡ state.old) }
 {
     if is_inside(state) {
-        let string = string_of(alloc, reading, content)?;
-        join_run(&mut state.run, string, token.bytes.len())?;
+        let string = string_in(state.run.give_spare(), reading, content)?;
+        state.run.join(string, token.bytes.len())?;
         state.came = true;
     } else {
         pass(state, token);

@@ -1,6 +1,6 @@
 use Rattle.std.proofs.Common.{sym, ◌∙◌}
 use Rattle.nx_events.proofs.Pieces.{string_whole}
-use Rattle.nx_events.proofs.piece.string_of.Goals as goal
+use Rattle.nx_events.proofs.piece.string_in.Goals as goal
 
 pub loop-rest-preserved : goal.loop-rest-preserved
 loop-rest-preserved c = c.in_ok-rest.ensures.string ∙ c.loop-rest.invariant
