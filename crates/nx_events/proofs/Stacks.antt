@@ -66,10 +66,24 @@ module _ {T : Type 0} (f : T → List ℕ) where
       a ∙ ap (λ k. one_name_more k inner name) l ∙ ap (λ ns. one_name_more (length items) ns name) i ∙ ap (one_name_more (length items) (behind_those f items)) n
       ∙ sym (behind_more items x) ∙ ap (behind_those f) (sym e)
 
-  pub popped_names : (items rest : List T) (x : T) (inner after : List (List ℕ)) (len : ℕ) → inner ≡ behind_those f items → len ≡ length rest →
+  popped_names : (items rest : List T) (x : T) (inner after : List (List ℕ)) (len : ℕ) → inner ≡ behind_those f items → len ≡ length rest →
       items ≡ rest ++ x ∷ [] → after ≡ one_name_less len inner → after ≡ behind_those f rest
   popped_names items rest x inner after len i l e a =
       a ∙ ap (λ k. one_name_less k inner) l ∙ ap (one_name_less (length rest)) (i ∙ ap (behind_those f) e) ∙ behind_less rest x
+
+  pub shortened_names : (items rest : List T) (inner after : List (List ℕ)) (len : ℕ) → inner ≡ behind_those f items → len ≡ length items → 0 < len →
+      rest ≡ take (length items - 1) items → after ≡ one_name_less (len - 1) inner → after ≡ behind_those f rest
+  shortened_names [] rest inner after len i l h r a = absurd (omega (arith, l, h))
+  shortened_names (y ∷ ys) rest inner after len i l h r a =
+      let xs : List T = y ∷ ys in
+      let x : T = get_or xs (len - 1) y in
+      let one : suc (len - 1) ≡ length xs = omega (arith, l, h) in
+      let less : len - 1 ≡ length xs - 1 = ap (λ n. n - 1) l in
+      let cut : xs ≡ rest ++ x ∷ [] =
+      all_before (length xs) xs (omega arith) ∙ ap (λ n. take n xs) (sym one) ∙ take-suc xs (len - 1) y (omega (arith, l, h))
+      ∙ ap (λ n. take n xs ++ x ∷ []) less ∙ ap (λ (zs : List T). zs ++ x ∷ []) (sym r) in
+      let size : len - 1 ≡ length rest = less ∙ sym (length-take-le (length xs - 1) xs (omega arith)) ∙ ap length (sym r) in
+      popped_names xs rest x inner after (len - 1) i size cut a
 
   -- the last of the first n
   pub last_of_front : (name : List ℕ) (xs : List T) (n : ℕ) (x : T) (t : Bool) → 0 < n → n ≤ length xs → x ≡ get_or xs (n - 1) x → bytes_eq (f x) name ≡ t →

@@ -44,6 +44,7 @@ mod nesting;
 mod other_token;
 pub mod prefix;
 pub mod reader;
+mod reusable;
 mod scope;
 mod stack;
 mod stage;

@@ -5,9 +5,10 @@ ghost use Rattle.std.specs.Prelude.{OnErr};
 ghost use Rattle.nx_events.specs.Places.{last_place, last_named, one_name_more, one_name_less};
 
 use crate::inner_names::InnerNames;
+use crate::reusable::Reusable;
 use nx_base::equal::same_each;
 use nx_base::memory::NoMemory;
-use nx_base::sequence::{Sequence, TryCopy};
+use nx_base::sequence::TryCopy;
 use std::alloc::Global;
 use std::marker::Model;
 
@@ -28,7 +29,7 @@ const LOOKED_THROUGH: usize = 32;
 #[derive(Drop)]
 pub struct Stack<T: Named> {
     alloc: Global,
-    items: Sequence<T>,
+    items: Reusable<T>,
     /// The names of those behind the first ones.
     inner: InnerNames,
 }
@@ -99,7 +100,7 @@ impl<T: Named + Drop> Stack<T> {
     {
         Stack {
             alloc,
-            items: Sequence::new(alloc),
+            items: Reusable::new(alloc),
             inner: InnerNames::new(),
         }
     }
@@ -110,7 +111,7 @@ impl<T: Named + Drop> Stack<T> {
     {
         Ok(Stack {
             alloc,
-            items: Sequence::from_vec(Vec::with_capacity(alloc, len)?),
+            items: Reusable::with_room(alloc, len)?,
             inner: InnerNames::new(),
         })
     }
@@ -149,10 +150,18 @@ impl<T: Named + Drop> Stack<T> {
     pub(crate) fn pop(&mut self)
         ensures { self.new ≡ take (length self.old - 1) self.old }
     {
-        if let Some(_) = self.items.pop() {
-            let len = self.items.len();
-            pop_name(&mut self.inner, len);
+        let len = self.items.len();
+        if len > 0 {
+            self.items.pop();
+            pop_name(&mut self.inner, len - 1);
         }
+    }
+
+    /// A thing that was taken off, for its memory, and this one in its place; this one where there is none.
+    pub(crate) fn swap_spare(&mut self, item: T) -> T
+        ensures { self.new ≡ self.old }
+    {
+        self.items.swap_spare(item)
     }
 
     /// Leaves so many things at the front.
@@ -179,7 +188,7 @@ impl<T: Named + Drop> Stack<T> {
     pub(crate) fn last_named(&self, name: &[u8]) -> Option<&T>
         ensures { option_copied result ≡ last_named T.name_of name.now self.now }
     {
-        self.items.get(self.last_place(name)?)
+        self.items.as_slice().get(self.last_place(name)?)
     }
 }
 

@@ -16,10 +16,11 @@ use crate::reading::Reading;
 use crate::scope::{Binding, Bindings};
 use crate::stage::is_inside;
 use crate::state::{EventState, OpenElement, push_run};
-use crate::tag::{copy_of, is_name_alone, start_name, tag_attributes};
+use crate::tag::{is_name_alone, start_name, tag_attributes};
 use crate::tag_names::TagNames;
 use crate::token_fault::token_span;
 use nx_base::memory::NoMemory;
+use nx_base::sequence::Bytes;
 use nx_base::token::Token;
 use std::alloc::Global;
 
@@ -113,6 +114,16 @@ pub(crate) fn push_start(
     Ok(own)
 }
 
+// A copy of the bytes, in the memory of an element that is over.
+fn written_in(spare: OpenElement, bytes: &[u8]) -> Result<Bytes, NoMemory>
+    ensures { IfOk result (λ copied. copied ≡ bytes.now) }
+{
+    let mut memory = spare.written.into_vec();
+    memory.clear();
+    memory.extend_from_slice(bytes)?;
+    Ok(Bytes::from_vec(memory))
+}
+
 // The state inside of an element that declares these pairs.
 pub(crate) fn open(
     alloc: Global,
@@ -125,8 +136,12 @@ pub(crate) fn open(
     ensures err { OnErr result (state.new ≡ state.old) }
 {
     let depth = state.elements.len();
+    let spare = state.elements.swap_spare(OpenElement {
+        written: Bytes::new(alloc),
+        outer: 0,
+    });
     let element = OpenElement {
-        written: copy_of(alloc, start_name(token.bytes.as_slice()))?,
+        written: written_in(spare, start_name(token.bytes.as_slice()))?,
         outer: state.scope.len(),
     };
     state.elements.push(element)?;
