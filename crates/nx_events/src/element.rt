@@ -1,18 +1,19 @@
 //! The element of a tag, and its attributes (Namespaces in XML 1.0, sections 5 and 6).
 
-ghost use Rattle.std.specs.Prelude.{◌≡◌, ◌++◌, [], ◌∷◌, List, Some, IfOk, OnOk};
+ghost use Rattle.std.specs.Prelude.{◌≡◌, ◌++◌, [], ◌∷◌, List, Some, option_copied, IfOk, OnOk};
 ghost use Rattle.nx_events.specs.Faults.{faults_as_items};
 ghost use Rattle.nx_base.specs.declared.name.Name.{Name};
 ghost use Rattle.nx_events.specs.Elements.{flawed_as, declared_or_flaw, element_resolved, element_items, new_or_flaw, attribute_declared};
 ghost use Rattle.nx_events.specs.Elements.{declared_if_attribute, attribute_item, kept_name, attribute_items};
 ghost use Rattle.nx_events.specs.OpenItems.{kept_names, name_resolved, new_name};
+ghost use Rattle.nx_events.specs.Scopes.{named_by};
 ghost use Rattle.nx_events.specs.SeenNames.{AreKept, new_of};
 
 use crate::flaw::{Flaw, Resolved};
 use crate::item::{Event, Item, Items};
 use crate::namespace::{is_declaration, push_flaw};
 use crate::qname::{parted, prefix_of};
-use crate::scope::{Bindings, expand_attribute, expand_element};
+use crate::scope::{Bindings, attribute_uri, element_uri};
 use crate::tag::{Attribute, copy_of};
 use crate::tag_names::TagNames;
 use nx_base::fault::{Kind, Span};
@@ -31,12 +32,20 @@ fn flawed(alloc: Global, kind: Kind, detail: &[u8]) -> Result<Resolved, NoMemory
     }))
 }
 
-// The name, or that its prefix is undeclared.
-fn declared_or_flaw(alloc: Global, name: Option<Name>, written: &[u8]) -> Result<Resolved, NoMemory>
-    ensures { IfOk result (λ resolved. resolved ≡ declared_or_flaw name written.now) }
+// The name with its namespace, or that its prefix is undeclared.
+fn declared_or_flaw(
+    alloc: Global,
+    uri: Option<&[u8]>,
+    local: &[u8],
+    written: &[u8],
+) -> Result<Resolved, NoMemory>
+    ensures { IfOk result (λ resolved. resolved ≡ declared_or_flaw (named_by (option_copied uri.entry) local.now) written.now) }
 {
-    match name {
-        Some(name) => Ok(Resolved::Named(name)),
+    match uri {
+        Some(uri) => Ok(Resolved::Named(Name {
+            ns: copy_of(alloc, uri)?,
+            local: copy_of(alloc, local)?,
+        })),
         None => {
             let resolved = flawed(alloc, Kind::UndeclaredPrefix, prefix_of(written))?;
             Ok(resolved)
@@ -63,8 +72,8 @@ pub(crate) fn element_resolved(
         let resolved = flawed(alloc, Kind::BadName, written)?;
         return Ok(resolved);
     };
-    let name = expand_element(alloc, outer, own, parts.prefix, parts.local)?;
-    let resolved = declared_or_flaw(alloc, name, written)?;
+    let uri = element_uri(outer, own, parts.prefix);
+    let resolved = declared_or_flaw(alloc, uri, parts.local, written)?;
     Ok(resolved)
 }
 
@@ -128,8 +137,8 @@ fn attribute_declared(
         let resolved = flawed(alloc, Kind::BadName, written)?;
         return Ok(resolved);
     };
-    let name = expand_attribute(alloc, outer, own, parts.prefix, parts.local)?;
-    let declared = declared_or_flaw(alloc, name, written)?;
+    let uri = attribute_uri(outer, own, parts.prefix);
+    let declared = declared_or_flaw(alloc, uri, parts.local, written)?;
     Ok(declared)
 }
 

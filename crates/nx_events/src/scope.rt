@@ -1,14 +1,11 @@
 //! Namespace declarations in force (Namespaces in XML 1.0, sections 3, 5 and 6).
 
-ghost use Rattle.std.specs.Prelude.{◌≡◌, ◌++◌, IfOk, option_copied};
-ghost use Rattle.nx_events.specs.Scopes.{last_uri, bound_uri, element_uri, attribute_uri, named_by};
+ghost use Rattle.std.specs.Prelude.{◌≡◌, ◌++◌, option_copied};
+ghost use Rattle.nx_events.specs.Scopes.{last_uri, bound_uri, element_uri, attribute_uri};
 
 use crate::stack::{Named, Stack};
-use crate::tag::copy_of;
 use nx_base::memory::NoMemory;
-use nx_base::name::Name;
 use nx_base::sequence::{Bytes, TryCopy};
-use std::alloc::Global;
 
 /// A prefix, empty for the default namespace, and the URI that it is bound to.
 #[derive(Drop)]
@@ -72,8 +69,13 @@ fn bound_uri<'a>(outer: &'a Bindings, own: &'a Bindings, prefix: &[u8]) -> Optio
     }
 }
 
+/// The namespace of an element of this prefix that has these declarations around it and these of its own.
 #[tactic(auto, unfolding(crate::specs::Scopes::element_uri))]
-fn element_uri<'a>(outer: &'a Bindings, own: &'a Bindings, prefix: &[u8]) -> Option<&'a [u8]>
+pub(crate) fn element_uri<'a>(
+    outer: &'a Bindings,
+    own: &'a Bindings,
+    prefix: &[u8],
+) -> Option<&'a [u8]>
     ensures { option_copied result ≡ element_uri (outer.now ++ own.now) prefix.now }
 {
     match prefix {
@@ -85,53 +87,17 @@ fn element_uri<'a>(outer: &'a Bindings, own: &'a Bindings, prefix: &[u8]) -> Opt
     }
 }
 
+/// The same of an attribute of such an element.
 #[tactic(auto, unfolding(crate::specs::Scopes::attribute_uri))]
-fn attribute_uri<'a>(outer: &'a Bindings, own: &'a Bindings, prefix: &[u8]) -> Option<&'a [u8]>
+pub(crate) fn attribute_uri<'a>(
+    outer: &'a Bindings,
+    own: &'a Bindings,
+    prefix: &[u8],
+) -> Option<&'a [u8]>
     ensures { option_copied result ≡ attribute_uri (outer.now ++ own.now) prefix.now }
 {
     match prefix {
         [] => Some(&[]),
         [_, ..] => bound_uri(outer, own, prefix),
     }
-}
-
-// The name with its URI, if there is one.
-fn named_by(alloc: Global, uri: Option<&[u8]>, local: &[u8]) -> Result<Option<Name>, NoMemory>
-    ensures { IfOk result (λ name. name ≡ named_by (option_copied uri.entry) local.now) }
-{
-    match uri {
-        None => Ok(None),
-        Some(uri) => Ok(Some(Name {
-            ns: copy_of(alloc, uri)?,
-            local: copy_of(alloc, local)?,
-        })),
-    }
-}
-
-/// The expanded name of an element that has these declarations around it and these of its own.
-pub(crate) fn expand_element(
-    alloc: Global,
-    outer: &Bindings,
-    own: &Bindings,
-    prefix: &[u8],
-    local: &[u8],
-) -> Result<Option<Name>, NoMemory>
-    ensures { IfOk result (λ name. name ≡ named_by (element_uri (outer.now ++ own.now) prefix.now) local.now) }
-{
-    let name = named_by(alloc, element_uri(outer, own, prefix), local)?;
-    Ok(name)
-}
-
-/// The expanded name of an attribute of such an element.
-pub(crate) fn expand_attribute(
-    alloc: Global,
-    outer: &Bindings,
-    own: &Bindings,
-    prefix: &[u8],
-    local: &[u8],
-) -> Result<Option<Name>, NoMemory>
-    ensures { IfOk result (λ name. name ≡ named_by (attribute_uri (outer.now ++ own.now) prefix.now) local.now) }
-{
-    let name = named_by(alloc, attribute_uri(outer, own, prefix), local)?;
-    Ok(name)
 }
