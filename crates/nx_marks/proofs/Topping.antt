@@ -1,16 +1,13 @@
 -- The marks of a tree, and the last one apart.
 use Rattle.std.proofs.Common.{◌≡◌, ◌⊎◌, inl, inr, ℕ, ◌+◌, ◌-◌, ◌^◌, ◌<◌, ◌≤◌, true, false, List, [], ◌∷◌, ◌++◌, length, refl, sym, ap, subst, ◌∙◌, arith, append_assoc}
-use Rattle.std.specs.Prelude.{if◌then◌else◌, nat_le, min, Option, None, Some, Result, Ok, Err, OnOk, OnErr}
+use Rattle.std.specs.Prelude.{if◌then◌else◌, nat_le, min, Option, None, Some}
 use Rattle.std.specs.Option.{option_to_list}
 use Rattle.std.proofs.lemmas.Bool.Decides.{nat_tests}
 use Rattle.std.proofs.lemmas.List.{append-nil, length-append}
-use Rattle.nx_base.specs.declared.fault.Fault.{Fault}
-use Rattle.nx_base.specs.Rules.{Lexeme}
 use Rattle.nx_marks.specs.Before.{LiesInFront}
 use Rattle.nx_marks.specs.Chain.{reach}
 use Rattle.nx_marks.specs.Right.{tags_behind}
 use Rattle.nx_marks.specs.Room.{Reaches}
-use Rattle.nx_marks.specs.Taking.{longer}
 use Rattle.nx_marks.specs.Tree.{IsAt, count_up_to}
 use Rattle.nx_marks.specs.declared.mark.Mark.{Mark}
 use Rattle.nx_marks.proofs.Backs.{reach-append}
@@ -165,24 +162,9 @@ settled-far xs before one top x lt e f g =
     let d = ap reach g in
     omega arith
 
--- what is left when the last one goes
-pub popped : {S : Type 0} (xs ys all : List (Mark S)) (x y : Mark S) (far far' : ℕ) → Reaches all far → all ≡ ys ++ x ∷ [] → y ≡ x → xs ≡ ys → far' ≡ far - y.len → Reaches xs far'
-popped {S = S} xs ys all x y far far' r e f g h = record {
-  reaches = (let a = r.reaches in let b = ap reach e in let c = reach-append ys (x ∷ []) in let d = ap reach g in let n = ap (λ (m : Mark S). m.len) f in omega arith);
-  counted = (let a = r.counted in let b = ap length e in let c = length-append ys (x ∷ []) in let d = ap length g in omega arith);
-}
-
-pub last-far : {S : Type 0} (ys all : List (Mark S)) (x y : Mark S) (far : ℕ) → Reaches all far → all ≡ ys ++ x ∷ [] → y ≡ x → y.len ≤ far
-last-far {S = S} ys all x y far r e f = let a = r.reaches in let b = ap reach e in let c = reach-append ys (x ∷ []) in let n = ap (λ (m : Mark S). m.len) f in omega arith
-
 -- one more
 pub pushed : {S : Type 0} (all xs : List (Mark S)) (x y : Mark S) (far far' : ℕ) {was : List (Mark S)} → Reaches was far → was ≡ all → xs ≡ was → length all + 1 < 2 ^ 64 → y ≡ x → far' ≡ far + y.len → Reaches (xs ++ x ∷ []) far'
 pushed {S = S} all xs x y far far' r are e lt f g = record {
   reaches = (let a = r.reaches in let b = ap reach e in let c = reach-append xs (x ∷ []) in let n = ap (λ (m : Mark S). m.len) f in omega arith);
   counted = (let b = ap length (e ∙ are) in let c = length-append xs (x ∷ []) in omega arith);
 }
-
--- one more token
-pub lengthened-far : {T E S : Type 0} (r : Result T E) (far : ℕ) (old new : Mark S) (token : Lexeme) (more : List Fault) → OnOk r (new ≡ longer old token more) → OnErr r (new ≡ old) → far + old.len + length token.bytes < 2 ^ 64 → far + new.len < 2 ^ 64
-lengthened-far {S = S} (Ok v) far old new token more e f lt = let n = ap (λ (m : Mark S). m.len) e in omega arith
-lengthened-far {S = S} (Err x) far old new token more e f lt = let n = ap (λ (m : Mark S). m.len) f in omega arith

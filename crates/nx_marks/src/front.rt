@@ -60,6 +60,18 @@ fn settle<S: Drop>(below: &mut Tree<S>, top: &mut Option<Single<S>>)
     }
 }
 
+/// Takes the last mark off.
+fn taken_off<S: Drop>(below: &mut Tree<S>, top: &mut Option<Single<S>>) -> Single<S>
+    requires { 0 < length (below.old ++ option_to_list top.old) }
+    ensures all { below.old ++ option_to_list top.old ≡ below.new ++ result ∷ [] }
+    ensures top { top.new ≡ None }
+{
+    match top.take() {
+        Some(last) => last,
+        None => below.pop_last(),
+    }
+}
+
 impl<S: Drop> Front<S> {
     /// No marks.
     pub(crate) fn empty() -> Front<S>
@@ -194,21 +206,6 @@ impl<S: Drop> Front<S> {
         self.reach += len;
         self.top = Some(mark);
     }
-
-    /// Takes the last mark away.
-    pub(crate) fn pop(&mut self) -> Single<S>
-        requires { 0 < length self.old }
-        ensures all { self.old ≡ self.new ++ result ∷ [] }
-        ensures count { length self.new + 1 < 2 ^ 64 }
-    {
-        let last = match self.top.take() {
-            Some(top) => top,
-            None => self.below.pop_last(),
-        };
-        let len = last.get().len;
-        self.reach -= len;
-        last
-    }
 }
 
 /// Has the machine take one more token, and makes the segment of the last mark longer by it, with its faults. How many tags lie
@@ -241,10 +238,12 @@ pub(crate) fn lengthen_last<A: Machine>(
     ensures unchanged { OnErr result (A.means machine.new state.new ≡ A.means machine.old state.old) }
     ensures same { OnErr result (front.new ≡ front.old) }
 {
-    let mut last = front.pop();
+    let mut last = taken_off(&mut front.below, &mut front.top);
+    let count = token.bytes.len();
     let taken = lengthen(alloc, machine, state, token, &mut last.node.mark);
     let tags = last.get().tags;
-    front.push(last);
+    front.top = Some(last);
     taken?;
+    front.reach += count;
     Ok(tags)
 }
