@@ -1,5 +1,6 @@
 -- Behind an edit the row of the first mark aside ends where the frontier was.
 use Rattle.std.proofs.Common.{◌≡◌, inl, inr, ℕ, ◌+◌, ◌-◌, ◌<◌, ◌≤◌, Bool, true, false, ◌||◌, nat_lt, List, [], ◌∷◌, ◌++◌, length, refl, sym, ap, subst, ◌∙◌, arith}
+use Rattle.std.proofs.lemmas.List.{append-nil}
 use Rattle.std.specs.Prelude.{if◌then◌else◌}
 use Rattle.nx_marks.specs.Chain.{AreWhole, reach, Kept, frontier_of}
 use Rattle.nx_marks.specs.Editing.{edit_noted, place_after, stays, first_kept, broken, kept_mark, kept_marks, split}
@@ -72,10 +73,6 @@ row-kept {S = S} from to added q e (x ∷ ws) z le w start at lt =
           + row_len (if b then kept_mark from to added q x (first_kept from to (q + x.len) rest) ∷ kept_marks from to added (q + x.len) rest else kept_marks from to added (q + x.len) rest) ≡ place_after from to added e in
           subst P (sym (gone-between from to q start between)) on)
     ]
-
-append-nil : {S : Type 0} (xs : List (Mark S)) → xs ++ [] ≡ xs
-append-nil [] = refl
-append-nil (x ∷ xs) = ap (λ l. x ∷ l) (append-nil xs)
 
 -- where nothing was aside and a mark or the frontier lies behind the edit, the first row aside ends where the frontier was
 pub edit_row : {S : Type 0} (from to added : ℕ) (k : Kept S) → from ≤ to → AreWhole k.front → k.here.whole ≡ false → k.aside ≡ [] → to < frontier_of k →

@@ -1,5 +1,6 @@
 -- Marks stay right when some aside are let go, and when a row is joined.
 use Rattle.std.proofs.Common.{◌≡◌, inl, inr, ℕ, ◌+◌, ◌<◌, ◌≤◌, Bool, true, false, ◌&&◌, nat_le, List, [], ◌∷◌, ◌++◌, length, refl, sym, ap, subst, ◌∙◌, arith, append_assoc}
+use Rattle.std.proofs.lemmas.List.{append-nil}
 use Rattle.std.specs.Prelude.{if◌then◌else◌}
 use Rattle.std.proofs.lemmas.Bool.Decides.{nat_tests}
 use Rattle.nx_base.specs.Rules.{Rules, RulesLaws}
@@ -50,10 +51,6 @@ module _ {S M : Type 0} (is_state : S → Type 0) (means : S → M) (r : Rules M
   tags-behind-some [] y ys = refl
   tags-behind-some (x ∷ []) y ys = refl
   tags-behind-some (x ∷ z ∷ xs) y ys = tags-behind-some (z ∷ xs) y ys
-
-  append-nil : (xs : List (Mark S)) → xs ++ [] ≡ xs
-  append-nil [] = refl
-  append-nil (x ∷ xs) = ap (λ l. x ∷ l) (append-nil xs)
 
   longer-some : (xs : List (Mark S)) (y : Mark S) (ys : List (Mark S)) → 0 < length (xs ++ y ∷ ys)
   longer-some [] y ys = omega arith

@@ -1,8 +1,7 @@
 -- Marks aside are passed, or followed.
 use Rattle.std.proofs.Common.{◌≡◌, ◌⊎◌, inl, inr, ℕ, ◌+◌, ◌<◌, ◌≤◌, Bool, true, false, nat_le, List, [], ◌∷◌, ◌++◌, length, refl, sym, ap, subst, ◌∙◌, arith}
 use Rattle.std.specs.Prelude.{if◌then◌else◌}
-use Rattle.std.proofs.lemmas.List.{length-append}
-use Rattle.std.proofs.lemmas.Bool.Decides.{nat_tests}
+use Rattle.std.proofs.lemmas.List.{length-append, append-nil}
 use Rattle.nx_marks.specs.Chain.{AreWhole, Kept}
 use Rattle.nx_marks.specs.Editing.{split}
 use Rattle.nx_marks.specs.Taking.{let_go}
@@ -10,6 +9,7 @@ use Rattle.nx_marks.specs.Tree.{whole_count}
 use Rattle.nx_marks.specs.Walking.{MovesOn, DropsNext, PassesNext, PassesUpTo, TakesNext, Follows, farther}
 use Rattle.nx_marks.specs.declared.mark.Mark.{Mark}
 use Rattle.nx_marks.proofs.Splits.{split-on, split-off}
+use Rattle.nx_marks.proofs.Trees.{fits-up-to, goes-beyond, is-empty}
 
 abbrev pub gone_from : {S : Type 0} → ℕ → Kept S → Kept S
 gone_from n k = let_go n k.here k.front k.marked k.aside
@@ -17,14 +17,8 @@ gone_from n k = let_go n k.here k.front k.marked k.aside
 pub record LettingGo {S : Type 0} (n : ℕ) (old now : Kept S) : Type 0 where
   pub same : gone_from n now ≡ gone_from n old
 
-not_within : (n m : ℕ) → m < n → nat_le n m ≡ false
-not_within n m h = grind (arith, nat_tests)
-
-is_within : (n m : ℕ) → n ≤ m → nat_le n m ≡ true
-is_within n m h = grind (arith, nat_tests)
-
 go_one : {S : Type 0} (n : ℕ) (here : Mark S) (front : List (Mark S)) (marked : Bool) (y : Mark S) (ys : List (Mark S)) → here.len < n → let_go n here front marked (y ∷ ys) ≡ let_go n (farther here y.len) front marked ys
-go_one n here front marked y ys lt = by (nat_le n here.len) (not_within n here.len lt)
+go_one n here front marked y ys lt = by (nat_le n here.len) (goes-beyond n here.len lt)
   where
     by : (b : Bool) → b ≡ false → (if b then record { front = front; here = here; marked = marked; aside = y ∷ ys } else let_go n (farther here y.len) front marked ys) ≡ let_go n (farther here y.len) front marked ys
     by true e = absurd (cc)
@@ -63,7 +57,7 @@ go_idle n k some le = by k.aside some
   where
     by : (l : List (Mark _)) → 0 < length l → let_go n k.here k.front k.marked l ≡ record { front = k.front; here = k.here; marked = k.marked; aside = l }
     by [] lt = absurd (omega arith)
-    by (y ∷ ys) lt = rw (is_within n k.here.len le) refl
+    by (y ∷ ys) lt = rw (fits-up-to n k.here.len le) refl
 
 -- ---- the row at hand
 
@@ -72,10 +66,6 @@ kept_of front here marked aside = record { front = front; here = here; marked = 
 
 abbrev followed : {S : Type 0} → List (Mark S) → Bool → Mark S → List (Mark S) → Kept S
 followed front marked here aside = let row = split marked here aside in record { front = front ++ row.front; here = row.here; marked = marked; aside = row.aside }
-
-append-nil : {S : Type 0} (xs : List (Mark S)) → xs ++ [] ≡ xs
-append-nil [] = refl
-append-nil (x ∷ xs) = ap (λ l. x ∷ l) (append-nil xs)
 
 -- whole marks are passed, up to the first that isn't or the last of all
 pub split-passed : {S : Type 0} (marked : Bool) (x : Mark S) (more : List (Mark S)) (y : Mark S) (ys : List (Mark S)) → x.whole ≡ true → AreWhole more → (ys ≡ []) ⊎ (y.whole ≡ false) → split marked x (more ++ y ∷ ys) ≡ kept_of (x ∷ more) y marked ys
@@ -109,10 +99,6 @@ whole-next (x ∷ xs) y ys e = by x.whole e (λ h. whole-next xs y ys h)
     by true h rest = rest (omega arith)
     by false h rest = absurd (omega arith)
 
-none-left : {S : Type 0} (xs : List (Mark S)) → length xs ≤ 0 → xs ≡ []
-none-left [] h = refl
-none-left (x ∷ xs) h = absurd (omega arith)
-
 -- so many of those aside were passed: the whole ones and one more, if there is one
 pub followed_on : {S : Type 0} (n whole : ℕ) (old new : Kept S) → old.here.whole ≡ true → whole ≡ whole_count old.aside → (n ≤ whole + 1) × (n ≤ length old.aside) → (n ≡ length old.aside) ⊎ (n ≡ whole + 1) → MovesOn n old new → Follows old new
 followed_on {S = S} n whole old new w e le or (inl same) = same.1 ∙ by old.aside (zero or)
@@ -132,7 +118,7 @@ followed_on {S = S} n whole old new w e le or (inr m) =
     wholes = let C : List (Mark S) → Type 0 = λ l. length m.more ≤ whole_count l in whole-within m.more (new.here ∷ new.aside) (subst C m.aside (omega (arith, m.many, le.0)))
 
     ended : (n ≡ length old.aside) ⊎ (n ≡ whole + 1) → (new.aside ≡ []) ⊎ (new.here.whole ≡ false)
-    ended (inl z) = inl (none-left new.aside (let l = ap length m.aside in let a = length-append m.more (new.here ∷ new.aside) in omega (arith, m.many)))
+    ended (inl z) = inl (is-empty new.aside (let l = ap length m.aside in let a = length-append m.more (new.here ∷ new.aside) in omega (arith, m.many)))
     ended (inr z) = let C : List (Mark S) → Type 0 = λ l. whole_count l ≡ length m.more in inr (whole-next m.more new.here new.aside (subst C m.aside (omega (arith, m.many))))
 
 -- one that isn't whole is no row

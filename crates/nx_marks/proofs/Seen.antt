@@ -1,6 +1,6 @@
 -- What is seen of a line where all that is aside is in front of the frontier.
 use Rattle.std.proofs.Common.{◌≡◌, ◌⊎◌, inl, inr, ℕ, ◌+◌, ◌-◌, ◌<◌, ◌≤◌, Bool, true, false, List, [], ◌∷◌, ◌++◌, length, refl, sym, ap, subst, ◌∙◌, arith, append_assoc}
-use Rattle.std.proofs.lemmas.List.{length-append}
+use Rattle.std.proofs.lemmas.List.{length-append, append-nil}
 use Rattle.nx_marks.specs.Chain.{AreWhole, Kept, all_of, frontier_of, reach}
 use Rattle.nx_marks.specs.Editing.{noted, split}
 use Rattle.nx_marks.specs.Joined.{but_last, last, seen}
@@ -13,10 +13,7 @@ use Rattle.nx_marks.proofs.Cutting.{front-same}
 use Rattle.nx_marks.proofs.Holding.{longer}
 use Rattle.nx_marks.proofs.Topping.{tags-last}
 use Rattle.nx_marks.proofs.Passing.{split-passed, whole-within}
-
-append-nil : {S : Type 0} (xs : List (Mark S)) → xs ++ [] ≡ xs
-append-nil [] = refl
-append-nil (x ∷ xs) = ap (λ l. x ∷ l) (append-nil xs)
+use Rattle.nx_marks.proofs.Trees.{is-empty}
 
 pub parts : {S : Type 0} (x : Mark S) (ys : List (Mark S)) → but_last x ys ++ last x ys ∷ [] ≡ x ∷ ys
 parts x [] = refl
@@ -48,14 +45,10 @@ pub but-last-behind : {S : Type 0} (x : Mark S) (ys : List (Mark S)) (z : Mark S
 but-last-behind x [] z = refl
 but-last-behind x (y ∷ ys) z = ap (λ l. x ∷ l) (but-last-behind y ys z)
 
-none-left : {S : Type 0} (xs : List (Mark S)) → length xs ≤ 0 → xs ≡ []
-none-left [] h = refl
-none-left (x ∷ xs) h = absurd (omega arith)
-
 -- all that was aside is passed
 pub arrived : {S : Type 0} (old now : Kept S) → MovesOn (length old.aside) old now → now ≡ seen true old
 unfolding kept_of
-arrived {S = S} old now (inl same) = same.1 ∙ sym (seen-none true old (none-left old.aside (omega (arith, same.0))))
+arrived {S = S} old now (inl same) = same.1 ∙ sym (seen-none true old (is-empty old.aside (omega (arith, same.0))))
 arrived {S = S} old now (inr m) =
     ap (λ l. kept_of l now.here now.marked now.aside) m.front
     ∙ ap (λ b. kept_of (old.front ++ old.here ∷ m.more) now.here b now.aside) m.marked
@@ -64,7 +57,7 @@ arrived {S = S} old now (inr m) =
     ∙ ap (λ x. kept_of (old.front ++ but_last old.here old.aside) x old.marked []) (sym (ap (last old.here) list ∙ last-behind old.here m.more now.here))
   where
     none : now.aside ≡ []
-    none = none-left now.aside (let l = ap length m.aside in let a = length-append m.more (now.here ∷ now.aside) in omega (arith, m.many))
+    none = is-empty now.aside (let l = ap length m.aside in let a = length-append m.more (now.here ∷ now.aside) in omega (arith, m.many))
 
     list : old.aside ≡ m.more ++ now.here ∷ []
     list = m.aside ∙ ap (λ l. m.more ++ now.here ∷ l) none
@@ -80,7 +73,7 @@ pub record Ends {S : Type 0} (marks : List (Mark S)) (x : Mark S) (place : ℕ) 
 pub ends-with : {S : Type 0} (marks : List (Mark S)) (n place : ℕ) (x : Mark S) → n + 1 ≡ length marks → IsAt marks n place x → Ends marks x place
 ends-with marks n place x e i = record {
   earlier = i.earlier;
-  are = i.are ∙ ap (λ l. i.earlier ++ x ∷ l) (none-left i.later (let a = ap length i.are in let b = length-append i.earlier (x ∷ i.later) in let c = i.count in omega arith));
+  are = i.are ∙ ap (λ l. i.earlier ++ x ∷ l) (is-empty i.later (let a = ap length i.are in let b = length-append i.earlier (x ∷ i.later) in let c = i.count in omega arith));
   there = i.there;
 }
 

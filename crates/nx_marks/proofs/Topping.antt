@@ -1,8 +1,7 @@
 -- The marks of a tree, and the last one apart.
-use Rattle.std.proofs.Common.{◌≡◌, ◌⊎◌, inl, inr, ℕ, ◌+◌, ◌-◌, ◌^◌, ◌<◌, ◌≤◌, true, false, List, [], ◌∷◌, ◌++◌, length, refl, sym, ap, subst, ◌∙◌, arith, append_assoc}
-use Rattle.std.specs.Prelude.{if◌then◌else◌, nat_le, min, Option, None, Some}
+use Rattle.std.proofs.Common.{◌≡◌, ◌⊎◌, inl, inr, ℕ, ◌+◌, ◌-◌, ◌^◌, ◌<◌, ◌≤◌, List, [], ◌∷◌, ◌++◌, length, refl, sym, ap, subst, ◌∙◌, arith, append_assoc}
+use Rattle.std.specs.Prelude.{if◌then◌else◌, min, Option, None, Some}
 use Rattle.std.specs.Option.{option_to_list}
-use Rattle.std.proofs.lemmas.Bool.Decides.{nat_tests}
 use Rattle.std.proofs.lemmas.List.{append-nil, length-append}
 use Rattle.nx_marks.specs.Before.{LiesInFront}
 use Rattle.nx_marks.specs.Chain.{reach}
@@ -12,44 +11,39 @@ use Rattle.nx_marks.specs.Tree.{IsAt, count_up_to}
 use Rattle.nx_marks.specs.declared.mark.Mark.{Mark}
 use Rattle.nx_marks.proofs.Backs.{reach-append}
 use Rattle.nx_marks.proofs.Walking.{up-to-next, up-to-within}
+use Rattle.nx_marks.proofs.Trees.{fits-up-to, goes-beyond, is-empty}
 
 -- ---- how many reach no farther than a place
-
-at-most : (a b : ℕ) → a ≤ b → nat_le a b ≡ true
-at-most a b h = grind (arith, nat_tests)
-
-more-than : (a b : ℕ) → b < a → nat_le a b ≡ false
-more-than a b h = grind (arith, nat_tests)
 
 one-or-none : (a b : ℕ) → (a ≤ b) ⊎ (b < a)
 one-or-none a b = grind arith
 
-count-on : {S : Type 0} (at : ℕ) (x : Mark S) (xs : List (Mark S)) → x.len ≤ at → count_up_to at (x ∷ xs) ≡ 1 + count_up_to (at - x.len) xs
-count-on at x xs le = ap (λ b. if b then 1 + count_up_to (at - x.len) xs else 0) (at-most x.len at le)
+counts-on : {S : Type 0} (at : ℕ) (x : Mark S) (xs : List (Mark S)) → x.len ≤ at → count_up_to at (x ∷ xs) ≡ 1 + count_up_to (at - x.len) xs
+counts-on at x xs le = ap (λ b. if b then 1 + count_up_to (at - x.len) xs else 0) (fits-up-to x.len at le)
 
-count-stop : {S : Type 0} (at : ℕ) (x : Mark S) (xs : List (Mark S)) → at < x.len → count_up_to at (x ∷ xs) ≡ 0
-count-stop at x xs lt = ap (λ b. if b then 1 + count_up_to (at - x.len) xs else 0) (more-than x.len at lt)
+stops-at : {S : Type 0} (at : ℕ) (x : Mark S) (xs : List (Mark S)) → at < x.len → count_up_to at (x ∷ xs) ≡ 0
+stops-at at x xs lt = ap (λ b. if b then 1 + count_up_to (at - x.len) xs else 0) (goes-beyond x.len at lt)
 
 -- all that reach no farther
 pub counts-all : {S : Type 0} (at : ℕ) (xs : List (Mark S)) → reach xs ≤ at → count_up_to at xs ≡ length xs
 counts-all at [] le = refl
-counts-all at (x ∷ xs) le = let a = count-on at x xs (omega arith) in let b = counts-all (at - x.len) xs (omega arith) in omega arith
+counts-all at (x ∷ xs) le = let a = counts-on at x xs (omega arith) in let b = counts-all (at - x.len) xs (omega arith) in omega arith
 
 -- where all are counted, all reach no farther
 counted-all : {S : Type 0} (at : ℕ) (xs : List (Mark S)) → length xs ≤ count_up_to at xs → reach xs ≤ at
 counted-all at [] le = omega arith
 counted-all at (x ∷ xs) le =
     elim (one-or-none x.len at) [
-      | inl h ↦ (let a = count-on at x xs h in let b = counted-all (at - x.len) xs (omega arith) in omega arith)
-      | inr h ↦ (let a = count-stop at x xs h in absurd (omega arith))
+      | inl h ↦ (let a = counts-on at x xs h in let b = counted-all (at - x.len) xs (omega arith) in omega arith)
+      | inr h ↦ (let a = stops-at at x xs h in absurd (omega arith))
     ]
 
 counts-but-last : {S : Type 0} (at : ℕ) (xs : List (Mark S)) (y : Mark S) → at < reach xs + y.len → count_up_to at xs ≡ count_up_to at (xs ++ y ∷ [])
-counts-but-last at [] y lt = let a = count-stop at y [] (omega arith) in omega arith
+counts-but-last at [] y lt = let a = stops-at at y [] (omega arith) in omega arith
 counts-but-last at (x ∷ xs) y lt =
     elim (one-or-none x.len at) [
-      | inl h ↦ (let a = count-on at x xs h in let b = count-on at x (xs ++ y ∷ []) h in let c = counts-but-last (at - x.len) xs y (omega arith) in omega arith)
-      | inr h ↦ (let a = count-stop at x xs h in let b = count-stop at x (xs ++ y ∷ []) h in omega arith)
+      | inl h ↦ (let a = counts-on at x xs h in let b = counts-on at x (xs ++ y ∷ []) h in let c = counts-but-last (at - x.len) xs y (omega arith) in omega arith)
+      | inr h ↦ (let a = stops-at at x xs h in let b = stops-at at x (xs ++ y ∷ []) h in omega arith)
     ]
 
 -- the last one apart isn't counted where it reaches farther
@@ -91,10 +85,6 @@ top-tags xs all top x y are e f = sym (tags-last xs y) ∙ ap tags_behind (sym (
 
 -- ---- a mark of the tree
 
-nothing-behind : {X : Type 0} (xs : List X) → length xs ≤ 0 → xs ≡ []
-nothing-behind [] le = refl
-nothing-behind (x ∷ xs) le = absurd (omega arith)
-
 last-of-all : {S : Type 0} (xs all : List (Mark S)) (top : Option (Mark S)) → xs ++ option_to_list top ≡ all → top ≡ None → xs ≡ all
 last-of-all xs all top are e = sym (append-nil xs) ∙ ap (λ o. xs ++ option_to_list o) (sym e) ∙ are
 
@@ -103,7 +93,7 @@ tree-tags xs all top n place x are e len some i =
     let a = i.count in
     let b = length-append i.earlier (x ∷ i.later) in
     let c = ap length i.are in
-    let l : i.later ≡ [] = nothing-behind i.later (omega (arith, some)) in
+    let l : i.later ≡ [] = is-empty i.later (omega (arith, some)) in
     sym (tags-last i.earlier x) ∙ ap (λ l. tags_behind (i.earlier ++ x ∷ l)) (sym l) ∙ ap tags_behind (sym i.are ∙ last-of-all xs all top are e)
 
 none-later : {S : Type 0} (xs : List (Mark S)) (index place : ℕ) (x : Mark S) (i : IsAt xs index place x) → index + 1 ≡ length xs → i.later ≡ []
@@ -111,7 +101,7 @@ none-later xs index place x i e =
     let a = i.count in
     let b = ap length i.are in
     let c = length-append i.earlier (x ∷ i.later) in
-    nothing-behind i.later (omega arith)
+    is-empty i.later (omega arith)
 
 reaches-behind : {S : Type 0} (at index place : ℕ) (xs : List (Mark S)) (x : Mark S) → IsAt xs index place x → count_up_to at xs ≡ index → at < place + x.len
 reaches-behind at index place xs x i e =

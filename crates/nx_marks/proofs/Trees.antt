@@ -116,13 +116,17 @@ none-more false n k e = omega arith
 
 -- how many reach up to a place
 
-fits-up-to : (a b : ℕ) → a ≤ b → nat_le a b ≡ true
+pub is-empty : {X : Type 0} (xs : List X) → length xs ≤ 0 → xs ≡ []
+is-empty [] le = refl
+is-empty (x ∷ xs) le = absurd (omega arith)
+
+pub fits-up-to : (a b : ℕ) → a ≤ b → nat_le a b ≡ true
 fits-up-to a b h = grind (arith, nat_tests)
 
-goes-beyond : (a b : ℕ) → b < a → nat_le a b ≡ false
+pub goes-beyond : (a b : ℕ) → b < a → nat_le a b ≡ false
 goes-beyond a b h = grind (arith, nat_tests)
 
-is-up-to : (a b : ℕ) → nat_le a b ≡ true → a ≤ b
+pub is-up-to : (a b : ℕ) → nat_le a b ≡ true → a ≤ b
 is-up-to a b h = grind (arith, nat_tests)
 
 pub count-most : {S : Type 0} (place : ℕ) (xs : List (Mark S)) → count_up_to place xs ≤ length xs

@@ -1,18 +1,14 @@
 -- Steps along what is kept.
-use Rattle.std.proofs.Common.{◌≡◌, ◌⊎◌, inl, inr, ℕ, ◌+◌, ◌-◌, ◌^◌, ◌<◌, ◌≤◌, Bool, true, false, nat_le, List, [], ◌∷◌, ◌++◌, length, take, drop, refl, sym, ap, subst, ◌∙◌, arith, append_assoc}
+use Rattle.std.proofs.Common.{◌≡◌, ◌⊎◌, inl, inr, ℕ, ◌+◌, ◌-◌, ◌<◌, ◌≤◌, Bool, true, false, nat_le, List, [], ◌∷◌, ◌++◌, length, take, drop, refl, sym, ap, subst, ◌∙◌, arith, append_assoc}
 use Rattle.std.specs.Prelude.{if◌then◌else◌}
-use Rattle.std.proofs.lemmas.List.{length-append}
+use Rattle.std.proofs.lemmas.List.{length-append, append-nil}
 use Rattle.std.proofs.lemmas.Bool.Decides.{nat_tests}
 use Rattle.nx_marks.specs.Chain.{Kept, all_of, frontier_of, reach}
 use Rattle.nx_marks.specs.Tree.{count_up_to}
 use Rattle.nx_marks.specs.Walking.{Moved, MovesBack, MovesOn, DropsNext, DropsBetween, GoesBack, GoesOn, ComesBack, AreUpTo}
 use Rattle.nx_marks.specs.declared.mark.Mark.{Mark}
 use Rattle.nx_marks.proofs.Backs.{reach-append}
-use Rattle.nx_marks.proofs.Trees.{count-most}
-
-append-nil : {S : Type 0} (xs : List (Mark S)) → xs ++ [] ≡ xs
-append-nil [] = refl
-append-nil (x ∷ xs) = ap (λ l. x ∷ l) (append-nil xs)
+use Rattle.nx_marks.proofs.Trees.{count-most, is-empty, is-up-to}
 
 kept_at : {S : Type 0} → List (Mark S) → Mark S → Bool → List (Mark S) → Kept S
 kept_at front here marked aside = record { front = front; here = here; marked = marked; aside = aside }
@@ -82,11 +78,7 @@ went_back {S = S} from kept n old new k e le (inl same) =
     subst P (sym same.1) (record { all = refl; passed = []; front = sym (append-nil old.front); touched = omega arith; there = stays k all })
   where
     stays : ((from ≡ 0) × (kept ≡ 0)) ⊎ ((0 < from) × (kept ≡ count_up_to (from - 1) old.front)) → length old.front ≤ kept → (frontier_of old < from) ⊎ (old.front ≡ [])
-    stays (inl z) all = inr (none old.front (omega (arith, z.1)))
-      where
-        none : (xs : List (Mark S)) → length xs ≤ 0 → xs ≡ []
-        none [] h = refl
-        none (x ∷ xs) h = absurd (omega arith)
+    stays (inl z) all = inr (is-empty old.front (omega (arith, z.1)))
     stays (inr z) all =
         let C : List (Mark S) → Type 0 = λ l. length old.front ≤ count_up_to (from - 1) l in
         let r = up-to-within (from - 1) old.front [] (subst C (sym (append-nil old.front)) (omega (arith, z.1))) in
@@ -116,11 +108,7 @@ went_back {S = S} from kept n old new k e le (inr m) =
         omega (arith, z.0)
 
     before : ((from ≡ 0) × (kept ≡ 0)) ⊎ ((0 < from) × (kept ≡ count_up_to (from - 1) old.front)) → (reach new.front < from) ⊎ (new.front ≡ [])
-    before (inl z) = inr (none new.front (let c = count (omega (arith, z.1)) in omega (arith, z.1)))
-      where
-        none : (xs : List (Mark S)) → length xs ≤ 0 → xs ≡ []
-        none [] h = refl
-        none (x ∷ xs) h = absurd (omega arith)
+    before (inl z) = inr (is-empty new.front (let c = count (omega (arith, z.1)) in omega (arith, z.1)))
     before (inr z) =
         let most = count-most (from - 1) old.front in
         let c = count (omega (arith, z.1)) in
@@ -135,12 +123,8 @@ stayed from k lt le = record { all = refl; marked = refl; passed = []; front = s
 pub went_on : {S : Type 0} (from next before n : ℕ) (old new : Kept S) → frontier_of old < from → next ≡ frontier_of old + old.here.len → next < from → before ≡ count_up_to (from - 1 - next) old.aside → (n ≤ before + 1) × (n ≤ length old.aside) → (n ≡ length old.aside) ⊎ (n ≡ before + 1) → MovesOn n old new → GoesOn from old new
 went_on {S = S} from next before n old new lt e far b le or (inl same) =
     let P : Kept S → Type 0 = λ i. GoesOn from old i in
-    subst P (sym same.1) (record { all = refl; marked = refl; passed = []; front = sym (append-nil old.front); before = lt; there = inl (none old.aside (zero or)) })
+    subst P (sym same.1) (record { all = refl; marked = refl; passed = []; front = sym (append-nil old.front); before = lt; there = inl (is-empty old.aside (zero or)) })
   where
-    none : (xs : List (Mark S)) → length xs ≤ 0 → xs ≡ []
-    none [] h = refl
-    none (x ∷ xs) h = absurd (omega arith)
-
     zero : (n ≡ length old.aside) ⊎ (n ≡ before + 1) → length old.aside ≤ 0
     zero (inl z) = omega (arith, same.0)
     zero (inr z) = absurd (omega (arith, same.0))
@@ -162,12 +146,8 @@ went_on {S = S} from next before n old new lt e far b le or (inr m) =
         let C : List (Mark S) → Type 0 = λ l. length m.more ≤ count_up_to (from - 1 - next) l in
         up-to-within (from - 1 - next) m.more (new.here ∷ new.aside) (subst C m.aside (omega (arith, m.many, le.0)))
 
-    none : (xs : List (Mark S)) → length xs ≤ 0 → xs ≡ []
-    none [] h = refl
-    none (x ∷ xs) h = absurd (omega arith)
-
     behind : (n ≡ length old.aside) ⊎ (n ≡ before + 1) → (new.aside ≡ []) ⊎ (from ≤ reach new.front + new.here.len)
-    behind (inl z) = inl (none new.aside (let l = ap length m.aside in let a = length-append m.more (new.here ∷ new.aside) in omega (arith, m.many)))
+    behind (inl z) = inl (is-empty new.aside (let l = ap length m.aside in let a = length-append m.more (new.here ∷ new.aside) in omega (arith, m.many)))
     behind (inr z) =
         let C : List (Mark S) → Type 0 = λ l. count_up_to (from - 1 - next) l ≤ length m.more in
         let r = up-to-next (from - 1 - next) m.more new.here new.aside (subst C m.aside (omega (arith, m.many))) in
@@ -184,43 +164,52 @@ came_back len n old new e (inr m) =
       front = (let l = ap length m.front in let a = length-append new.front (new.here ∷ m.more) in omega (arith, m.many));
     }
 
-pub record Dropping {S : Type 0} (next to : ℕ) (old new : Kept S) (place : ℕ) : Type 0 where
-  pub gone : List (Mark S)
-  pub aside : old.aside ≡ gone ++ new.aside
-  pub front : new.front ≡ old.front
-  pub here : new.here ≡ old.here
-  pub marked : new.marked ≡ old.marked
-  pub far : next + reach old.aside < 2 ^ 64 → place ≡ next + reach gone
-  pub between : next + reach old.aside < 2 ^ 64 → AreUpTo to next gone
+up_to_counted : {S : Type 0} (to p : ℕ) (xs ys : List (Mark S)) → p ≤ to → length xs ≤ count_up_to (to - p) (xs ++ ys) + 1 → AreUpTo to p xs
+up_to_counted to p [] ys le h = tt
+up_to_counted to p (x ∷ []) ys le h = (le, tt)
+up_to_counted to p (x ∷ y ∷ xs) ys le h = by (nat_le x.len (to - p)) refl h (λ f e. up_to_counted to (p + x.len) (y ∷ xs) ys f e)
+  where
+    by : (c : Bool) → nat_le x.len (to - p) ≡ c → length (x ∷ y ∷ xs) ≤ (if c then 1 + count_up_to (to - p - x.len) (y ∷ xs ++ ys) else 0) + 1 →
+        (p + x.len ≤ to → length (y ∷ xs) ≤ count_up_to (to - (p + x.len)) (y ∷ xs ++ ys) + 1 → AreUpTo to (p + x.len) (y ∷ xs)) → AreUpTo to p (x ∷ y ∷ xs)
+    by true e n rest =
+        let f : x.len ≤ to - p = is-up-to x.len (to - p) e in
+        let same : to - p - x.len ≡ to - (p + x.len) = omega arith in
+        let C : ℕ → Type 0 = λ m. length (y ∷ xs) ≤ count_up_to m (y ∷ xs ++ ys) + 1 in
+        (le, rest (omega arith) (subst C same (omega arith)))
+    by false e n rest = absurd (omega arith)
 
-up_to_more : {S : Type 0} (to p q : ℕ) (xs : List (Mark S)) (y : Mark S) → AreUpTo to p xs → p + reach xs ≡ q → q ≤ to → AreUpTo to p (xs ++ y ∷ [])
-up_to_more to p q [] y h e le = (omega arith, tt)
-up_to_more to p q (x ∷ xs) y h e le = (h.0, up_to_more to (p + x.len) q xs y h.1 (omega arith) le)
+-- more than are counted reach farther
+up-to-beyond : {S : Type 0} (at : ℕ) (xs ys : List (Mark S)) → count_up_to at (xs ++ ys) < length xs → at < reach xs
+up-to-beyond at [] ys lt = absurd (omega arith)
+up-to-beyond at (x ∷ xs) ys lt = by (nat_le x.len at) refl lt (λ h. up-to-beyond (at - x.len) xs ys h)
+  where
+    by : (c : Bool) → nat_le x.len at ≡ c → (if c then 1 + count_up_to (at - x.len) (xs ++ ys) else 0) < length (x ∷ xs) → (count_up_to (at - x.len) (xs ++ ys) < length xs → at - x.len < reach xs) → at < reach (x ∷ xs)
+    by true e h rest = let n = is-up-to x.len at e in let r = rest (omega arith) in omega arith
+    by false e h rest = let n : at < x.len = grind (arith, nat_tests) in omega arith
 
-pub drop_began : {S : Type 0} (next to : ℕ) (k : Kept S) → Dropping next to k k next
-drop_began next to k = record { gone = []; aside = refl; front = refl; here = refl; marked = refl; far = λ _. omega arith; between = λ _. tt }
+-- those up to a place go, and one more, if there is one
+pub dropped_between : {S : Type 0} (next to n place : ℕ) (old new : Kept S) (gone : List (Mark S)) → next ≤ to → old.aside ≡ gone ++ new.aside → new.front ≡ old.front → new.here ≡ old.here → new.marked ≡ old.marked →
+    length gone ≡ n → (n ≤ count_up_to (to - next) old.aside + 1) × (n ≤ length old.aside) → (n ≡ length old.aside) ⊎ (n ≡ count_up_to (to - next) old.aside + 1) → place ≡ next + reach gone → DropsBetween next to old new place
+dropped_between {S = S} next to n place old new gone le list f h m long within or far = record {
+  gone = gone;
+  aside = list;
+  front = f;
+  here = h;
+  marked = m;
+  far = λ _. far;
+  between = λ _. (let C : List (Mark S) → Type 0 = λ l. length gone ≤ count_up_to (to - next) l + 1 in up_to_counted to next gone new.aside le (subst C list (omega (arith, within.0))));
+  there = by or;
+}
+  where
+    by : (n ≡ length old.aside) ⊎ (n ≡ count_up_to (to - next) old.aside + 1) → (new.aside ≡ []) ⊎ (to < place)
+    by (inl all) = inl (is-empty new.aside (let a = ap length list in let b = length-append gone new.aside in omega arith))
+    by (inr counted) =
+        let C : List (Mark S) → Type 0 = λ l. count_up_to (to - next) l < length gone in
+        let r = up-to-beyond (to - next) gone new.aside (subst C list (omega arith)) in
+        inr (omega arith)
 
-pub drop_more : {S : Type 0} (next to : ℕ) (old k j : Kept S) (place len place' : ℕ) → Dropping next to old k place → place ≤ to → DropsNext k j len → (place + len < 2 ^ 64 → place' ≡ place + len) → Dropping next to old j place'
-drop_more {S = S} next to old k j place len place' g le s fits =
-    let list : old.aside ≡ (g.gone ++ s.mark ∷ []) ++ j.aside =
-    g.aside ∙ ap (λ l. g.gone ++ l) s.are ∙ sym (append_assoc g.gone (s.mark ∷ []) s.behind) ∙ ap (λ l. (g.gone ++ s.mark ∷ []) ++ l) (sym (ap (λ (i : Kept S). i.aside) s.is)) in
-    let far_gone = reach-append g.gone (s.mark ∷ []) in
-    let all : reach old.aside ≡ reach (g.gone ++ s.mark ∷ []) + reach j.aside = ap reach list ∙ reach-append (g.gone ++ s.mark ∷ []) j.aside in
-    record {
-      gone = g.gone ++ s.mark ∷ [];
-      aside = list;
-      front = ap (λ (i : Kept S). i.front) s.is ∙ g.front;
-      here = ap (λ (i : Kept S). i.here) s.is ∙ g.here;
-      marked = ap (λ (i : Kept S). i.marked) s.is ∙ g.marked;
-      far = λ lt. (let e = g.far lt in let l = s.long in let f = fits (omega arith) in omega arith);
-      between = λ lt. (let e = g.far lt in up_to_more to next place g.gone s.mark (g.between lt) (sym e) le);
-    }
-
-pub drop_ended : {S : Type 0} (next to : ℕ) (old new : Kept S) (place : ℕ) → Dropping next to old new place → (new.aside ≡ []) ⊎ (to < place) → DropsBetween next to old new place
-drop_ended next to old new place g e = record { gone = g.gone; aside = g.aside; front = g.front; here = g.here; marked = g.marked; far = g.far; between = g.between; there = e }
-
-pub drop_fewer : {S : Type 0} (k j : Kept S) (len : ℕ) → DropsNext k j len → length j.aside < length k.aside
-drop_fewer k j len s = let a = ap length s.are in let c = ap (λ (i : Kept _). length i.aside) s.is in omega arith
+pub none_between : {S : Type 0} (next to : ℕ) (k : Kept S) → to < next → DropsBetween next to k k next
+none_between next to k lt = record { gone = []; aside = refl; front = refl; here = refl; marked = refl; far = λ _. omega arith; between = λ _. tt; there = inr lt }
 
 -- all items of a list are cut out of it
 pub cut_everything : {X : Type 0} (xs : List X) (n : ℕ) → n ≡ length xs → take 0 xs ++ drop n xs ≡ []

@@ -14,7 +14,7 @@ ghost use Rattle.nx_marks.specs.declared.mark.Mark.{Mark};
 
 use crate::listing::add_faults;
 use crate::mark::{Mark, lengthen};
-use crate::parts::joined;
+use crate::parts::concatenated;
 use crate::single::Single;
 use crate::stored::Stored;
 use crate::tree::Tree;
@@ -56,7 +56,7 @@ fn settle<S: Drop>(below: &mut Tree<S>, top: &mut Option<Single<S>>)
 {
     if let Some(last) = top.take() {
         let before = mem::replace(below, Tree::empty());
-        *below = joined(before, last.into_tree());
+        *below = concatenated(before, last.into_tree());
     }
 }
 
@@ -191,7 +191,7 @@ impl<S: Drop> Front<S> {
     {
         settle(&mut self.below, &mut self.top);
         let below = mem::replace(&mut self.below, Tree::empty());
-        self.below = joined(below, more);
+        self.below = concatenated(below, more);
         self.reach = self.below.reach();
     }
 

@@ -1,15 +1,12 @@
 //! Marks in a line, parted at a place.
 
 ghost use Rattle.std.specs.Prelude.{◌≡◌, ◌⊎◌, ◌↔◌, ℕ, ◌+◌, ◌-◌, ◌<◌, ◌≤◌, ◌^◌, true, false, IsTrue, IfOk, OnOk, OnErr};
-ghost use Rattle.std.specs.Prelude.{[], ◌∷◌, ◌++◌, length, reverse};
-ghost use Rattle.std.specs.List.{AllByRecursion};
-ghost use Rattle.nx_base.specs.Rules.{IsWithin};
-ghost use Rattle.nx_base.specs.Shifting.{placed};
+ghost use Rattle.std.specs.Prelude.{[], ◌∷◌, ◌++◌, length};
 ghost use Rattle.nx_marks.specs.Chain.{AreWhole, FirstMeans, FaultsFit, OwnStates, faults_in, frontier_of, reach};
 ghost use Rattle.nx_marks.specs.Editing.{edit_noted, noted};
 ghost use Rattle.nx_marks.specs.Frontier.{FrontierAfterEdit};
 ghost use Rattle.nx_marks.specs.Right.{IsRight, tags_behind};
-ghost use Rattle.nx_marks.specs.Before.{IsLast, LiesInFront, marks_with};
+ghost use Rattle.nx_marks.specs.Before.{IsLast};
 ghost use Rattle.nx_marks.specs.Joined.{but_last, last, seen};
 ghost use Rattle.nx_marks.specs.Bound.{WillReach};
 ghost use Rattle.nx_marks.specs.Keeping.{KeepsMarks};
@@ -17,7 +14,7 @@ ghost use Rattle.nx_marks.specs.Ruling.{is_due};
 ghost use Rattle.nx_base.specs.Tokens.{cut};
 ghost use Rattle.nx_marks.specs.Starting.{started};
 ghost use Rattle.nx_marks.specs.Taking.{begun, let_go};
-ghost use Rattle.nx_marks.specs.Walking.{MovesBack, MovesOn, DropsNext, DropsBetween, PassesNext, PassesUpTo, TakesNext};
+ghost use Rattle.nx_marks.specs.Walking.{MovesBack, MovesOn, DropsBetween, PassesNext, PassesUpTo, TakesNext};
 ghost use Rattle.nx_marks.specs.Walking.{GoesBack, GoesOn, ComesBack, Follows, Fits, cut_off};
 
 use crate::front::{Front, lengthen_last};
@@ -30,7 +27,6 @@ use nx_base::edit::Edit;
 use nx_base::fault::Faults;
 use nx_base::machine::Machine;
 use nx_base::memory::NoMemory;
-use nx_base::sequence::TryCopy;
 use nx_base::token::Token;
 use nx_text::text::Text;
 use std::alloc::Global;
@@ -136,18 +132,10 @@ impl<S: Drop> Line<S> {
         self.front.append(passed);
     }
 
-    /// Drops the first mark aside. How far on the next one is.
-    pub(crate) fn drop_next(&mut self) -> usize
-        requires { 0 < length self.old.aside }
-        ensures { DropsNext self.old self.new result }
-    {
-        let mark = self.aside.pop_first();
-        mark.get().len
-    }
-
     /// Where the next mark lies, if there is one.
     fn next(&self) -> usize
-        ensures { result ≡ frontier_of self.now + self.now.here.len }
+        ensures place { result ≡ frontier_of self.now + self.now.here.len }
+        ensures fits { result + reach self.now.aside < 2 ^ 64 }
     {
         self.front.reach() + self.here.len
     }
@@ -236,14 +224,17 @@ impl<S: Drop> Line<S> {
 
     /// Drops the marks aside up to a place; the first of them lies at `next`. Where the first that stays lies.
     fn drop_between(&mut self, next: usize, to: usize) -> usize
+        requires { next + reach self.old.aside < 2 ^ 64 }
         ensures { DropsBetween next to self.old self.new result }
     {
-        let mut place = next;
-        while !self.aside.is_empty() && place <= to {
-            let len = self.drop_next();
-            place = place.saturating_add(len);
+        if next > to {
+            return next;
         }
-        place
+        let before = self.aside.count_up_to(to - next);
+        let count = one_more(before, self.aside.count());
+        let kept = self.aside.split_off(count);
+        let gone = mem::replace(&mut self.aside, kept);
+        next + gone.reach()
     }
 
     /// Has the state at the frontier say that it is no mark, since an edit may put it aside, where a row ends with it.
@@ -524,6 +515,7 @@ impl<S: Drop> Line<S> {
         ensures ok { OnOk result (self.new ≡ begun self.old state) }
         ensures err { OnErr result (self.new ≡ self.old) }
     {
+        // No memory holds so many marks, but their count is to be a number.
         if self.front.count() + self.aside.count() >= usize::MAX - 1 {
             return Err(NoMemory);
         }

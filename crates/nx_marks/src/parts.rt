@@ -3,12 +3,12 @@
 ghost use Rattle.std.specs.Prelude.{◌≡◌, ◌+◌, ◌<◌, ◌≤◌, ◌^◌, length, [], ◌∷◌, ◌++◌};
 ghost use Rattle.nx_marks.specs.Chain.{reach};
 
-use crate::single::{Single, closed};
+use crate::single::{Single, summed};
 use crate::tree::Tree;
 use std::mem;
 
 /// The marks of two trees, one behind the other.
-pub(crate) fn joined<S: Drop>(left: Tree<S>, right: Tree<S>) -> Tree<S>
+pub(crate) fn concatenated<S: Drop>(left: Tree<S>, right: Tree<S>) -> Tree<S>
     requires count { length left + length right < 2 ^ 64 }
     requires reach { reach left + reach right < 2 ^ 64 }
     ensures { result ≡ left ++ right }
@@ -21,12 +21,12 @@ pub(crate) fn joined<S: Drop>(left: Tree<S>, right: Tree<S>) -> Tree<S>
     };
     if first.weight >= second.weight {
         let behind = mem::replace(&mut first.right, Tree::empty());
-        first.right = joined(behind, Tree { root: Some(second) });
-        return closed(first);
+        first.right = concatenated(behind, Tree { root: Some(second) });
+        return summed(first);
     }
     let front = mem::replace(&mut second.left, Tree::empty());
-    second.left = joined(Tree { root: Some(first) }, front);
-    closed(second)
+    second.left = concatenated(Tree { root: Some(first) }, front);
+    summed(second)
 }
 
 /// Parts a tree behind so many marks.
@@ -43,12 +43,12 @@ pub(crate) fn parted<S: Drop>(tree: Tree<S>, count: usize) -> (Tree<S>, Tree<S>)
         let left = mem::replace(&mut node.left, Tree::empty());
         let (front, behind) = parted(left, count);
         node.left = behind;
-        return (front, closed(node));
+        return (front, summed(node));
     }
     let right = mem::replace(&mut node.right, Tree::empty());
     let (front, behind) = parted(right, count - before - 1);
     node.right = front;
-    (closed(node), behind)
+    (summed(node), behind)
 }
 
 /// The one mark of a tree.
@@ -70,7 +70,7 @@ impl<S: Drop> Tree<S> {
         ensures { self.new ≡ self.old ++ more }
     {
         let all = mem::replace(self, Tree::empty());
-        *self = joined(all, more);
+        *self = concatenated(all, more);
     }
 
     /// Takes the marks behind so many away.

@@ -30,7 +30,7 @@ impl<S> Model for Single<S> {
 }
 
 /// The tree below a node, of which is told anew what its marks come to.
-pub(crate) fn closed<S: Drop>(mut node: Box<Node<S>>) -> Tree<S>
+pub(crate) fn summed<S: Drop>(mut node: Box<Node<S>>) -> Tree<S>
     requires count { length (marks_at node.value) < 2 ^ 64 }
     requires reach { reach (marks_at node.value) < 2 ^ 64 }
     ensures { result ≡ marks_at node.value }
@@ -96,6 +96,6 @@ impl<S: Drop> Single<S> {
     {
         // A length that is read is known to fit.
         let _len = self.node.mark.len;
-        closed(self.node)
+        summed(self.node)
     }
 }

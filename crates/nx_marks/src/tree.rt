@@ -16,8 +16,9 @@ pub(crate) struct Sums {
     pub(crate) faulty: bool,
 }
 
-/// Marks in their order. A node's weight is at least that of each node below it, and weights are as good as drawn by lot, so a tree of
-/// n marks is about 2 log n deep, whatever was put together and parted. Trees are put together and parted without memory.
+/// Marks in their order. A node's weight is at least that of each node below it, and weights rise and fall as if drawn by lot, so a tree
+/// of n marks is about 3 log n deep (to base 2) behind edits that aren't chosen against it; no clause says so. Trees are put together
+/// and parted without memory.
 #[cycle(tree)]
 #[derive(Drop)]
 pub(crate) struct Tree<S> {

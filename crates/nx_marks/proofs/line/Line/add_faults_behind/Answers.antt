@@ -26,7 +26,7 @@ returns g c =
     let first = c.args.faults.now in
     let here = c.self.inside.here in
     let more = take (c.count-count.result - 1) c.self.inside.aside in
-    let next : c.next.result ≡ c.reach.result + here.len = c.next.ensures ∙ sym (ap (λ (k : Kept _). frontier_of k + k.here.len) c.self.view_is) ∙ ap (λ n. n + here.len) (sym c.reach.ensures) in
+    let next : c.next.result ≡ c.reach.result + here.len = c.next.ensures.place ∙ sym (ap (λ (k : Kept _). frontier_of k + k.here.len) c.self.view_is) ∙ ap (λ n. n + here.len) (sym c.reach.ensures) in
     let list : first ++ faults_in (frontier_of c.args.self.now) (but_last c.args.self.now.here c.args.self.now.aside) ≡ (first ++ placed c.reach.result here.faults) ++ faults_in c.next.result more =
     ap (λ (k : Kept _). first ++ faults_in (frontier_of k) (but_last k.here k.aside)) (sym c.self.view_is)
     ∙ ap (λ n. first ++ faults_in n (but_last here c.self.inside.aside)) (sym c.reach.ensures)

@@ -12,7 +12,7 @@ overflow_add-result g c =
     let m = reach-append c.get.ensures.earlier (c.get.result.1.now ∷ c.get.ensures.later) in
     let at = ap (λ (k : Kept _). frontier_of k) c.self.view_is in
     let len = ap (λ (k : Kept _). k.here.len) c.self.view_is in
-    omega (arith, c.self.invariant.fits, c.next.ensures, c.get.ensures.there)
+    omega (arith, c.self.invariant.fits, c.next.ensures.place, c.get.ensures.there)
 
 pub returns : goal.returns
 returns g c =
@@ -21,4 +21,4 @@ returns g c =
     let i = subst P (ap (λ (k : Kept _). k.aside) c.self.view_is) c.get.ensures in
     let n : length c.self.inside.aside ≡ length k.aside = ap (λ (k : Kept _). length k.aside) c.self.view_is in
     let e = end-there k c.get.result.1.now c.get.result.0 (ends-with k.aside (c.count-count.result - 1) c.get.result.0 c.get.result.1.now (grind (arith, n, c.count-count.ensures, c.if-count-eq0.false)) i) in
-    omega (arith, e, c.next.ensures)
+    omega (arith, e, c.next.ensures.place)

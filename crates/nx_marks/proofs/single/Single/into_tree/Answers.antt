@@ -3,8 +3,8 @@ use Rattle.nx_marks.specs.Chain.{reach}
 use Rattle.nx_marks.proofs.Trees.{reach-parts}
 use Rattle.nx_marks.proofs.single.Single.into_tree.Goals as goal
 
-pub closed-requires-clause-reach : goal.closed-requires-clause-reach
-closed-requires-clause-reach g c =
+pub summed-requires-clause-reach : goal.summed-requires-clause-reach
+summed-requires-clause-reach g c =
     let n = c.self.inside.node.value in
     let parts = reach-parts n.left n.mark n.right in
     let front : reach n.left ≡ 0 = rw c.self.invariant.0 refl in

@@ -1,8 +1,8 @@
 use Rattle.std.proofs.Common.{◌≡◌, ◌&&◌, ◌||◌, sym, ◌∙◌, arith}
 use Rattle.nx_marks.specs.Tree.{all_whole, any_faulty, has_some}
 use Rattle.nx_marks.proofs.Trees.{reach-parts, length-parts, whole-parts, faulty-parts, some-or-none, and-then, and-else, or-then, or-else}
-use Rattle.nx_marks.proofs.single.closed.Goals as goal
-use Rattle.nx_marks.proofs.single.closed.Goals.{then-left, else-left, then-deref, else-deref, then-left-2, else-left-2, then-not-is_empty, else-not-is_empty}
+use Rattle.nx_marks.proofs.single.summed.Goals as goal
+use Rattle.nx_marks.proofs.single.summed.Goals.{then-left, else-left, then-deref, else-deref, then-left-2, else-left-2, then-not-is_empty, else-not-is_empty}
 
 pub overflow_add-left-3 : goal.overflow_add-left-3
 overflow_add-left-3 g c =
