@@ -29,6 +29,13 @@ at_node {S} {root} {all} {b} view_is sums is =
     (sym view_is ∙ ap (λ o. at_root [] (λ b. b.value.left ++ b.value.mark ∷ b.value.right) o) is)
     (subst (λ o. if_root (λ b. Summed (b.value.left ++ b.value.mark ∷ b.value.right) b.value.sums.count b.value.sums.reach b.value.sums.whole b.value.sums.faulty) o) is sums)
 
+-- a root tells what all marks come to
+pub sums_at : {S : Type 0} {root : Option (Box (Node S) Global)} {all : List (Mark S)} {b : Box (Node S) Global} → at_root [] (λ b. b.value.left ++ b.value.mark ∷ b.value.right) root ≡ all → if_root (λ b. Summed (b.value.left ++ b.value.mark ∷ b.value.right) b.value.sums.count b.value.sums.reach b.value.sums.whole b.value.sums.faulty) root → root ≡ Some b → Summed all b.value.sums.count b.value.sums.reach b.value.sums.whole b.value.sums.faulty
+sums_at {S} {root} {all} {b} view_is sums is =
+    let known = subst (λ o. if_root (λ b. Summed (b.value.left ++ b.value.mark ∷ b.value.right) b.value.sums.count b.value.sums.reach b.value.sums.whole b.value.sums.faulty) o) is sums in
+    let root_is = ap (λ o. at_root [] (λ b. b.value.left ++ b.value.mark ∷ b.value.right) o) (sym is) ∙ view_is in
+    subst (λ l. Summed l b.value.sums.count b.value.sums.reach b.value.sums.whole b.value.sums.faulty) root_is known
+
 -- how far marks reach without some of them
 
 pub reach-parts : {S : Type 0} (l : List (Mark S)) (m : Mark S) (r : List (Mark S)) → reach (l ++ m ∷ r) ≡ reach l + m.len + reach r
@@ -96,6 +103,20 @@ whole-parts l m r v e = rw (whole-append l (m ∷ r)) (rw (and-assoc (all_whole 
 
 pub faulty-parts : {S : Type 0} (l : List (Mark S)) (m : Mark S) (r : List (Mark S)) (v : Bool) → v ≡ ((any_faulty l || has_some m.faults) || any_faulty r) → v ≡ any_faulty (l ++ m ∷ r)
 faulty-parts l m r v e = rw (faulty-append l (m ∷ r)) (rw (or-assoc (any_faulty l) (has_some m.faults) (any_faulty r)) e)
+
+-- what marks and more of them come to
+pub summed-with : {S : Type 0} {xs ys all : List (Mark S)} {m n k f g h : ℕ} {a b v d e w : Bool} → Summed xs m f a d → Summed ys n g b e → all ≡ xs ++ ys → length xs + length ys < 2 ^ 64 → reach xs + reach ys < 2 ^ 64 → k ≡ m + n → h ≡ f + g → v ≡ (a && b) → w ≡ (d || e) → Summed all k h v w
+summed-with {S} {xs} {ys} {all} s t is count_fits reach_fits counts reaches whole faulty =
+    let n = ap length is ∙ length-append xs ys in
+    let f = ap reach is ∙ reach-append xs ys in
+    record {
+      counted = (let a = s.counted in let b = t.counted in omega arith);
+      reaches = (let a = s.reaches in let b = t.reaches in omega arith);
+      are_whole = rw (is, whole-append xs ys, sym s.are_whole, sym t.are_whole) whole;
+      are_faulty = rw (is, faulty-append xs ys, sym s.are_faulty, sym t.are_faulty) faulty;
+      count_fits = omega arith;
+      reach_fits = omega arith;
+    }
 
 has-length : (n : ℕ) → (suc n == 0) ≡ false
 has-length n = grind (arith, nat_tests)

@@ -19,14 +19,17 @@ pub(crate) fn concatenated<S: Drop>(left: Tree<S>, right: Tree<S>) -> Tree<S>
     let Some(mut second) = right.root else {
         return Tree { root: Some(first) };
     };
+    let all = first.sums.with(second.sums);
     if first.weight >= second.weight {
         let behind = mem::replace(&mut first.right, Tree::empty());
         first.right = concatenated(behind, Tree { root: Some(second) });
-        return summed(first);
+        first.sums = all;
+        return Tree { root: Some(first) };
     }
     let front = mem::replace(&mut second.left, Tree::empty());
     second.left = concatenated(Tree { root: Some(first) }, front);
-    summed(second)
+    second.sums = all;
+    Tree { root: Some(second) }
 }
 
 /// Parts a tree behind so many marks.

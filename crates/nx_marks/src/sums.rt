@@ -1,11 +1,30 @@
 //! What marks in a tree come to, and where they lie.
 
-ghost use Rattle.std.specs.Prelude.{◌≡◌, ◌<◌, ◌==◌, length, []};
+ghost use Rattle.std.specs.Prelude.{◌≡◌, ◌+◌, ◌<◌, ◌^◌, ◌==◌, ◌&&◌, ◌||◌, length, []};
 ghost use Rattle.nx_marks.specs.Chain.{reach};
 ghost use Rattle.nx_marks.specs.Tree.{all_whole, any_faulty, count_up_to, whole_count, IsAt};
 
 use crate::mark::Mark;
 use crate::tree::{Sums, Tree};
+
+impl Sums {
+    /// What these marks and more come to.
+    pub(crate) fn with(self, more: Sums) -> Sums
+        requires count { self.count + more.count < 2 ^ 64 }
+        requires reach { self.reach + more.reach < 2 ^ 64 }
+        ensures count { result.count ≡ self.count + more.count }
+        ensures reach { result.reach ≡ self.reach + more.reach }
+        ensures whole { result.whole ≡ (self.whole && more.whole) }
+        ensures faulty { result.faulty ≡ (self.faulty || more.faulty) }
+    {
+        Sums {
+            count: self.count + more.count,
+            reach: self.reach + more.reach,
+            whole: self.whole && more.whole,
+            faulty: self.faulty || more.faulty,
+        }
+    }
+}
 
 impl<S: Drop> Tree<S> {
     /// No marks.
