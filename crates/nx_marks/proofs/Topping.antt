@@ -65,6 +65,9 @@ top-far {S = S} far xs top x y r e f =
 with-top : {S : Type 0} (xs : List (Mark S)) (top : Option (Mark S)) (x y : Mark S) → top ≡ Some x → y ≡ x → xs ++ option_to_list top ≡ xs ++ y ∷ []
 with-top xs top x y e f = ap (λ o. xs ++ option_to_list o) e ∙ ap (λ m. xs ++ m ∷ []) (sym f)
 
+pub raised : {S : Type 0} (all was xs : List (Mark S)) (top : Option (Mark S)) (x : Mark S) → was ≡ all → xs ++ option_to_list top ≡ was → top ≡ Some x → all ≡ xs ++ x ∷ []
+raised all was xs top x are e f = sym are ∙ sym e ∙ with-top xs top x x f refl
+
 pub found_top : {S : Type 0} (at far place : ℕ) (xs all : List (Mark S)) (top : Option (Mark S)) (x y z : Mark S) → xs ++ option_to_list top ≡ all → Reaches (xs ++ option_to_list top) far → top ≡ Some x → y ≡ x → z ≡ x → place ≡ far - y.len → place ≤ at → LiesInFront at all place z
 found_top at far place xs all top x y z are r e f h p le = record {
   earlier = xs;

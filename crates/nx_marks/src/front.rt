@@ -1,6 +1,6 @@
 //! The marks in front of a place.
 
-ghost use Rattle.std.specs.Prelude.{◌≡◌, ◌⊎◌, ◌+◌, ◌-◌, ◌<◌, ◌≤◌, ◌^◌, ◌==◌, IfOk, OnOk, OnErr, IsUtf8};
+ghost use Rattle.std.specs.Prelude.{◌≡◌, ◌⊎◌, ◌+◌, ◌-◌, ◌<◌, ◌≤◌, ◌^◌, ◌==◌, IfOk, IsSome, OnOk, OnErr, IsUtf8};
 ghost use Rattle.std.specs.Prelude.{List, [], ◌∷◌, ◌++◌, length, None};
 ghost use Rattle.std.specs.Option.{option_to_list};
 ghost use Rattle.nx_base.specs.Rules.{lexeme_of, IsLexeme};
@@ -60,15 +60,14 @@ fn settle<S: Drop>(below: &mut Tree<S>, top: &mut Option<Single<S>>)
     }
 }
 
-/// Takes the last mark off.
-fn taken_off<S: Drop>(below: &mut Tree<S>, top: &mut Option<Single<S>>) -> Single<S>
+/// Takes the last mark out of the tree, unless it is out.
+fn raise<S: Drop>(below: &mut Tree<S>, top: &mut Option<Single<S>>)
     requires { 0 < length (below.old ++ option_to_list top.old) }
-    ensures all { below.old ++ option_to_list top.old ≡ below.new ++ result ∷ [] }
-    ensures top { top.new ≡ None }
+    ensures all { below.new ++ option_to_list top.new ≡ below.old ++ option_to_list top.old }
+    ensures some { IsSome top.new }
 {
-    match top.take() {
-        Some(last) => last,
-        None => below.pop_last(),
+    if top.is_none() {
+        *top = Some(below.pop_last());
     }
 }
 
@@ -238,12 +237,11 @@ pub(crate) fn lengthen_last<A: Machine>(
     ensures unchanged { OnErr result (A.means machine.new state.new ≡ A.means machine.old state.old) }
     ensures same { OnErr result (front.new ≡ front.old) }
 {
-    let mut last = taken_off(&mut front.below, &mut front.top);
-    let count = token.bytes.len();
-    let taken = lengthen(alloc, machine, state, token, &mut last.node.mark);
-    let tags = last.get().tags;
-    front.top = Some(last);
-    taken?;
-    front.reach += count;
+    raise(&mut front.below, &mut front.top);
+    let Some(last) = &mut front.top else {
+        unreachable!()
+    };
+    let tags = lengthen(alloc, machine, state, token, &mut last.node.mark)?;
+    front.reach += token.bytes.len();
     Ok(tags)
 }

@@ -1,6 +1,6 @@
 //! States that are kept at places.
 
-ghost use Rattle.std.specs.Prelude.{◌≡◌, ◌+◌, ◌-◌, ◌<◌, ◌≤◌, ◌^◌, length, OnOk, OnErr, IsUtf8};
+ghost use Rattle.std.specs.Prelude.{◌≡◌, ◌+◌, ◌-◌, ◌<◌, ◌≤◌, ◌^◌, length, IfOk, OnOk, OnErr, IsUtf8};
 ghost use Rattle.nx_base.specs.Rules.{lexeme_of, IsLexeme};
 ghost use Rattle.nx_base.specs.Shifting.{placed};
 ghost use Rattle.nx_marks.specs.Chain.{is_mark};
@@ -47,14 +47,15 @@ fn tags_of(kind: TokenKind) -> usize
     }
 }
 
-/// Has the machine take one more token, and makes the segment that ends in front of it longer by it, with its faults.
+/// Has the machine take one more token, and makes the segment that ends in front of it longer by it, with its faults. How many tags
+/// the segment has then.
 pub(crate) fn lengthen<A: Machine>(
     alloc: Global,
     machine: &mut A,
     state: &mut Stored<A::State>,
     token: &mut Token,
     mark: &mut Mark<A::State>,
-) -> Result<(), NoMemory>
+) -> Result<usize, NoMemory>
     requires state { A.is_state machine.old state.old }
     requires place { (A.rules machine.old).back (A.means machine.old state.old) ≤ mark.old.len }
     requires room { mark.old.len + length token.old.bytes < 2 ^ 64 }
@@ -68,6 +69,7 @@ pub(crate) fn lengthen<A: Machine>(
     ensures longer { OnOk result (mark.new ≡ longer mark.old (lexeme_of token.old)
         (placed (mark.old.len - (A.rules machine.old).back (A.means machine.old state.old))
         ((A.rules machine.old).gives (A.means machine.old state.old) (lexeme_of token.old)))) }
+    ensures tags { IfOk result (λ tags. tags ≡ mark.new.tags) }
     ensures bytes { token.new.bytes ≡ token.old.bytes }
     ensures unchanged { OnErr result (A.means machine.new state.new ≡ A.means machine.old state.old) }
     ensures same { OnErr result (mark.new ≡ mark.old) }
@@ -77,5 +79,5 @@ pub(crate) fn lengthen<A: Machine>(
     step_stored(alloc, machine, state, token, &mut mark.faults)?;
     mark.len += token.bytes.len();
     mark.tags += tags_of(token.kind);
-    Ok(())
+    Ok(mark.tags)
 }
