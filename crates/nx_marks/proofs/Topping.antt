@@ -147,12 +147,11 @@ found_below {S = S} at counted count index place xs all top x are apart c n m i 
 
 -- ---- the last one goes into the tree, or away
 
-pub settled-far : {S : Type 0} (xs before one : List (Mark S)) (top : Option (Mark S)) (x : Mark S) → reach (xs ++ option_to_list top) < 2 ^ 64 → top ≡ Some x → before ≡ xs → one ≡ x ∷ [] → reach before + reach one < 2 ^ 64
-settled-far xs before one top x lt e f g =
+pub settled-far : {S : Type 0} (xs one : List (Mark S)) (top : Option (Mark S)) (x : Mark S) → reach (xs ++ option_to_list top) < 2 ^ 64 → top ≡ Some x → one ≡ x ∷ [] → reach xs + reach one < 2 ^ 64
+settled-far xs one top x lt e f =
     let a = ap (λ o. reach (xs ++ option_to_list o)) e in
     let b = reach-append xs (x ∷ []) in
     let c = ap reach f in
-    let d = ap reach g in
     omega arith
 
 -- one more

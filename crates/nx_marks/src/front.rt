@@ -14,7 +14,6 @@ ghost use Rattle.nx_marks.specs.declared.mark.Mark.{Mark};
 
 use crate::listing::add_faults;
 use crate::mark::{Mark, lengthen};
-use crate::parts::concatenated;
 use crate::single::Single;
 use crate::stored::Stored;
 use crate::tree::Tree;
@@ -24,7 +23,6 @@ use nx_base::memory::NoMemory;
 use nx_base::token::Token;
 use std::alloc::Global;
 use std::marker::Model;
-use std::mem;
 
 /// Marks of which the last is at hand, since each token makes its segment longer: the tree has all but that one, or all.
 #[derive(Drop)]
@@ -55,12 +53,11 @@ fn settle<S: Drop>(below: &mut Tree<S>, top: &mut Option<Single<S>>)
     ensures top { top.new ≡ None }
 {
     if let Some(last) = top.take() {
-        let before = mem::replace(below, Tree::empty());
-        *below = concatenated(before, last.into_tree());
+        below.append(last.into_tree());
     }
 }
 
-/// Takes the last mark out of the tree, unless it is out.
+/// Has the last mark at hand, out of the tree.
 fn raise<S: Drop>(below: &mut Tree<S>, top: &mut Option<Single<S>>)
     requires { 0 < length (below.old ++ option_to_list top.old) }
     ensures all { below.new ++ option_to_list top.new ≡ below.old ++ option_to_list top.old }
@@ -189,8 +186,7 @@ impl<S: Drop> Front<S> {
         ensures { self.new ≡ self.old ++ more }
     {
         settle(&mut self.below, &mut self.top);
-        let below = mem::replace(&mut self.below, Tree::empty());
-        self.below = concatenated(below, more);
+        self.below.append(more);
         self.reach = self.below.reach();
     }
 

@@ -7,31 +7,6 @@ use crate::single::{Single, summed};
 use crate::tree::Tree;
 use std::mem;
 
-/// The marks of two trees, one behind the other.
-pub(crate) fn concatenated<S: Drop>(left: Tree<S>, right: Tree<S>) -> Tree<S>
-    requires count { length left + length right < 2 ^ 64 }
-    requires reach { reach left + reach right < 2 ^ 64 }
-    ensures { result ≡ left ++ right }
-{
-    let Some(mut first) = left.root else {
-        return right;
-    };
-    let Some(mut second) = right.root else {
-        return Tree { root: Some(first) };
-    };
-    let all = first.sums.with(second.sums);
-    if first.weight >= second.weight {
-        let behind = mem::replace(&mut first.right, Tree::empty());
-        first.right = concatenated(behind, Tree { root: Some(second) });
-        first.sums = all;
-        return Tree { root: Some(first) };
-    }
-    let front = mem::replace(&mut second.left, Tree::empty());
-    second.left = concatenated(Tree { root: Some(first) }, front);
-    second.sums = all;
-    Tree { root: Some(second) }
-}
-
 /// Parts a tree behind so many marks.
 pub(crate) fn parted<S: Drop>(tree: Tree<S>, count: usize) -> (Tree<S>, Tree<S>)
     requires { count ≤ length tree }
@@ -72,8 +47,23 @@ impl<S: Drop> Tree<S> {
         requires reach { reach self.old + reach more < 2 ^ 64 }
         ensures { self.new ≡ self.old ++ more }
     {
-        let all = mem::replace(self, Tree::empty());
-        *self = concatenated(all, more);
+        let Some(mut second) = more.root else {
+            return;
+        };
+        let Some(first) = &mut self.root else {
+            self.root = Some(second);
+            return;
+        };
+        let all = first.sums.with(second.sums);
+        if first.weight >= second.weight {
+            first.sums = all;
+            first.right.append(Tree { root: Some(second) });
+            return;
+        }
+        let front = mem::replace(&mut second.left, mem::replace(self, Tree::empty()));
+        second.left.append(front);
+        second.sums = all;
+        self.root = Some(second);
     }
 
     /// Takes the marks behind so many away.
