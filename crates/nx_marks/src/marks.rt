@@ -23,12 +23,12 @@ use nx_base::edit::Edit;
 use nx_base::fault::Faults;
 use nx_base::machine::Machine;
 use nx_base::memory::NoMemory;
+use nx_base::sequence::Bytes;
 use nx_base::steps::Steps;
-use nx_base::token::Token;
+use nx_base::token::{Token, TokenKind};
 use nx_scan::scan::scan_token_into;
 use nx_text::text::Text;
 use std::alloc::Global;
-use std::mem;
 use std::sync::ledger::Ledger;
 
 /// What is kept of a machine's run over a text. It belongs to one text and one machine and holds
@@ -38,8 +38,8 @@ pub struct Marks<A: Machine> {
     alloc: Global,
     pub kept: Kept<A::State>,
     pub taken: u64,
-    /// The memory that the bytes of one token after another are put in.
-    buffer: Vec<u8>,
+    /// The memory that one token after another is put in.
+    token: Token,
 }
 
 /// Takes the token at the frontier, where the line is parted. Marks aside that it passes are dropped.
@@ -110,7 +110,11 @@ impl<A: Machine> Marks<A> {
             alloc,
             kept: Kept::start(alloc, Stored::new(alloc, first)?),
             taken: 0,
-            buffer: Vec::new(alloc),
+            token: Token {
+                kind: TokenKind::Text,
+                from: 0,
+                bytes: Bytes::new(alloc),
+            },
         })
     }
 
@@ -162,12 +166,8 @@ impl<A: Machine> Marks<A> {
     {
         let _len = text.len();
         let at = self.kept.frontier();
-        let buffer = mem::replace(&mut self.buffer, Vec::new(self.alloc));
-        let Some(mut token) = scan_token_into(text, at, buffer, steps)? else {
-            return Ok(());
-        };
-        take(self.alloc, machine, text, &mut self.kept, &mut token)?;
-        self.buffer = token.bytes.into_vec();
+        scan_token_into(text, at, &mut self.token, steps)?;
+        take(self.alloc, machine, text, &mut self.kept, &mut self.token)?;
         rejoin(machine, &mut self.kept);
         Ok(())
     }

@@ -1,11 +1,11 @@
 //! The token at a place.
 
-ghost use Rattle.std.specs.Prelude.{◌≡◌, ◌+◌, ◌-◌, ◌<◌, ◌≤◌, ◌^◌, ◌==◌, ◌&&◌, length, drop, slice_index, IfOk, IfSome};
+ghost use Rattle.std.specs.Prelude.{◌≡◌, ◌+◌, ◌-◌, ◌<◌, ◌≤◌, ◌^◌, ◌==◌, ◌&&◌, length, drop, slice_index, IfOk, OnOk, IfSome};
 ghost use Rattle.std.specs.Bool.{OnTrue};
 ghost use Rattle.std.specs.Str.{IsUtf8};
 ghost use Rattle.nx_base.specs.Characters.{is_space};
 ghost use Rattle.nx_base.specs.Text.{IsPlace};
-ghost use Rattle.nx_base.specs.Tokens.{CutAt, cut_as, begins_with, begins_declaration, order_mark, first_token, markup, instruction};
+ghost use Rattle.nx_base.specs.Tokens.{CutAt, cut, cut_as, begins_with, begins_declaration, order_mark, first_token, markup, instruction};
 ghost use Rattle.nx_base.specs.Tokens.{doctype, closed, unclosed, bad_rest, tag, tags, end_of};
 ghost use Rattle.nx_scan.specs.Ending.{EndsAt};
 
@@ -15,6 +15,7 @@ use crate::tag::TagState;
 use crate::tag_part::read_on;
 use nx_base::character::is_space;
 use nx_base::memory::NoMemory;
+use nx_base::sequence::Bytes;
 use nx_base::steps::Steps;
 use nx_base::token::{Token, TokenKind};
 use nx_text::text::Text;
@@ -249,33 +250,41 @@ pub fn scan_token<L: Ledger>(
     ensures border { IfOk result (λ found. IfSome found (λ token. IsPlace text.now (end_of token))) }
     ensures step { steps.new ≡ steps.old + 1 }
 {
-    let found = scan_token_into(text, at, Vec::new(alloc), steps)?;
-    Ok(found)
+    if at == text.len() {
+        steps.tick();
+        return Ok(None);
+    }
+    let mut token = Token {
+        kind: TokenKind::Text,
+        from: at,
+        bytes: Bytes::new(alloc),
+    };
+    scan_token_into(text, at, &mut token, steps)?;
+    Ok(Some(token))
 }
 
-/// The same token, whose bytes are put in the place of what the buffer held. So whoever cuts many tokens takes memory for
-/// the longest of them alone.
+/// Puts the token that is cut at the place `at`, which isn't the length, in the place of another, its bytes in the room of those. So
+/// whoever cuts many tokens takes memory for the longest of them alone. It counts one step, and reads each byte of the token a bounded
+/// number of times. Where there is no memory the token may be anything.
 pub fn scan_token_into<L: Ledger>(
     text: &Text,
     at: usize,
-    buffer: Vec<u8>,
+    token: &mut Token,
     steps: &mut Steps<L>,
-) -> Result<Option<Token>, NoMemory>
-    requires { IsPlace text.now at }
-    ensures token { IfOk result (CutAt text.now at) }
-    ensures utf8 { IfOk result (λ found. IfSome found (λ token. IsUtf8 token.bytes)) }
-    ensures border { IfOk result (λ found. IfSome found (λ token. IsPlace text.now (end_of token))) }
+) -> Result<(), NoMemory>
+    requires place { IsPlace text.now at }
+    requires rest { at < length text.now }
+    ensures token { OnOk result (token.new ≡ cut text.now at) }
+    ensures utf8 { OnOk result (IsUtf8 token.new.bytes) }
+    ensures border { OnOk result (IsPlace text.now (end_of token.new)) }
     ensures step { steps.new ≡ steps.old + 1 }
 {
     steps.tick();
-    if at == text.len() {
-        return Ok(None);
-    }
+    // A length that is read is known to be that of UTF-8, and to fit.
+    let _len = text.len();
     let end = token_end(text, at);
-    let bytes = text.copy_range_into(at, end.place, buffer)?;
-    Ok(Some(Token {
-        kind: end.kind,
-        from: at,
-        bytes,
-    }))
+    token.kind = end.kind;
+    token.from = at;
+    text.copy_range_into(at, end.place, &mut token.bytes)?;
+    Ok(())
 }

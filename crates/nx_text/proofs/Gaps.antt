@@ -1,5 +1,5 @@
 -- A gap in a list, as it is moved and filled.
-use Rattle.std.proofs.Common.{◌≡◌, ◌∙◌, ℕ, ◌+◌, ◌-◌, ◌<◌, ◌≤◌, List, ◌++◌, length, take, drop, sym, ap, ap₂, arith, append_assoc, drop_at}
+use Rattle.std.proofs.Common.{◌≡◌, ◌∙◌, ℕ, ◌+◌, ◌-◌, ◌<◌, ◌≤◌, List, [], ◌++◌, length, take, drop, sym, ap, ap₂, arith, append_assoc, drop_at}
 use Rattle.std.proofs.Common.{length-append, length-take-le, drop-drop, take_all}
 use Rattle.std.specs.Prelude.{slice_range}
 use Rattle.std.proofs.lemmas.List.{drop-append-le, take-append-le, drop-take, length-drop}
@@ -106,6 +106,13 @@ module _ {A : Type 0} where
       let sum : length (drop from front) + (to - length front) ≡ to - from = omega arith in
       ap (take (to - from)) (drop-append-le from front back low) ∙ ap (λ k. take k (drop from front ++ back)) (sym sum)
       ∙ take-append-add (drop from front) back (to - length front)
+
+  -- what is put behind nothing
+  pub put_first : (none xs part : List A) → none ≡ [] → xs ≡ none ++ part → xs ≡ part
+  put_first none xs part is whole = whole ∙ ap (λ t. t ++ part) is
+
+  pub put_both : (none first xs near far : List A) → none ≡ [] → first ≡ none ++ near → xs ≡ first ++ far → xs ≡ near ++ far
+  put_both none first xs near far is one whole = whole ∙ ap (λ t. t ++ far) (put_first none first near is one)
 
   -- what is copied from the back part, and from both
   pub copied_back : (front back part xs : List A) (from to start : ℕ) → from ≤ to → length front ≡ start → start ≤ from → part ≡ back

@@ -1,11 +1,14 @@
 //! A list with a gap in it, where items are put in and taken out without moving the others.
 
 ghost use Rattle.std.specs.Prelude.{◌≡◌, ◌+◌, ◌<◌, ◌≤◌, ◌^◌, [], ◌∷◌, ◌++◌, length, take, drop, slice_get, slice_range};
-ghost use Rattle.std.specs.Prelude.{OnOk, OnSome, IfOk};
+ghost use Rattle.std.specs.Prelude.{OnOk, OnSome};
 ghost use Rattle.nx_text.specs.Gap.{Parted};
 
 use std::alloc::{AllocError, Global};
 use std::marker::Model;
+
+/// A gap that is widened gets one item of room for so many that the list has.
+const SPARE_PART: usize = 16;
 
 /// A list with a gap in it, in one block of memory. To a contract it is the part in front of the gap, the part behind
 /// it, and how many items the gap has room for.
@@ -32,25 +35,6 @@ impl<T> Model for GapBuffer<T> {
     } };
 
     ghost invariant = { λ b. (b.start ≤ b.end) × (b.end ≤ vec_len b.items) };
-}
-
-/// The items, in the place of what the buffer held.
-fn filled<T: Copy>(buffer: Vec<T>, items: &[T]) -> Result<Vec<T>, AllocError>
-    ensures { IfOk result (λ filled. filled.items ≡ items.now) }
-{
-    let mut filled = buffer;
-    filled.clear();
-    filled.extend_from_slice(items)?;
-    Ok(filled)
-}
-
-/// The items of one list and another behind it, in the place of what the buffer held.
-fn filled_by_both<T: Copy>(buffer: Vec<T>, front: &[T], back: &[T]) -> Result<Vec<T>, AllocError>
-    ensures { IfOk result (λ filled. filled.items ≡ front.now ++ back.now) }
-{
-    let mut filled = filled(buffer, front)?;
-    filled.extend_from_slice(back)?;
-    Ok(filled)
 }
 
 impl<T: Copy> GapBuffer<T> {
@@ -113,29 +97,35 @@ impl<T: Copy> GapBuffer<T> {
         Vec::new(*self.items.allocator())
     }
 
-    /// The items from one index to another, in the place of what the buffer held. Its room is taken over.
+    /// The items from one index to another, in the place of what the buffer held, in its room.
     pub(crate) fn copy_range(
         &self,
         from: usize,
         to: usize,
-        buffer: Vec<T>,
-    ) -> Result<Vec<T>, AllocError>
+        buffer: &mut Vec<T>,
+    ) -> Result<(), AllocError>
         requires ordered { from ≤ to }
         requires inside { to ≤ length self.now.front + length self.now.back }
-        ensures { IfOk result (λ copied. copied.items ≡ slice_range (self.now.front ++ self.now.back) from to) }
+        ensures { OnOk result (buffer.new.items ≡ slice_range (self.now.front ++ self.now.back) from to) }
     {
+        buffer.clear();
         let gap = self.start;
         if to <= gap {
-            return Ok(filled(buffer, &self.front()[from..to])?);
+            buffer.extend_from_slice(&self.front()[from..to])?;
+            return Ok(());
         }
         if from >= gap {
-            return Ok(filled(buffer, &self.back()[from - gap..to - gap])?);
+            buffer.extend_from_slice(&self.back()[from - gap..to - gap])?;
+            return Ok(());
         }
-        Ok(filled_by_both(buffer, &self.front()[from..], &self.back()[..to - gap])?)
+        buffer.extend_from_slice(&self.front()[from..])?;
+        buffer.extend_from_slice(&self.back()[..to - gap])?;
+        Ok(())
     }
 
-    /// Makes the gap so wide that it has room for so many items more. Where it must be widened it takes at least as
-    /// much as the list has, so that putting in one item after another takes time as their number.
+    /// Makes the gap so wide that it has room for so many items more. Where it must be widened it takes a part of what
+    /// the list has then beyond that, so that putting in one item after another takes time as their number, and so that
+    /// a list that was put in whole has room for the first items after it.
     pub(crate) fn make_room(&mut self, more: usize, filler: T) -> Result<(), AllocError>
         ensures front { self.new.front ≡ self.old.front }
         ensures back { self.new.back ≡ self.old.back }
@@ -145,8 +135,9 @@ impl<T: Copy> GapBuffer<T> {
             return Ok(());
         }
         let len = self.items.len();
-        let wider = more.max(len);
-        let new_len = len.checked_add(wider).ok_or(AllocError)?;
+        let full = len.checked_add(more).ok_or(AllocError)?;
+        let new_len = full.checked_add(full / SPARE_PART).ok_or(AllocError)?;
+        let wider = new_len - len;
         self.items.resize(new_len, filler)?;
         self.items.copy_within(self.end..len, self.end + wider);
         self.end += wider;

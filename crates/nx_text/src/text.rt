@@ -1,7 +1,7 @@
 //! A text that is edited at its places.
 
 ghost use Rattle.std.specs.Prelude.{◌≡◌, ◌+◌, ◌<◌, ◌≤◌, ◌^◌, ◌↔◌, [], ◌++◌, length, drop, encode_utf8, slice_get, slice_range};
-ghost use Rattle.std.specs.Prelude.{IsTrue, IfOk, OnSome, IfSome, MatchOption};
+ghost use Rattle.std.specs.Prelude.{IsTrue, IfOk, OnOk, OnSome, IfSome, MatchOption};
 ghost use Rattle.nx_text.specs.Borders.{IsNextBorder, IsPreviousBorder};
 ghost use Rattle.nx_text.specs.Places.{line_at, column_at};
 ghost use Rattle.std.specs.Str.{IsUtf8};
@@ -19,7 +19,7 @@ use nx_base::memory::NoMemory;
 use nx_base::sequence::Bytes;
 use std::alloc::{AllocError, Global};
 use std::marker::Model;
-use std::str;
+use std::{mem, str};
 use thiserror::Error;
 
 /// Why a text refused an edit.
@@ -161,25 +161,25 @@ impl Text {
         ensures bytes { IfOk result (λ copied. copied ≡ slice_range self.now from to) }
         ensures utf8 { IfOk result IsUtf8 }
     {
-        let buffer = self.bytes.no_items();
-        let copied = self.copy_range_into(from, to, buffer)?;
+        let mut copied = Bytes::from_vec(self.bytes.no_items());
+        self.copy_range_into(from, to, &mut copied)?;
         Ok(copied)
     }
 
-    /// The bytes from the place `from` to the place `to`, in the place of what the buffer held. Its room is taken over.
-    pub fn copy_range_into(
-        &self,
-        from: usize,
-        to: usize,
-        buffer: Vec<u8>,
-    ) -> Result<Bytes, NoMemory>
+    /// Puts the bytes from the place `from` to the place `to` in the place of what a list held, in its room. Where there is no
+    /// memory the list may hold anything.
+    pub fn copy_range_into(&self, from: usize, to: usize, list: &mut Bytes) -> Result<(), NoMemory>
         requires from { IsPlace self.now from }
         requires to { IsPlace self.now to }
         requires ordered { from ≤ to }
-        ensures bytes { IfOk result (λ copied. copied ≡ slice_range self.now from to) }
-        ensures utf8 { IfOk result IsUtf8 }
+        ensures bytes { OnOk result (list.new ≡ slice_range self.now from to) }
+        ensures utf8 { OnOk result (IsUtf8 list.new) }
     {
-        Ok(Bytes::from_vec(self.bytes.copy_range(from, to, buffer)?))
+        let empty = Bytes::from_vec(self.bytes.no_items());
+        let mut buffer = mem::replace(list, empty).into_vec();
+        self.bytes.copy_range(from, to, &mut buffer)?;
+        *list = Bytes::from_vec(buffer);
+        Ok(())
     }
 
     /// The byte at the byte offset `at`; none exactly where that is at least the length.
