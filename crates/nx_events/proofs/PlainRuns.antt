@@ -17,12 +17,12 @@ use Rattle.nx_events.specs.Faults.{faults_as_items}
 use Rattle.nx_base.specs.declared.fault.Kind.{Kind}
 use Rattle.nx_base.specs.declared.fault.Kind.TheVariants.{BadChar, BadReference, BadText}
 use Rattle.nx_events.specs.Strings.{line_piece_len, text_piece_len, piece_len, line_string_of, text_string_of, value_string_of, piece_string, string_of}
-use Rattle.nx_events.specs.CharacterFaults.{character_flaw, tag_flaw, text_flaw, piece_flaw, told_behind, new_faults, faults_behind}
+use Rattle.nx_events.specs.CharacterFaults.{character_flaw, tag_flaw, text_flaw, piece_flaw, told_behind, new_faults, faults_behind, character_faults}
 use Rattle.nx_events.specs.declared.character_fault.Told.{Told}
 use Rattle.nx_events.specs.declared.reading.Reading.{Reading}
 use Rattle.nx_events.specs.declared.reading.Reading.TheVariants.{Plain, Text, Value}
 use Rattle.nx_events.proofs.Pieces.{string_step}
-use Rattle.nx_events.proofs.CharacterFaults.{faults_step}
+use Rattle.nx_events.proofs.CharacterFaults.{faults_step, faults_whole, faults_begin}
 
 left_of : (a b : Bool) → (a && b) ≡ true → a ≡ true
 left_of true b e = refl
@@ -192,3 +192,13 @@ run_read reading n xs out new h e = rw (take_rest xs n, e, append_assoc) (ap (λ
 pub run_told : (told : Told) (reading : Reading) (at n : ℕ) (xs : List ℕ) (old : List Item) → n ≤ prefix_len (is_plain_in reading) xs →
     old ++ faults_as_items (faults_behind told reading (at + n) (take (length xs - n) (drop n xs))) ≡ old ++ faults_as_items (faults_behind told reading at xs)
 run_told told reading at n xs old h = rw (take_rest xs n) (ap (λ (fs : List Fault). old ++ faults_as_items fs) (sym (faults_run told reading at n xs h)))
+
+-- a text of such bytes alone has nothing to tell
+pub plain_told : (reading : Reading) (at : ℕ) (xs : List ℕ) (old : List Item) → prefix_len (is_plain_in reading) xs ≡ length xs →
+    old ≡ old ++ faults_as_items (character_faults reading at xs)
+plain_told reading at xs old e =
+    let none : Told = record { bad_char = false; bad_text = false } in
+    let spent : length xs - length xs ≡ 0 = omega arith in
+    faults_whole none reading (at + length xs) (take (length xs - length xs) (drop (length xs) xs)) old _
+    (ap (λ (k : ℕ). length (take k (drop (length xs) xs)) == 0) spent)
+    (run_told none reading at (length xs) xs old (omega (arith, e)) ∙ ap (λ (fs : List Fault). old ++ faults_as_items fs) (faults_begin reading at xs))

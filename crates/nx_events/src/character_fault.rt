@@ -7,7 +7,7 @@ ghost use Rattle.nx_events.specs.CharacterFaults.{told_behind, new_faults, chara
 
 use crate::item::{Item, Items};
 use crate::piece::front_piece;
-use crate::plain::plain_len;
+use crate::plain::{is_plain_text, plain_len};
 use crate::reading::Reading;
 use crate::reference::referenced;
 use crate::utf8::{front_char, is_char};
@@ -187,6 +187,24 @@ fn pass_front<'a>(
 
 /// Adds the faults of the characters and references in bytes that begin at the place `at`.
 pub(crate) fn push_character_faults(
+    alloc: Global,
+    items: &mut Items,
+    reading: Reading,
+    at: usize,
+    bytes: &[u8],
+) -> Result<(), NoMemory>
+    requires { at + length bytes.now < 2 ^ 64 }
+    ensures { OnOk result (items.new ≡ items.old ++ faults_as_items (character_faults reading at bytes.now)) }
+{
+    if is_plain_text(reading, bytes) {
+        return Ok(());
+    }
+    push_faults_one_by_one(alloc, items, reading, at, bytes)?;
+    Ok(())
+}
+
+// Adds the same, a run or a piece at a time.
+fn push_faults_one_by_one(
     alloc: Global,
     items: &mut Items,
     reading: Reading,

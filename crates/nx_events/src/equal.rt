@@ -26,7 +26,11 @@ impl Equal for Run {
 
 impl Equal for Pending {
     fn equals(&self, other: &Pending) -> bool {
-        self.get().equals(other.get())
+        match (self.get(), other.get()) {
+            (Some(run), Some(other)) => run.equals(other),
+            (None, None) => true,
+            _ => false,
+        }
     }
 }
 

@@ -14,6 +14,7 @@
 #![tactic(auto)]
 
 // reading one token: characters, strings, references, markup, names, tags, declarations
+mod buffer;
 mod character_fault;
 mod declaration;
 pub mod flaw;

@@ -9,7 +9,6 @@ use crate::stack::Stack;
 use crate::state::OpenElement;
 use nx_base::fault::{Fault, Kind, Span};
 use nx_base::memory::NoMemory;
-use nx_base::sequence::TryCopy;
 
 /// How many elements stand around the innermost one with this written name, if there is one.
 pub(crate) fn around_innermost(name: &[u8], elements: &Stack<OpenElement>) -> Option<usize>
@@ -31,7 +30,7 @@ fn push_left_out(
     items.push(Item::Fault(Fault {
         span,
         kind,
-        detail: element.written.copy()?,
+        detail: element.written.to_bytes()?,
     }))?;
     items.push(Item::Event(Event::Leave, span))?;
     Ok(())

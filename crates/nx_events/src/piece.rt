@@ -143,19 +143,28 @@ fn push_front<'a>(
 pub(crate) fn string_of(alloc: Global, reading: Reading, bytes: &[u8]) -> Result<Bytes, NoMemory>
     ensures { IfOk result (λ string. string ≡ string_of reading bytes.now) }
 {
-    let string = string_in(Vec::with_capacity(alloc, bytes.len())?, reading, bytes)?;
-    Ok(string)
+    let mut out = Vec::with_capacity(alloc, bytes.len())?;
+    push_string(reading, &mut out, bytes)?;
+    Ok(Bytes::from_vec(out))
 }
 
-/// The same in memory that lay aside.
-pub(crate) fn string_in(memory: Vec<u8>, reading: Reading, bytes: &[u8]) -> Result<Bytes, NoMemory>
-    ensures { IfOk result (λ string. string ≡ string_of reading bytes.now) }
+/// Adds the string that a text stands for. Most texts are one run of plain bytes.
+pub(crate) fn push_string(reading: Reading, out: &mut Vec<u8>, bytes: &[u8]) -> Result<(), NoMemory>
+    ensures { OnOk result (out.new.items ≡ out.old.items ++ string_of reading bytes.now) }
 {
-    let mut out = memory;
-    out.clear();
+    let n = plain_len(reading, bytes);
+    out.extend_from_slice(&bytes[..n])?;
+    push_further(reading, out, &bytes[n..])?;
+    Ok(())
+}
+
+// Adds the same, a run or a piece at a time.
+fn push_further(reading: Reading, out: &mut Vec<u8>, bytes: &[u8]) -> Result<(), NoMemory>
+    ensures { OnOk result (out.new.items ≡ out.old.items ++ string_of reading bytes.now) }
+{
     let mut rest = bytes;
     while !rest.is_empty() {
-        rest = push_front(reading, &mut out, rest)?;
+        rest = push_front(reading, out, rest)?;
     }
-    Ok(Bytes::from_vec(out))
+    Ok(())
 }

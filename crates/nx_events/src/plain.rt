@@ -1,6 +1,6 @@
 //! Runs of bytes that stand for themselves and are no fault, which are most of a text. They are read at once.
 
-ghost use Rattle.std.specs.Prelude.{◌≡◌, ◌≤◌, length};
+ghost use Rattle.std.specs.Prelude.{◌≡◌, ◌≤◌, true, length};
 ghost use Rattle.std.specs.List.{prefix_len};
 ghost use Rattle.nx_events.specs.Plain.{is_plain, is_plain_line, is_plain_in};
 
@@ -38,4 +38,11 @@ pub(crate) fn plain_len(reading: Reading, bytes: &[u8]) -> usize
         Reading::Text => plain_lines_len(bytes),
         Reading::Value => bytes.iter().take_while(|b| is_plain(**b)).count(),
     }
+}
+
+/// Whether all bytes stand for themselves in this reading. Of nearly all tokens they do.
+pub(crate) fn is_plain_text(reading: Reading, bytes: &[u8]) -> bool
+    ensures { result ≡ true → prefix_len (is_plain_in reading) bytes.now ≡ length bytes.now }
+{
+    plain_len(reading, bytes) == bytes.len()
 }

@@ -12,7 +12,7 @@ use crate::state::{EventState, OpenElement};
 use crate::tag::copy_of;
 use nx_base::memory::NoMemory;
 use nx_base::name::Name;
-use nx_base::sequence::{Bytes, TryCopy};
+use nx_base::sequence::Bytes;
 use nx_base::token::{Token, TokenKind};
 use std::alloc::Global;
 
@@ -44,7 +44,7 @@ pub fn run_of(state: &EventState) -> Result<Option<Bytes>, NoMemory>
             if run.string.is_empty() {
                 Ok(None)
             } else {
-                Ok(Some(run.string.copy()?))
+                Ok(Some(run.string.to_bytes()?))
             }
         }
     }

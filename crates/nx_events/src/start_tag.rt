@@ -8,6 +8,7 @@ ghost use Rattle.nx_events.specs.Runs.{run_back};
 ghost use Rattle.nx_events.specs.SeenNames.{AreKept};
 ghost use Rattle.nx_events.specs.Items.{token_span, is_behind, own_bindings, start_items, empty_items, opened, emptied};
 
+use crate::buffer::Buffer;
 use crate::character_fault::push_character_faults;
 use crate::element::{element_resolved, push_attributes, push_element};
 use crate::item::{Event, Item, Items};
@@ -20,7 +21,6 @@ use crate::tag::{is_name_alone, start_name, tag_attributes};
 use crate::tag_names::TagNames;
 use crate::token_fault::token_span;
 use nx_base::memory::NoMemory;
-use nx_base::sequence::Bytes;
 use nx_base::token::Token;
 use std::alloc::Global;
 
@@ -114,16 +114,6 @@ pub(crate) fn push_start(
     Ok(own)
 }
 
-// A copy of the bytes, in the memory of an element that is over.
-fn written_in(spare: OpenElement, bytes: &[u8]) -> Result<Bytes, NoMemory>
-    ensures { IfOk result (λ copied. copied ≡ bytes.now) }
-{
-    let mut memory = spare.written.into_vec();
-    memory.clear();
-    memory.extend_from_slice(bytes)?;
-    Ok(Bytes::from_vec(memory))
-}
-
 // The state inside of an element that declares these pairs.
 pub(crate) fn open(
     alloc: Global,
@@ -136,14 +126,12 @@ pub(crate) fn open(
     ensures err { OnErr result (state.new ≡ state.old) }
 {
     let depth = state.elements.len();
-    let spare = state.elements.swap_spare(OpenElement {
-        written: Bytes::new(alloc),
+    let mut element = state.elements.swap_spare(OpenElement {
+        written: Buffer::new(alloc),
         outer: 0,
     });
-    let element = OpenElement {
-        written: written_in(spare, start_name(token.bytes.as_slice()))?,
-        outer: state.scope.len(),
-    };
+    element.written.fill(start_name(token.bytes.as_slice()))?;
+    element.outer = state.scope.len();
     state.elements.push(element)?;
     if state.scope.append(own).is_err() {
         state.elements.shorten(depth);

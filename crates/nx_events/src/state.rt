@@ -1,23 +1,25 @@
 //! What is known between two tokens.
 
-ghost use Rattle.std.specs.Prelude.{◌≡◌, ◌+◌, ◌<◌, ◌≤◌, ◌^◌, ◌++◌, length, None, IfOk, OnOk, OnErr};
+ghost use Rattle.std.specs.Prelude.{◌≡◌, ◌+◌, ◌<◌, ◌≤◌, ◌^◌, ◌++◌, length, None, option_copied, IfOk, OnOk, OnErr};
+ghost use Rattle.nx_events.specs.Strings.{string_of};
 ghost use Rattle.nx_events.specs.Runs.{run_passed, run_joined, run_back, run_items};
 
+use crate::buffer::Buffer;
 use crate::item::{Event, Item, Items};
+use crate::reading::Reading;
 use crate::scope::Bindings;
 use crate::stack::{Named, Stack};
 use nx_base::fault::Span;
 use nx_base::memory::NoMemory;
-use nx_base::sequence::{Bytes, TryCopy};
+use nx_base::sequence::TryCopy;
 use std::alloc::Global;
 use std::marker::Model;
-use std::mem;
 
 /// An open element.
 #[derive(Drop)]
 pub struct OpenElement {
     /// The name as it is written in its start tag.
-    pub written: Bytes,
+    pub written: Buffer,
     /// How many of the pairs in scope are declared around it.
     pub outer: usize,
 }
@@ -27,28 +29,29 @@ pub struct OpenElement {
 #[derive(Drop)]
 pub struct Run {
     /// The strings of its tokens, joined.
-    pub string: Bytes,
+    pub string: Buffer,
     /// How many bytes there are from its first token's start to its last one's end.
     pub len: usize,
     /// How many bytes there are from its last token's end to the last token's.
     pub gap: usize,
 }
 
-/// The run that is pending, if one is, and the memory of the one before it, in which the next one's string is put. To a
-/// contract it is the run.
+/// The run that is pending, if one is. One that is over stays, so that the next one's string is put in its memory. To a
+/// contract it is the run that is pending.
 #[derive(Drop)]
 pub struct Pending {
-    run: Option<Run>,
-    spare: Vec<u8>,
+    alloc: Global,
+    is_pending: bool,
+    last: Run,
 }
 
 impl Model for Pending {
-    ghost use Rattle.std.specs.Prelude.{Option};
+    ghost use Rattle.std.specs.Prelude.{Option, Some, None, if◌then◌else◌};
     ghost use Rattle.nx_events.specs.declared.state.Run.{Run};
 
     ghost Value = { Option Run };
 
-    ghost view = { λ p. p.run };
+    ghost view = { λ p. if p.is_pending then Some p.last else None };
 }
 
 /// What is known of the tokens so far. It holds no place of the text.
@@ -101,33 +104,32 @@ impl Pending {
         ensures { result ≡ None }
     {
         Pending {
-            run: None,
-            spare: Vec::new(alloc),
+            alloc,
+            is_pending: false,
+            last: Run {
+                string: Buffer::new(alloc),
+                len: 0,
+                gap: 0,
+            },
         }
     }
 
     /// The run.
-    pub(crate) fn get(&self) -> &Option<Run>
-        ensures { result.now ≡ self.now }
+    pub(crate) fn get(&self) -> Option<&Run>
+        ensures { option_copied result ≡ self.now }
     {
-        &self.run
-    }
-
-    /// Gives away the memory that is kept.
-    pub(crate) fn give_spare(&mut self) -> Vec<u8>
-        ensures { self.new ≡ self.old }
-    {
-        let alloc = *self.spare.allocator();
-        mem::replace(&mut self.spare, Vec::new(alloc))
+        if self.is_pending {
+            Some(&self.last)
+        } else {
+            None
+        }
     }
 
     /// The run is over.
     pub(crate) fn end(&mut self)
         ensures { self.new ≡ None }
     {
-        if let Some(run) = self.run.take() {
-            self.spare = run.string.into_vec();
-        }
+        self.is_pending = false;
     }
 
     /// The run behind one more token of `n` bytes that isn't part of it.
@@ -135,31 +137,26 @@ impl Pending {
         requires { run_back self.old + n < 2 ^ 64 }
         ensures { self.new ≡ run_passed n self.old }
     {
-        if let Some(run) = &mut self.run {
-            run.gap += n;
+        if self.is_pending {
+            self.last.gap += n;
         }
     }
 
-    /// The run behind one more token of `n` bytes that has this string.
-    pub(crate) fn join(&mut self, string: Bytes, n: usize) -> Result<(), NoMemory>
+    /// The run behind one more token of `n` bytes whose text is this.
+    pub(crate) fn join(&mut self, reading: Reading, text: &[u8], n: usize) -> Result<(), NoMemory>
         requires { run_back self.old + n < 2 ^ 64 }
-        ensures ok { OnOk result (self.new ≡ run_joined string n self.old) }
+        ensures ok { OnOk result (self.new ≡ run_joined (string_of reading text.now) n self.old) }
         ensures err { OnErr result (self.new ≡ self.old) }
     {
-        match &mut self.run {
-            None => {
-                self.run = Some(Run {
-                    string,
-                    len: n,
-                    gap: 0,
-                });
-            }
-            Some(run) => {
-                run.string.append(string)?;
-                run.len = run.gap + run.len + n;
-                run.gap = 0;
-            }
+        if self.is_pending {
+            self.last.string.append_string(reading, text)?;
+            self.last.len += self.last.gap + n;
+        } else {
+            self.last.string.fill_with_string(reading, text)?;
+            self.last.len = n;
+            self.is_pending = true;
         }
+        self.last.gap = 0;
         Ok(())
     }
 }
@@ -167,13 +164,13 @@ impl Pending {
 impl TryCopy for Pending {
     // States are kept by the ten thousand, so the memory of runs that are over stays behind.
     fn copy(&self) -> Result<Pending, NoMemory> {
-        let run = match &self.run {
-            None => None,
-            Some(run) => Some(run.copy()?),
-        };
+        if !self.is_pending {
+            return Ok(Pending::new(self.alloc));
+        }
         Ok(Pending {
-            run,
-            spare: Vec::new(*self.spare.allocator()),
+            alloc: self.alloc,
+            is_pending: true,
+            last: self.last.copy()?,
         })
     }
 }
@@ -191,7 +188,7 @@ pub(crate) fn push_run(items: &mut Items, at: usize, run: &Pending) -> Result<()
                 from: to - run.len,
                 to,
             };
-            items.push(Item::Event(Event::Chars(run.string.copy()?), span))?;
+            items.push(Item::Event(Event::Chars(run.string.to_bytes()?), span))?;
         }
     }
     Ok(())

@@ -7,7 +7,6 @@ ghost use Rattle.nx_events.specs.Items.{cdata_items, text_items, joined};
 
 use crate::front::are_spaces;
 use crate::item::Items;
-use crate::piece::string_in;
 use crate::reading::Reading;
 use crate::stage::{is_inside, pass};
 use crate::state::EventState;
@@ -39,8 +38,7 @@ pub(crate) fn join(
     ensures err { OnErr result (state.new ≡ state.old) }
 {
     if is_inside(state) {
-        let string = string_in(state.run.give_spare(), reading, content)?;
-        state.run.join(string, token.bytes.len())?;
+        state.run.join(reading, content, token.bytes.len())?;
         state.came = true;
     } else {
         pass(state, token);

@@ -1,7 +1,7 @@
 use Rattle.std.proofs.Common.{◌≡◌, ◌+◌, ◌<◌, ◌++◌, ◌^◌, length}
 use Rattle.nx_events.specs.Faults.{faults_as_items}
 use Rattle.nx_events.specs.CharacterFaults.{faults_behind, character_faults}
-use Rattle.nx_events.proofs.character_fault.push_character_faults.Given as goal
+use Rattle.nx_events.proofs.character_fault.push_faults_one_by_one.Given as goal
 
 abbrev pub invariant-loop-rest : goal.invariant-loop-rest
 invariant-loop-rest l =
