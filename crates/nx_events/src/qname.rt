@@ -118,6 +118,12 @@ pub(crate) fn parted(name: &[u8]) -> Option<QName<'_>>
     ensures { MatchOption result (is_qname name.now ≡ false) (λ parts. (is_qname name.now ≡ true)
         × (parts.prefix.now ≡ prefix_of name.now) × (parts.local.now ≡ local_of name.now)) }
 {
+    if is_plain_name(name) {
+        return Some(QName {
+            prefix: &[],
+            local: name,
+        });
+    }
     let colon = byte_place(name, b':');
     if colon == name.len() {
         return if is_ncname(name) {

@@ -11,7 +11,7 @@ use crate::item::Items;
 use crate::nesting::push_all_left_out;
 use crate::other_token::{pass_other, push_other};
 use crate::reading::Reading;
-use crate::scope::Bindings;
+use crate::scope::OwnBindings;
 use crate::stack::Stack;
 use crate::start_tag::{empty, open, push_empty, push_start};
 use crate::state::{EventState, Pending, push_run};
@@ -39,15 +39,15 @@ pub fn begin(alloc: Global) -> Result<EventState, NoMemory>
 /// What a token declares for the tokens behind it, as `read` answers it to `pass_token`.
 #[derive(Drop)]
 pub struct Declared {
-    pub(crate) own: Bindings,
+    pub(crate) own: OwnBindings,
 }
 
 // What a token declares that isn't a start tag.
-fn nothing_declared(alloc: Global) -> Declared
+fn nothing_declared() -> Declared
     ensures { result.own ≡ [] }
 {
     Declared {
-        own: Bindings::new(alloc),
+        own: OwnBindings::none(),
     }
 }
 
@@ -94,7 +94,7 @@ fn read_by_kind(
         TokenKind::Bad => push_other(alloc, items, state, token)?,
         TokenKind::Unclosed => push_other(alloc, items, state, token)?,
     }
-    Ok(nothing_declared(alloc))
+    Ok(nothing_declared())
 }
 
 /// Adds the items of one more token to a list, and answers what the token declares. The state stays. Where it is

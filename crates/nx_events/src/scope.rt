@@ -1,11 +1,13 @@
 //! Namespace declarations in force (Namespaces in XML 1.0, sections 3, 5 and 6).
 
-ghost use Rattle.std.specs.Prelude.{◌≡◌, ◌++◌, option_copied};
+ghost use Rattle.std.specs.Prelude.{◌≡◌, ◌++◌, [], option_copied, IfOk};
 ghost use Rattle.nx_events.specs.Scopes.{last_uri, bound_uri, element_uri, attribute_uri};
 
 use crate::stack::{Named, Stack};
 use nx_base::memory::NoMemory;
 use nx_base::sequence::{Bytes, TryCopy};
+use std::alloc::Global;
+use std::marker::Model;
 
 /// A prefix, empty for the default namespace, and the URI that it is bound to.
 #[derive(Drop)]
@@ -34,6 +36,51 @@ impl Named for Binding {
 /// Pairs in the order of their declarations, in which the last one of a prefix is found at once.
 pub type Bindings = Stack<Binding>;
 
+/// The pairs that a token declares. Most declare none: then this takes no memory beside a pointer, and is moved and
+/// dropped in a step or two. To a contract it is the list.
+#[derive(Drop)]
+pub struct OwnBindings {
+    pairs: Option<Box<Bindings>>,
+}
+
+impl Model for OwnBindings {
+    ghost use Rattle.std.specs.Prelude.{List, [], unwrap_or};
+    ghost use Rattle.std.specs.Option.{option_map};
+    ghost use Rattle.nx_events.specs.declared.scope.Binding.{Binding};
+
+    ghost Value = { List Binding };
+
+    ghost view = { λ own. unwrap_or (option_map (λ pairs. pairs.value) own.pairs) [] };
+}
+
+impl OwnBindings {
+    /// No pairs.
+    pub(crate) fn none() -> OwnBindings
+        ensures { result ≡ [] }
+    {
+        OwnBindings { pairs: None }
+    }
+
+    /// These pairs.
+    pub(crate) fn of(alloc: Global, pairs: Bindings) -> Result<OwnBindings, NoMemory>
+        ensures { IfOk result (λ own. own ≡ pairs) }
+    {
+        Ok(OwnBindings {
+            pairs: Some(Box::new(alloc, pairs)?),
+        })
+    }
+
+    /// The pairs, in order.
+    pub(crate) fn as_slice(&self) -> &[Binding]
+        ensures { result.now ≡ self.now }
+    {
+        match &self.pairs {
+            None => &[],
+            Some(pairs) => pairs.as_slice(),
+        }
+    }
+}
+
 /// The URI of the prefix `xml`.
 pub(crate) const XML_URI: &[u8] = b"http://www.w3.org/XML/1998/namespace";
 
@@ -51,6 +98,10 @@ fn last_uri<'a>(bindings: &'a Bindings, prefix: &[u8]) -> Option<&'a [u8]>
 fn last_uri_of_two<'a>(outer: &'a Bindings, own: &'a Bindings, prefix: &[u8]) -> Option<&'a [u8]>
     ensures { option_copied result ≡ last_uri (outer.now ++ own.now) prefix.now }
 {
+    // Most tags declare nothing.
+    if own.len() == 0 {
+        return last_uri(outer, prefix);
+    }
     match last_uri(own, prefix) {
         Some(uri) => Some(uri),
         None => last_uri(outer, prefix),

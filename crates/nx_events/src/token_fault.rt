@@ -52,6 +52,8 @@ pub(crate) fn push_characters(
     ensures { OnOk result (items.new ≡ items.old ++ character_items reading test kind token.now) }
 {
     push_character_faults(alloc, items, reading, token.from, token.bytes.as_slice())?;
-    push_token_fault_if(alloc, items, test, kind, token)?;
+    if test {
+        push_bare(alloc, items, kind, token_span(token))?;
+    }
     Ok(())
 }
