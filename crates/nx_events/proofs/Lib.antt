@@ -1,6 +1,7 @@
 mod Examples
 pub mod References
 pub mod Pieces
+pub mod Buffers
 pub mod PlainNames
 pub mod PlainRuns
 pub mod CharacterFaults

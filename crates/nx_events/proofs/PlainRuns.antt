@@ -6,6 +6,7 @@ use Rattle.std.proofs.lemmas.Bool.Decides.{nat_tests}
 use Rattle.std.specs.List.{prefix_len, starts_with}
 use Rattle.std.specs.Str.{continuation_len, lead_bits}
 use Rattle.nx_base.specs.Characters.{is_char, is_space}
+use Rattle.std.proofs.lemmas.Grind.{common_steps}
 use Rattle.std.proofs.lemmas.List.{take_rest}
 use Rattle.nx_events.specs.Plain.{is_plain, is_plain_line, is_plain_in}
 use Rattle.nx_events.specs.Utf8.{with_following, front_char}
@@ -21,7 +22,7 @@ use Rattle.nx_events.specs.CharacterFaults.{character_flaw, tag_flaw, text_flaw,
 use Rattle.nx_events.specs.declared.character_fault.Told.{Told}
 use Rattle.nx_events.specs.declared.reading.Reading.{Reading}
 use Rattle.nx_events.specs.declared.reading.Reading.TheVariants.{Plain, Text, Value}
-use Rattle.nx_events.proofs.Pieces.{string_step}
+use Rattle.nx_events.proofs.Pieces.{string_step, string_whole}
 use Rattle.nx_events.proofs.CharacterFaults.{faults_step, faults_whole, faults_begin}
 
 left_of : (a b : Bool) → (a && b) ≡ true → a ≡ true
@@ -202,3 +203,13 @@ plain_told reading at xs old e =
     faults_whole none reading (at + length xs) (take (length xs - length xs) (drop (length xs) xs)) old _
     (ap (λ (k : ℕ). length (take k (drop (length xs) xs)) == 0) spent)
     (run_told none reading at (length xs) xs old (omega (arith, e)) ∙ ap (λ (fs : List Fault). old ++ faults_as_items fs) (faults_begin reading at xs))
+
+-- and is its own string
+pub plain_string_of : (reading : Reading) (xs : List ℕ) → prefix_len (is_plain_in reading) xs ≡ length xs → xs ≡ string_of reading xs
+plain_string_of reading xs e =
+    let spent : length xs - length xs ≡ 0 = omega arith in
+    let whole : take (length xs) xs ≡ xs = grind (arith, common_steps) in
+    sym whole
+    ∙ string_whole reading (take (length xs - length xs) (drop (length xs) xs)) (take (length xs) xs) _
+    (ap (λ (k : ℕ). length (take k (drop (length xs) xs)) == 0) spent)
+    (run_read reading (length xs) xs [] (take (length xs) xs) (omega (arith, e)) refl)

@@ -4,6 +4,7 @@ ghost use Rattle.std.specs.Prelude.{◌≡◌, ◌==◌, ◌++◌, [], length, I
 ghost use Rattle.nx_events.specs.Strings.{string_of};
 
 use crate::piece::{push_string, string_of};
+use crate::plain::is_plain_text;
 use crate::reading::Reading;
 use crate::tag::copy_of;
 use nx_base::equal::Equal;
@@ -15,15 +16,19 @@ use std::marker::Model;
 /// Bytes, in memory that serves again for others. To a contract they are the bytes.
 #[derive(Drop)]
 pub struct Buffer {
-    bytes: Vec<u8>,
+    /// The bytes, and behind them what was there before: a list that keeps its length is written over at once.
+    memory: Vec<u8>,
+    len: usize,
 }
 
 impl Model for Buffer {
-    ghost use Rattle.std.specs.Prelude.{ℕ, List};
+    ghost use Rattle.std.specs.Prelude.{◌≤◌, ℕ, List, length, take};
 
     ghost Value = { List ℕ };
 
-    ghost view = { λ b. b.bytes.items };
+    ghost view = { λ b. take b.len b.memory.items };
+
+    ghost invariant = { λ b. b.len ≤ length b.memory.items };
 }
 
 impl Buffer {
@@ -32,7 +37,8 @@ impl Buffer {
         ensures { result ≡ [] }
     {
         Buffer {
-            bytes: Vec::new(alloc),
+            memory: Vec::new(alloc),
+            len: 0,
         }
     }
 
@@ -40,22 +46,30 @@ impl Buffer {
     pub(crate) fn as_slice(&self) -> &[u8]
         ensures { result.now ≡ self.now }
     {
-        self.bytes.as_slice()
+        &self.memory[..self.len]
     }
 
     /// Whether there is no byte.
     pub(crate) fn is_empty(&self) -> bool
         ensures { result ≡ (length self.now == 0) }
     {
-        self.bytes.is_empty()
+        self.len == 0
     }
 
     /// Puts a copy of these bytes in the place of what is there. Where it is refused, anything may be there.
     pub(crate) fn fill(&mut self, bytes: &[u8]) -> Result<(), NoMemory>
         ensures { OnOk result (self.new ≡ bytes.now) }
     {
-        self.bytes.clear();
-        self.bytes.extend_from_slice(bytes)?;
+        let len = bytes.len();
+        if len <= self.memory.len() {
+            self.memory[0..len].copy_from_slice(bytes);
+            self.len = len;
+            return Ok(());
+        }
+        self.len = 0;
+        self.memory.clear();
+        self.memory.extend_from_slice(bytes)?;
+        self.len = len;
         Ok(())
     }
 
@@ -63,8 +77,14 @@ impl Buffer {
     pub(crate) fn fill_with_string(&mut self, reading: Reading, text: &[u8]) -> Result<(), NoMemory>
         ensures { OnOk result (self.new ≡ string_of reading text.now) }
     {
-        self.bytes.clear();
-        push_string(reading, &mut self.bytes, text)?;
+        if is_plain_text(reading, text) {
+            self.fill(text)?;
+            return Ok(());
+        }
+        self.len = 0;
+        self.memory.clear();
+        push_string(reading, &mut self.memory, text)?;
+        self.len = self.memory.len();
         Ok(())
     }
 
@@ -73,8 +93,10 @@ impl Buffer {
         ensures ok { OnOk result (self.new ≡ self.old ++ string_of reading text.now) }
         ensures err { OnErr result (self.new ≡ self.old) }
     {
-        let more = string_of(*self.bytes.allocator(), reading, text)?;
-        self.bytes.extend_from_slice(more.as_slice())?;
+        let more = string_of(*self.memory.allocator(), reading, text)?;
+        self.memory.truncate(self.len);
+        self.memory.extend_from_slice(more.as_slice())?;
+        self.len = self.memory.len();
         Ok(())
     }
 
@@ -82,7 +104,7 @@ impl Buffer {
     pub(crate) fn to_bytes(&self) -> Result<Bytes, NoMemory>
         ensures { IfOk result (λ copied. copied ≡ self.now) }
     {
-        let copied = copy_of(*self.bytes.allocator(), self.bytes.as_slice())?;
+        let copied = copy_of(*self.memory.allocator(), self.as_slice())?;
         Ok(copied)
     }
 }
@@ -90,13 +112,14 @@ impl Buffer {
 impl TryCopy for Buffer {
     fn copy(&self) -> Result<Buffer, NoMemory> {
         Ok(Buffer {
-            bytes: Vec::from_slice(*self.bytes.allocator(), self.bytes.as_slice())?,
+            memory: Vec::from_slice(*self.memory.allocator(), self.as_slice())?,
+            len: self.len,
         })
     }
 }
 
 impl Equal for Buffer {
     fn equals(&self, other: &Buffer) -> bool {
-        self.bytes.as_slice() == other.bytes.as_slice()
+        self.as_slice() == other.as_slice()
     }
 }
