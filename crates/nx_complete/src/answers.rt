@@ -163,7 +163,7 @@ fn run_event(alloc: Global, events: &EventState) -> Result<Items, NoMemory>
     ensures event { IfOk result (λ items. items ≡ run_event events.now.run) }
     ensures text { IfOk result ItemsAreText }
 {
-    let mut items = Sequence::new(alloc);
+    let mut items = Items::new(alloc);
     if let Some(string) = run_of(events)? {
         items.push(Item::Event(Event::Chars(string), Span { from: 0, to: 0 }))?;
     }

@@ -1,12 +1,14 @@
 //! Events and faults, in the order in which they arise.
 
-ghost use Rattle.std.specs.Prelude.{◌≡◌, IfOk, take};
+ghost use Rattle.std.specs.Prelude.{◌≡◌, [], ◌∷◌, ◌++◌, ◌==◌, length, take, IfOk, OnOk, OnErr};
 
 use nx_base::fault::{Fault, Span};
 use nx_base::memory::NoMemory;
 use nx_base::name::Name;
-use nx_base::sequence::{Bytes, Sequence, TryCopy, TryCopyAll, copy_each};
+use nx_base::sequence::{Bytes, TryCopy, TryCopyAll, copy_each};
 use std::alloc::Global;
+use std::marker::Model;
+use std::mem;
 
 /// What a tag, a text run or the end of a text does to the elements.
 #[derive(Drop)]
@@ -32,8 +34,112 @@ pub enum Item {
     Fault(Fault),
 }
 
-/// A list of items.
-pub type Items = Sequence<Item>;
+/// A list of items, and the memory of a run's string that was among them, in which the next one's is put. To a contract it is the list.
+#[derive(Drop)]
+pub struct Items {
+    items: Vec<Item>,
+    spare: Vec<u8>,
+}
+
+impl Model for Items {
+    ghost use Rattle.std.specs.Prelude.{List};
+    ghost use Rattle.nx_events.specs.declared.item.Item.{Item};
+
+    ghost Value = { List Item };
+
+    ghost view = { λ i. i.items.items };
+}
+
+impl Items {
+    /// The empty list.
+    pub fn new(alloc: Global) -> Items
+        ensures { result ≡ [] }
+    {
+        Items {
+            items: Vec::new(alloc),
+            spare: Vec::new(alloc),
+        }
+    }
+
+    /// The items, in order.
+    pub fn as_slice(&self) -> &[Item]
+        ensures { result.now ≡ self.now }
+    {
+        self.items.as_slice()
+    }
+
+    /// Whether there is no item.
+    pub fn is_empty(&self) -> bool
+        ensures { result ≡ (length self.now == 0) }
+    {
+        self.items.is_empty()
+    }
+
+    /// Adds an item at the end.
+    pub fn push(&mut self, item: Item) -> Result<(), NoMemory>
+        ensures ok { OnOk result (self.new ≡ self.old ++ item ∷ []) }
+        ensures err { OnErr result (self.new ≡ self.old) }
+    {
+        self.items.push(item)?;
+        Ok(())
+    }
+
+    /// Moves all items of another list to the end, or none of them.
+    pub fn append(&mut self, more: Items) -> Result<(), NoMemory>
+        ensures ok { OnOk result (self.new ≡ self.old ++ more) }
+        ensures err { OnErr result (self.new ≡ self.old) }
+    {
+        let mut more = more;
+        self.items.append(&mut more.items)?;
+        Ok(())
+    }
+
+    /// Drops all items. The list keeps its room, and the memory of a run's string, which comes first among the items of a token.
+    pub fn clear(&mut self)
+        ensures { self.new ≡ [] }
+    {
+        if let Some(Item::Event(Event::Chars(string), _)) = self.items.first_mut() {
+            let alloc = *self.spare.allocator();
+            self.spare = mem::replace(string, Bytes::new(alloc)).into_vec();
+        }
+        self.items.clear();
+    }
+
+    /// The items, in order, with the list's room.
+    pub fn into_vec(self) -> Vec<Item>
+        ensures { result.items ≡ self }
+    {
+        self.items
+    }
+
+    /// Takes all items out, with the list's room.
+    pub fn take_out(&mut self) -> Vec<Item>
+        ensures items { result.items ≡ self.old }
+        ensures left { self.new ≡ [] }
+    {
+        let alloc = *self.items.allocator();
+        mem::replace(&mut self.items, Vec::new(alloc))
+    }
+
+    /// Puts items in the place of those that the list holds.
+    pub fn put_back(&mut self, items: Vec<Item>)
+        ensures { self.new ≡ items.items }
+    {
+        self.items = items;
+    }
+
+    /// A copy of a string, in the memory that is kept.
+    pub(crate) fn copied(&mut self, string: &[u8]) -> Result<Bytes, NoMemory>
+        ensures copied { IfOk result (λ copied. copied ≡ string.now) }
+        ensures same { self.new ≡ self.old }
+    {
+        let alloc = *self.spare.allocator();
+        let mut copied = mem::replace(&mut self.spare, Vec::new(alloc));
+        copied.clear();
+        copied.extend_from_slice(string)?;
+        Ok(Bytes::from_vec(copied))
+    }
+}
 
 impl TryCopy for Event {
     fn copy(&self) -> Result<Event, NoMemory> {

@@ -188,7 +188,8 @@ pub(crate) fn push_run(items: &mut Items, at: usize, run: &Pending) -> Result<()
                 from: to - run.len,
                 to,
             };
-            items.push(Item::Event(Event::Chars(run.string.to_bytes()?), span))?;
+            let string = items.copied(run.string.as_slice())?;
+            items.push(Item::Event(Event::Chars(string), span))?;
         }
     }
     Ok(())

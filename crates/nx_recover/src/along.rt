@@ -79,7 +79,7 @@ fn drop_all<S: Drop>(elements: &mut Vec<Open<S>>)
 }
 
 /// All items, whose names and details are taken out, so that they pass to the levels and to the faults as they are: the levels behind
-/// them as a change, and the faults in the order in which they arise. What the change was before is dropped, and so are the items.
+/// them as a change, and the faults in the order in which they arise. What the change was before is dropped.
 pub fn take_items<M: Matcher>(
     alloc: Global,
     matcher: &mut M,
@@ -92,7 +92,6 @@ pub fn take_items<M: Matcher>(
     requires text { ItemsAreText items.old.items }
     ensures later { M.later matcher.old matcher.new }
     ensures change { OnOk result (IsChange (M.is_state matcher.new) levels.now change.new) }
-    ensures taken { OnOk result (items.new.items ≡ []) }
     ensures form { OnOk result (form (M.means matcher.new) (changed levels.now change.new)
         ≡ form_along (M.language matcher.old) (form (M.means matcher.old) (view_of levels.now)) items.old.items) }
     ensures faults { OnOk result (faults.new ≡ faults.old
@@ -107,6 +106,5 @@ pub fn take_items<M: Matcher>(
         i += 1;
         take_item(alloc, matcher, levels, change, item, faults)?;
     }
-    items.clear();
     Ok(())
 }

@@ -187,10 +187,10 @@ pub fn step_over<M: Matcher>(
     if items.is_empty() {
         return pass_token(alloc, &mut state.events, token, &declared);
     }
-    let mut taken = mem::replace(items, Items::new(alloc)).into_vec();
+    let mut taken = items.take_out();
     drop_left(found);
     take_items(alloc, matcher, &state.levels, change, &mut taken, found)?;
-    *items = Items::from_vec(taken);
+    items.put_back(taken);
     install(alloc, state, token, &declared, change, faults, found)?;
     Ok(())
 }

@@ -1,4 +1,4 @@
-use Rattle.std.proofs.Common.{◌≡◌, ◌∙◌, refl, Some}
+use Rattle.std.proofs.Common.{◌≡◌, refl, Some}
 use Rattle.nx_events.specs.Items.{items_of_token}
 use Rattle.nx_recover.specs.Machine.{over}
 use Rattle.nx_recover.specs.States.{changed}
@@ -22,15 +22,15 @@ returns-clause-after g c =
     let m = g.M.Matcher in
     let s = c.args.state.now in
     let done = c.in_ok-install.ensures in
-    let all : c.into_vec-taken.result.items ≡ items_of_token s.events c.args.token.now = from_empty (c.into_vec-taken.ensures ∙ c.replace.ensures.value) c.in_ok-declared.ensures.items c.clear.ensures in
-    stepped (m.language c.args.matcher.now) (m.means c.args.matcher.now) (m.means c.take_items.new.matcher) s c.install.new.state c.args.token.now (changed s.levels c.take_items.new.change) c.into_vec-taken.result.items c.requires.place done.events done.levels c.in_ok-take_items.ensures.form all
+    let all : c.take_out-taken.result.items ≡ items_of_token s.events c.args.token.now = from_empty (c.take_out-taken.ensures.items) c.in_ok-declared.ensures.items c.clear.ensures in
+    stepped (m.language c.args.matcher.now) (m.means c.args.matcher.now) (m.means c.take_items.new.matcher) s c.install.new.state c.args.token.now (changed s.levels c.take_items.new.change) c.take_out-taken.result.items c.requires.place done.events done.levels c.in_ok-take_items.ensures.form all
 
 pub returns-clause-faults : goal.returns-clause-faults
 returns-clause-faults g c =
     let m = g.M.Matcher in
     let s = c.args.state.now in
-    let all : c.into_vec-taken.result.items ≡ items_of_token s.events c.args.token.now = from_empty (c.into_vec-taken.ensures ∙ c.replace.ensures.value) c.in_ok-declared.ensures.items c.clear.ensures in
-    given (Some (m.language c.args.matcher.now)) (over (m.means c.args.matcher.now) s) c.args.token.now c.args.faults.now c.take_items.new.faults c.install.new.faults c.into_vec-taken.result.items c.requires.place c.in_ok-install.ensures.faults (from_empty refl c.in_ok-take_items.ensures.faults c.drop_left.ensures) all
+    let all : c.take_out-taken.result.items ≡ items_of_token s.events c.args.token.now = from_empty (c.take_out-taken.ensures.items) c.in_ok-declared.ensures.items c.clear.ensures in
+    given (Some (m.language c.args.matcher.now)) (over (m.means c.args.matcher.now) s) c.args.token.now c.args.faults.now c.take_items.new.faults c.install.new.faults c.take_out-taken.result.items c.requires.place c.in_ok-install.ensures.faults (from_empty refl c.in_ok-take_items.ensures.faults c.drop_left.ensures) all
 
 pub returns-then-is_empty-clause-after : goal.returns-then-is_empty-clause-after
 returns-then-is_empty-clause-after g c =
