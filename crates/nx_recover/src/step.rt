@@ -1,6 +1,7 @@
 //! A step over a matcher, all or nothing: the levels behind the token are kept aside, and put in place last.
 
-ghost use Rattle.std.specs.Prelude.{◌≡◌, ◌+◌, ◌-◌, ◌<◌, ◌≤◌, ◌^◌, [], ◌++◌, length, take, IsUtf8, IfOk, OnOk, OnErr, Some, vec_len, vec_capacity};
+ghost use Rattle.std.specs.Prelude.{◌≡◌, ◌+◌, ◌-◌, ◌<◌, ◌≤◌, ◌^◌, [], ◌++◌, length, take};
+ghost use Rattle.std.specs.Prelude.{IsUtf8, IfOk, OnOk, OnErr, Some, vec_len, vec_capacity};
 ghost use Rattle.nx_base.specs.Rules.{lexeme_of, IsLexeme};
 ghost use Rattle.nx_base.specs.Shifting.{placed};
 ghost use Rattle.nx_events.specs.Items.{declared_in, state_behind};
