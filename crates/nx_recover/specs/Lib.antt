@@ -16,6 +16,7 @@ pub mod Items
 pub mod RecoverRules
 -- ---- states of a matcher in the place of residuals, cited by private contracts
 pub mod States
+pub mod Admitting
 pub mod Aside
 pub mod Machine
 -- ---- proofs of the laws that the machine hands on, which have to stand here

@@ -3,6 +3,7 @@
 ghost use Rattle.std.specs.Prelude.{◌≡◌, IfOk, IfSome, option_map, take, length};
 ghost use Rattle.nx_events.specs.Texts.{EventIsText};
 ghost use Rattle.nx_recover.specs.States.{IsChange, changed, form};
+ghost use Rattle.nx_recover.specs.Admitting.{refused_in};
 ghost use Rattle.nx_recover.specs.Aside.{Popped, Pushed, Takes, open_of};
 ghost use Rattle.nx_recover.specs.Table as t;
 
@@ -77,8 +78,19 @@ fn pop<'a, M: Matcher>(
     Some(TakenOff::Old(&levels.elements[change.kept]))
 }
 
-// An element begins.
-fn take_enter<M: Matcher>(
+// Takes a name out of its place, and leaves an empty one there.
+fn take_name(alloc: Global, name: &mut Name) -> Name
+    ensures { result ≡ name.old }
+{
+    let empty = Name {
+        ns: Sequence::new(alloc),
+        local: Sequence::new(alloc),
+    };
+    mem::replace(name, empty)
+}
+
+// An element begins that isn't admitted.
+fn take_refused<M: Matcher>(
     alloc: Global,
     matcher: &mut M,
     levels: &Levels<M::State>,
@@ -88,11 +100,38 @@ fn take_enter<M: Matcher>(
     requires { IsChange (M.is_state matcher.old) levels.now change.old }
     ensures later { M.later matcher.old matcher.new }
     ensures gives { IfOk result (Takes (M.is_state matcher.new) (M.means matcher.new) levels.now change.new
-        (t.done_in (M.language matcher.old) (form (M.means matcher.old) (changed levels.now change.old)) (Event.Enter name))) }
+        (refused_in (M.language matcher.old) (form (M.means matcher.old) (changed levels.now change.old)) name)) }
 {
-    let begun = row::enter(alloc, matcher, here(levels, change), name)?;
+    let begun = row::enter_refused(alloc, matcher, here(levels, change), name)?;
     let flaw = push(change, begun)?;
     Ok(flaw)
+}
+
+// An element begins. Its name is taken out of its place.
+fn take_enter<M: Matcher>(
+    alloc: Global,
+    matcher: &mut M,
+    levels: &Levels<M::State>,
+    change: &mut Change<M::State>,
+    name: &mut Name,
+) -> Result<Option<Flaw>, NoMemory>
+    requires { IsChange (M.is_state matcher.old) levels.now change.old }
+    ensures later { M.later matcher.old matcher.new }
+    ensures gives { IfOk result (Takes (M.is_state matcher.new) (M.means matcher.new) levels.now change.new
+        (t.done_in (M.language matcher.old) (form (M.means matcher.old) (changed levels.now change.old)) (Event.Enter name.old))) }
+{
+    // Most are admitted. What begins is large, so for these it isn't handed through the rows.
+    match row::enter_admitted(alloc, matcher, here(levels, change), name)? {
+        Some(state) => {
+            change.above.push(Open::In(take_name(alloc, name)))?;
+            change.here = Some(Some(state));
+            Ok(None)
+        }
+        None => {
+            let name = take_name(alloc, name);
+            take_refused(alloc, matcher, levels, change, name)
+        }
+    }
 }
 
 // An element begins that has no name.
@@ -162,17 +201,6 @@ fn take_other<M: Matcher>(
     }
 }
 
-// Takes a name out of its place, and leaves an empty one there.
-fn take_name(alloc: Global, name: &mut Name) -> Name
-    ensures { result ≡ name.old }
-{
-    let empty = Name {
-        ns: Sequence::new(alloc),
-        local: Sequence::new(alloc),
-    };
-    mem::replace(name, empty)
-}
-
 /// An event: what is wrong with it is the answer. The name of an element that begins is taken out of it.
 #[tactic(auto, unfolding(crate::specs::Table::done_by))]
 pub fn take_event<M: Matcher>(
@@ -189,10 +217,7 @@ pub fn take_event<M: Matcher>(
         (t.done_by (M.language matcher.old) (form (M.means matcher.old) (changed levels.now change.old)) event.old)) }
 {
     match event {
-        Event::Enter(name) => {
-            let name = take_name(alloc, name);
-            take_enter(alloc, matcher, levels, change, name)
-        }
+        Event::Enter(name) => take_enter(alloc, matcher, levels, change, name),
         Event::EnterLost => take_lost(alloc, matcher, levels, change),
         Event::Leave => take_leave(alloc, matcher, levels, change),
         _ => take_other(alloc, matcher, levels, change, event),

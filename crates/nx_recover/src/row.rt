@@ -5,6 +5,7 @@ ghost use Rattle.nx_events.specs.Texts.{EventIsText};
 ghost use Rattle.rng_kept.specs.Entering.{enter_skip};
 ghost use Rattle.rng_kept.specs.Merging.{answered};
 ghost use Rattle.rng_live.specs.Calls.{Answers};
+ghost use Rattle.nx_recover.specs.Admitting.{admitted, refused};
 ghost use Rattle.nx_recover.specs.Outcomes.{flaw};
 ghost use Rattle.nx_base.specs.PrintedNames.{name_text};
 ghost use Rattle.nx_recover.specs.Details.{names_text};
@@ -148,31 +149,7 @@ fn enter_awaited<M: Matcher>(
     }
 }
 
-// Where an element begins in a frame.
-#[tactic(auto, unfolding(crate::specs::Table::entered))]
-fn enter_frame<M: Matcher>(
-    alloc: Global,
-    matcher: &mut M,
-    here: &M::State,
-    name: Name,
-) -> Result<Begun<M::State>, NoMemory>
-    requires { M.is_state matcher.old here.now }
-    ensures later { M.later matcher.old matcher.new }
-    ensures gives { IfOk result (BegunIs (M.is_state matcher.new) (M.means matcher.new)
-        (t.entered (M.language matcher.old) name (Some (M.means matcher.old here.now)))) }
-{
-    match matcher.enter(alloc, here, &name)? {
-        Some(state) => Ok(Begun {
-            here: Some(state),
-            element: Open::In(name),
-            flaw: None,
-        }),
-        None => enter_awaited(alloc, matcher, here, name),
-    }
-}
-
 // Where an element begins in a lost one.
-#[tactic(auto, unfolding(crate::specs::Table::entered))]
 fn enter_lost<M: Matcher>(
     alloc: Global,
     matcher: &mut M,
@@ -180,7 +157,7 @@ fn enter_lost<M: Matcher>(
 ) -> Result<Begun<M::State>, NoMemory>
     ensures later { M.later matcher.old matcher.new }
     ensures gives { IfOk result (BegunIs (M.is_state matcher.new) (M.means matcher.new)
-        (t.entered (M.language matcher.old) name None)) }
+        (t.found_by name (t.entered_known (M.language matcher.old) name))) }
 {
     match enter_known(alloc, matcher, &name)? {
         Some(state) => Ok(Begun {
@@ -196,8 +173,26 @@ fn enter_lost<M: Matcher>(
     }
 }
 
-/// Where an element begins.
-pub fn enter<M: Matcher>(
+/// The frame that goes on in an element which is admitted here; none where it isn't.
+pub fn enter_admitted<M: Matcher>(
+    alloc: Global,
+    matcher: &mut M,
+    here: &Option<M::State>,
+    name: &Name,
+) -> Result<Option<M::State>, NoMemory>
+    requires { IfSome here.now (M.is_state matcher.old) }
+    ensures later { M.later matcher.old matcher.new }
+    ensures gives { IfOk result (Answers (M.is_state matcher.new) (M.means matcher.new)
+        (admitted (M.language matcher.old) name.now (option_map (M.means matcher.old) here.now))) }
+{
+    match here {
+        Some(state) => matcher.enter(alloc, state, name),
+        None => Ok(None),
+    }
+}
+
+/// Where an element begins that isn't admitted.
+pub fn enter_refused<M: Matcher>(
     alloc: Global,
     matcher: &mut M,
     here: &Option<M::State>,
@@ -206,10 +201,10 @@ pub fn enter<M: Matcher>(
     requires { IfSome here.now (M.is_state matcher.old) }
     ensures later { M.later matcher.old matcher.new }
     ensures gives { IfOk result (BegunIs (M.is_state matcher.new) (M.means matcher.new)
-        (t.entered (M.language matcher.old) name (option_map (M.means matcher.old) here.now))) }
+        (refused (M.language matcher.old) name (option_map (M.means matcher.old) here.now))) }
 {
     match here {
-        Some(state) => enter_frame(alloc, matcher, state, name),
+        Some(state) => enter_awaited(alloc, matcher, state, name),
         None => enter_lost(alloc, matcher, name),
     }
 }
