@@ -14,7 +14,7 @@ use crate::item::{Event, Item, Items};
 use crate::namespace::{is_declaration, push_flaw};
 use crate::qname::{parted, prefix_of};
 use crate::scope::{Bindings, attribute_uri, element_uri};
-use crate::tag::{Attribute, copy_of};
+use crate::tag::{Attribute, copy_in, copy_of};
 use crate::tag_names::TagNames;
 use nx_base::fault::{Kind, Span};
 use nx_base::memory::NoMemory;
@@ -32,9 +32,10 @@ fn flawed(alloc: Global, kind: Kind, detail: &[u8]) -> Result<Resolved, NoMemory
     }))
 }
 
-// The name with its namespace, or that its prefix is undeclared.
+// The name with its namespace, its local part in this memory, or that its prefix is undeclared.
 fn declared_or_flaw(
     alloc: Global,
+    memory: Vec<u8>,
     uri: Option<&[u8]>,
     local: &[u8],
     written: &[u8],
@@ -44,7 +45,7 @@ fn declared_or_flaw(
     match uri {
         Some(uri) => Ok(Resolved::Named(Name {
             ns: copy_of(alloc, uri)?,
-            local: copy_of(alloc, local)?,
+            local: copy_in(memory, local)?,
         })),
         None => {
             let resolved = flawed(alloc, Kind::UndeclaredPrefix, prefix_of(written))?;
@@ -53,10 +54,11 @@ fn declared_or_flaw(
     }
 }
 
-/// The name of an element, with the declarations around its tag and the tag's own.
+/// The name of an element, with the declarations around its tag and the tag's own. Its local part is put in this memory.
 #[tactic(auto, unfolding(crate::specs::Elements::element_resolved))]
 pub(crate) fn element_resolved(
     alloc: Global,
+    memory: Vec<u8>,
     behind_root: bool,
     outer: &Bindings,
     own: &Bindings,
@@ -73,7 +75,7 @@ pub(crate) fn element_resolved(
         return Ok(resolved);
     };
     let uri = element_uri(outer, own, parts.prefix);
-    let resolved = declared_or_flaw(alloc, uri, parts.local, written)?;
+    let resolved = declared_or_flaw(alloc, memory, uri, parts.local, written)?;
     Ok(resolved)
 }
 
@@ -138,7 +140,7 @@ fn attribute_declared(
         return Ok(resolved);
     };
     let uri = attribute_uri(outer, own, parts.prefix);
-    let declared = declared_or_flaw(alloc, uri, parts.local, written)?;
+    let declared = declared_or_flaw(alloc, Vec::new(alloc), uri, parts.local, written)?;
     Ok(declared)
 }
 

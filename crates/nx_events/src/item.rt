@@ -2,6 +2,7 @@
 
 ghost use Rattle.std.specs.Prelude.{◌≡◌, [], ◌∷◌, ◌++◌, ◌==◌, length, take, IfOk, OnOk, OnErr};
 
+use crate::tag::copy_in;
 use nx_base::fault::{Fault, Span};
 use nx_base::memory::NoMemory;
 use nx_base::name::Name;
@@ -34,11 +35,14 @@ pub enum Item {
     Fault(Fault),
 }
 
-/// A list of items, and the memory of a run's string that was among them, in which the next one's is put. To a contract it is the list.
+/// A list of items, and memory of what was among them, in which the next ones are put. To a contract it is the list.
 #[derive(Drop)]
 pub struct Items {
     items: Vec<Item>,
-    spare: Vec<u8>,
+    /// That of a run's string.
+    string: Vec<u8>,
+    /// That of names.
+    names: Vec<Vec<u8>>,
 }
 
 impl Model for Items {
@@ -57,7 +61,8 @@ impl Items {
     {
         Items {
             items: Vec::new(alloc),
-            spare: Vec::new(alloc),
+            string: Vec::new(alloc),
+            names: Vec::new(alloc),
         }
     }
 
@@ -99,8 +104,8 @@ impl Items {
         ensures { self.new ≡ [] }
     {
         if let Some(Item::Event(Event::Chars(string), _)) = self.items.first_mut() {
-            let alloc = *self.spare.allocator();
-            self.spare = mem::replace(string, Bytes::new(alloc)).into_vec();
+            let alloc = *self.string.allocator();
+            self.string = mem::replace(string, Bytes::new(alloc)).into_vec();
         }
         self.items.clear();
     }
@@ -128,16 +133,33 @@ impl Items {
         self.items = items;
     }
 
+    /// Keeps the memory of a name that is over.
+    pub fn keep_memory(&mut self, name: Name)
+        ensures { self.new ≡ self.old }
+    {
+        // Where it can't be kept it is let go.
+        let _ = self.names.push(name.local.into_vec());
+    }
+
+    /// Memory for a name.
+    pub(crate) fn name_memory(&mut self) -> Vec<u8>
+        ensures { self.new ≡ self.old }
+    {
+        match self.names.pop() {
+            Some(memory) => memory,
+            None => Vec::new(*self.items.allocator()),
+        }
+    }
+
     /// A copy of a string, in the memory that is kept.
     pub(crate) fn copied(&mut self, string: &[u8]) -> Result<Bytes, NoMemory>
         ensures copied { IfOk result (λ copied. copied ≡ string.now) }
         ensures same { self.new ≡ self.old }
     {
-        let alloc = *self.spare.allocator();
-        let mut copied = mem::replace(&mut self.spare, Vec::new(alloc));
-        copied.clear();
-        copied.extend_from_slice(string)?;
-        Ok(Bytes::from_vec(copied))
+        let alloc = *self.string.allocator();
+        let memory = mem::replace(&mut self.string, Vec::new(alloc));
+        let copied = copy_in(memory, string)?;
+        Ok(copied)
     }
 }
 

@@ -38,7 +38,8 @@ fn push_tag_element(
 {
     let behind_root = state.started && !is_inside(state);
     let written = start_name(token.bytes.as_slice());
-    let resolved = element_resolved(alloc, behind_root, &state.scope, own, written)?;
+    let memory = items.name_memory();
+    let resolved = element_resolved(alloc, memory, behind_root, &state.scope, own, written)?;
     push_element(items, token_span(token), resolved)?;
     Ok(())
 }

@@ -95,6 +95,16 @@ pub(crate) fn copy_of(alloc: Global, bytes: &[u8]) -> Result<Bytes, NoMemory>
     Ok(Bytes::from_vec(Vec::from_slice(alloc, bytes)?))
 }
 
+/// A copy of the bytes, in this memory.
+pub(crate) fn copy_in(memory: Vec<u8>, bytes: &[u8]) -> Result<Bytes, NoMemory>
+    ensures { IfOk result (λ copied. copied ≡ bytes.now) }
+{
+    let mut copied = memory;
+    copied.clear();
+    copied.extend_from_slice(bytes)?;
+    Ok(Bytes::from_vec(copied))
+}
+
 // The attribute at the front, which has this extent and begins at the place `at`.
 #[tactic(auto, unfolding(crate::specs::Tags::attribute_at, crate::specs::Tags::attribute_len, crate::specs::Tags::written_value))]
 fn attribute_at(
