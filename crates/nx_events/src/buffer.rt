@@ -16,7 +16,8 @@ use std::marker::Model;
 /// Bytes, in memory that serves again for others. To a contract they are the bytes.
 #[derive(Drop)]
 pub struct Buffer {
-    /// The bytes, and behind them what was there before: a list that keeps its length is written over at once.
+    /// The bytes, and behind them what is left of longer ones before: a list that keeps its length is written over by one
+    /// copy.
     memory: Vec<u8>,
     len: usize,
 }
@@ -40,6 +41,15 @@ impl Buffer {
             memory: Vec::new(alloc),
             len: 0,
         }
+    }
+
+    /// A copy of these bytes.
+    pub(crate) fn of(alloc: Global, bytes: &[u8]) -> Result<Buffer, NoMemory>
+        ensures { IfOk result (λ buffer. buffer ≡ bytes.now) }
+    {
+        let mut buffer = Buffer::new(alloc);
+        buffer.fill(bytes)?;
+        Ok(buffer)
     }
 
     /// The bytes.
@@ -77,6 +87,7 @@ impl Buffer {
     pub(crate) fn fill_with_string(&mut self, reading: Reading, text: &[u8]) -> Result<(), NoMemory>
         ensures { OnOk result (self.new ≡ string_of reading text.now) }
     {
+        // Most texts are one run of plain bytes.
         if is_plain_text(reading, text) {
             self.fill(text)?;
             return Ok(());

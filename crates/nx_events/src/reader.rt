@@ -119,12 +119,7 @@ pub fn read(
 
 // The state behind a token that declares this, by its kind.
 #[tactic(auto, unfolding(crate::specs::Items::state_behind))]
-fn pass_by_kind(
-    alloc: Global,
-    state: &mut EventState,
-    token: &Token,
-    declared: &Declared,
-) -> Result<(), NoMemory>
+fn pass_by_kind(state: &mut EventState, token: &Token, declared: &Declared) -> Result<(), NoMemory>
     requires place { run_back state.old.run ≤ token.now.from }
     requires room { token.now.from + length token.now.bytes < 2 ^ 64 }
     requires declared { declared.now.own ≡ declared_in token.now }
@@ -136,7 +131,7 @@ fn pass_by_kind(
         TokenKind::Bom => state.run.pass(token.bytes.len()),
         TokenKind::Text => join(state, token, Reading::Text, bytes)?,
         TokenKind::Cdata => join(state, token, Reading::Plain, cdata_content(bytes))?,
-        TokenKind::Start => open(alloc, state, token, declared.own.as_slice())?,
+        TokenKind::Start => open(state, token, declared.own.as_slice())?,
         TokenKind::Empty => empty(state),
         TokenKind::End => end(state, token),
         TokenKind::Decl => pass_other(state, token),
@@ -164,7 +159,9 @@ pub fn pass_token(
     ensures unchanged { OnErr result (state.new ≡ state.old) }
     ensures text { TokenIsText token.now → StateIsText state.old → StateIsText state.new }
 {
-    pass_by_kind(alloc, state, token, declared)?;
+    // What is open or in force takes its memory from where it did before.
+    let _ = alloc;
+    pass_by_kind(state, token, declared)?;
     Ok(())
 }
 

@@ -2,10 +2,11 @@
 
 ghost use Rattle.std.specs.Prelude.{◌≡◌, ◌-◌, ◌++◌, ◌∷◌, [], length, take, IfOk, OnOk, OnErr};
 
+use crate::buffer::Buffer;
+use crate::state::OpenElement;
 use nx_base::memory::NoMemory;
 use std::alloc::Global;
 use std::marker::Model;
-use std::mem;
 
 /// A list, and behind it what was taken off. To a contract it is the list.
 #[derive(Drop)]
@@ -81,15 +82,27 @@ impl<T: Drop> Reusable<T> {
             self.len -= 1;
         }
     }
+}
 
-    /// An item that was taken off, for its memory, and this one in its place; this one where there is none.
-    pub(crate) fn swap_spare(&mut self, item: T) -> T
-        ensures { self.new ≡ self.old }
+impl Reusable<OpenElement> {
+    /// Adds an open element at the end, in the memory of one that was taken off, if one was.
+    pub(crate) fn push_open(
+        &mut self,
+        alloc: Global,
+        written: &[u8],
+        outer: usize,
+    ) -> Result<(), NoMemory>
+        ensures ok { OnOk result (self.new ≡ self.old ++ (record { written = written.now; outer = outer }) ∷ []) }
+        ensures err { OnErr result (self.new ≡ self.old) }
     {
         if self.len < self.items.len() {
-            mem::replace(&mut self.items[self.len], item)
-        } else {
-            item
+            self.items[self.len].renew(written, outer)?;
+            self.len += 1;
+            return Ok(());
         }
+        self.push(OpenElement {
+            written: Buffer::of(alloc, written)?,
+            outer,
+        })
     }
 }

@@ -6,6 +6,7 @@ ghost use Rattle.nx_events.specs.Places.{last_place, last_named, one_name_more, 
 
 use crate::inner_names::InnerNames;
 use crate::reusable::Reusable;
+use crate::state::OpenElement;
 use nx_base::equal::same_each;
 use nx_base::memory::NoMemory;
 use nx_base::sequence::TryCopy;
@@ -157,13 +158,6 @@ impl<T: Named + Drop> Stack<T> {
         }
     }
 
-    /// A thing that was taken off, for its memory, and this one in its place; this one where there is none.
-    pub(crate) fn swap_spare(&mut self, item: T) -> T
-        ensures { self.new ≡ self.old }
-    {
-        self.items.swap_spare(item)
-    }
-
     /// Leaves so many things at the front.
     pub(crate) fn shorten(&mut self, n: usize)
         ensures { self.new ≡ take n self.old }
@@ -189,6 +183,24 @@ impl<T: Named + Drop> Stack<T> {
         ensures { option_copied result ≡ last_named T.name_of name.now self.now }
     {
         self.items.as_slice().get(self.last_place(name)?)
+    }
+}
+
+impl Stack<OpenElement> {
+    /// Adds an open element at the end, in the memory of one that was taken off, if one was.
+    pub(crate) fn push_open(&mut self, written: &[u8], outer: usize) -> Result<(), NoMemory>
+        ensures ok { OnOk result (self.new ≡ self.old ++ (record { written = written.now; outer = outer }) ∷ []) }
+        ensures err { OnErr result (self.new ≡ self.old) }
+    {
+        let len = self.items.len();
+        push_name(&mut self.inner, self.alloc, written, len)?;
+        match self.items.push_open(self.alloc, written, outer) {
+            Ok(()) => Ok(()),
+            Err(error) => {
+                pop_name(&mut self.inner, len);
+                Err(error)
+            }
+        }
     }
 }
 

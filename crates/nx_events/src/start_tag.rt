@@ -8,7 +8,6 @@ ghost use Rattle.nx_events.specs.Runs.{run_back};
 ghost use Rattle.nx_events.specs.SeenNames.{AreKept};
 ghost use Rattle.nx_events.specs.Items.{token_span, is_behind, own_bindings, start_items, empty_items, opened, emptied};
 
-use crate::buffer::Buffer;
 use crate::character_fault::push_character_faults;
 use crate::element::{element_resolved, push_attributes, push_element};
 use crate::item::{Event, Item, Items};
@@ -16,7 +15,7 @@ use crate::namespace::declarations;
 use crate::reading::Reading;
 use crate::scope::{Binding, Bindings, OwnBindings};
 use crate::stage::is_inside;
-use crate::state::{EventState, OpenElement, push_run};
+use crate::state::{EventState, push_run};
 use crate::tag::{is_name_alone, start_name, tag_attributes};
 use crate::tag_names::TagNames;
 use crate::token_fault::token_span;
@@ -117,24 +116,16 @@ pub(crate) fn push_start(
 }
 
 // The state inside of an element that declares these pairs.
-pub(crate) fn open(
-    alloc: Global,
-    state: &mut EventState,
-    token: &Token,
-    own: &[Binding],
-) -> Result<(), NoMemory>
+pub(crate) fn open(state: &mut EventState, token: &Token, own: &[Binding]) -> Result<(), NoMemory>
     requires { own.now ≡ own_bindings token.now }
     ensures ok { OnOk result (state.new ≡ opened state.old token.now) }
     ensures err { OnErr result (state.new ≡ state.old) }
 {
     let depth = state.elements.len();
-    let mut element = state.elements.swap_spare(OpenElement {
-        written: Buffer::new(alloc),
-        outer: 0,
-    });
-    element.written.fill(start_name(token.bytes.as_slice()))?;
-    element.outer = state.scope.len();
-    state.elements.push(element)?;
+    let outer = state.scope.len();
+    state
+        .elements
+        .push_open(start_name(token.bytes.as_slice()), outer)?;
     if state.scope.append(own).is_err() {
         state.elements.shorten(depth);
         return Err(NoMemory);

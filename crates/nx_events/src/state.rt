@@ -71,6 +71,17 @@ pub struct EventState {
     pub(crate) run: Pending,
 }
 
+impl OpenElement {
+    /// Puts another element in the place of one that is over. Where it is refused, anything may be there.
+    pub(crate) fn renew(&mut self, written: &[u8], outer: usize) -> Result<(), NoMemory>
+        ensures { OnOk result (self.new ≡ record { written = written.now; outer = outer }) }
+    {
+        self.written.fill(written)?;
+        self.outer = outer;
+        Ok(())
+    }
+}
+
 impl TryCopy for OpenElement {
     fn copy(&self) -> Result<OpenElement, NoMemory> {
         Ok(OpenElement {
