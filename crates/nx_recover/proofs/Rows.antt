@@ -1,5 +1,5 @@
 -- The row of an element that is admitted, and the rows of one that isn't.
-use Rattle.std.proofs.Common.{◌≡◌, List, [], ◌∷◌, ◌++◌, Option, Some, None, Result, refl, sym, ap, subst, ◌∙◌}
+use Rattle.std.proofs.Common.{◌≡◌, [], ◌∷◌, ◌++◌, Option, Some, None, Result, refl, sym, ap, subst, ◌∙◌}
 use Rattle.std.specs.Prelude.{IfOk, IfSome, option_map}
 use Rattle.nx_base.specs.Rules.{LaterLaws}
 use Rattle.nx_base.specs.declared.name.Name.{Name}

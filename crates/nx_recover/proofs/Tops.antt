@@ -1,16 +1,15 @@
 -- One element more or less, and the levels behind an event.
-use Rattle.std.proofs.Common.{◌≡◌, ℕ, ◌-◌, ◌<◌, ◌≤◌, List, [], ◌∷◌, ◌++◌, length, take, get_or, map, reverse, Option, Some, None, suc, refl, ap, sym, subst, ◌∙◌, arith, append_assoc, Vec}
-use Rattle.std.proofs.lemmas.List.{reverse-append, map-append, append-nil}
+use Rattle.std.proofs.Common.{◌≡◌, ℕ, ◌-◌, ◌<◌, ◌≤◌, List, [], ◌∷◌, ◌++◌, length, take, get_or, map, reverse, Option, Some, None, suc, zero, refl, ap, sym, subst, ◌∙◌, arith, append_assoc, length-append}
+use Rattle.std.proofs.lemmas.List.{reverse-append, map-append, take_all}
 use Rattle.std.proofs.Math.Seq.{take-suc}
 use Rattle.std.specs.Prelude.{IfSome, option_map, unwrap_or}
 use Rattle.std.specs.List.{AllByRecursion}
-use Rattle.std.specs.declared.alloc.Global.{Global}
 use Rattle.nx_base.specs.Rules.{LaterLaws}
 use Rattle.rng_core.specs.Patterns.{Language}
 use Rattle.rng_kept.specs.Residuals.{Residual}
 use Rattle.nx_recover.specs.States.{View, IsOpen, open_form, stack, form, changed, IsChange, TurnIs, BegunIs, EndedIs}
 use Rattle.nx_recover.specs.Table.{goes_on_as, goes_on_by, opens, ended, closes, leaves}
-use Rattle.nx_recover.specs.Aside.{Pushed, PopsNone, PopsOne, Takes}
+use Rattle.nx_recover.specs.Aside.{IsLast, IsOneLess, Pushed, Takes, front}
 use Rattle.nx_recover.specs.declared.levels.Open.{Open}
 use Rattle.nx_recover.specs.declared.levels.Levels.{Levels}
 use Rattle.nx_recover.specs.declared.levels.Change.{Change}
@@ -43,9 +42,6 @@ stack_more f l o = ap reverse (map-append (open_form f) l (o ∷ [])) ∙ revers
 pub form_is : {S : Type 0} (f : S → Residual) (v : View S) (h : Option Residual) (s : List (Open Residual)) → option_map f v.here ≡ h → stack f v.elements ≡ s → form f v ≡ record { here = h; elements = s }
 form_is f v h s e k = cc
 
-nothing : {X : Type 0} (n : ℕ) (xs ys : List X) → n ≡ 0 → ys ≡ [] → take n xs ++ ys ≡ []
-nothing n xs ys e k = rw (e, k) refl
-
 pub no_items : {X : Type 0} (xs : List X) → length xs ≡ 0 → xs ≡ []
 no_items [] e = refl
 no_items (x ∷ xs) e = absurd (omega (arith, e))
@@ -54,6 +50,27 @@ pub last_kept : {X : Type 0} (xs : List X) (n : ℕ) (x : X) → 0 < n → n ≤
 last_kept xs n x p h e =
     let k : n ≡ suc (n - 1) = omega arith in
     ap (λ m. take m xs) k ∙ take-suc xs (n - 1) x (omega arith) ∙ ap (λ y. take (n - 1) xs ++ y ∷ []) (sym e)
+
+-- ---- all but the last
+
+take_front : {X : Type 0} (n : ℕ) (xs : List X) (x : X) → n ≡ length xs → take n (xs ++ x ∷ []) ≡ xs
+take_front zero [] x e = refl
+take_front zero (y ∷ ys) x e = absurd (omega (arith, e))
+take_front (suc n) [] x e = absurd (omega (arith, e))
+take_front (suc n) (y ∷ ys) x e = ap (λ zs. y ∷ zs) (take_front n ys x (omega (arith, e)))
+
+front_of : {X : Type 0} (es ys : List X) (x : X) → es ≡ ys ++ x ∷ [] → front es ≡ ys
+front_of es ys x e = ap front e ∙ take_front (length (ys ++ x ∷ []) - 1) ys x (omega (arith, length-append ys (x ∷ [])))
+
+ends_with : {X : Type 0} (es ys : List X) (x : X) → es ≡ ys ++ x ∷ [] → es ≡ front es ++ x ∷ []
+ends_with es ys x e = e ∙ ap (λ zs. zs ++ x ∷ []) (sym (front_of es ys x e))
+
+-- one that is aside stands last
+pub last_above : {X : Type 0} (below above : List X) (n : ℕ) (x : X) → n ≡ length above → 0 < n → x ≡ get_or above (n - 1) x → below ++ above ≡ front (below ++ above) ++ x ∷ []
+last_above below above n x size some at =
+    let ys = take (n - 1) above in
+    let e : above ≡ ys ++ x ∷ [] = sym (take_all n above (omega (arith, size))) ∙ last_kept above n x some (omega (arith, size)) at in
+    ends_with (below ++ above) (below ++ ys) x (ap (λ zs. below ++ zs) e ∙ sym (append_assoc below ys (x ∷ [])))
 
 more_above : {S : Type 0} (l : Levels S) (c d : Change S) (o : Open S) → d.kept ≡ c.kept → d.above.items ≡ c.above.items ++ o ∷ [] → (changed l d).elements ≡ (changed l c).elements ++ o ∷ []
 more_above l c d o e k =
@@ -123,58 +140,36 @@ module _ {D S : Type 0} {later : D → D → Type 0} {is_state : D → S → Typ
         flaw = p.flaw ∙ k.flaw;
       }
 
-  pub leaves_one : (l : Levels S) (c d : Change S) (o : Open S) → PopsOne (is_state a) (means a) l c d o → (t : Ended S) → EndedIs (is_state b) (means b) (ended (option_map (means a) (changed l d).here) (open_form (means a) o)) t →
+  -- the innermost element ends
+  pub leaves_last : (l : Levels S) (c d : Change S) (o : Open S) → IsChange (is_state a) l c → IsLast (changed l c).elements (Some o) → IsOneLess l c d →
+      (t : Ended S) → EndedIs (is_state b) (means b) (ended (option_map (means a) (changed l c).here) (open_form (means a) o)) t →
       Takes (is_state b) (means b) l (record d { here = Some t.here }) (leaves (option_map (means a) (changed l c).here) (stack (means a) (changed l c).elements)) t.flaw
-  leaves_one l c d o p t k =
+  leaves_last l c d o h last less t k =
+      let es : List (Open S) = front (changed l c).elements in
+      let H : Option (Option S) → Type 0 = λ x. IfSome (unwrap_or x l.here) (is_state a) in
+      let A : List (Open S) → Type 0 = λ x. AllByRecursion (IsOpen (is_state a)) x in
+      let left : IsChange (is_state a) l d = record {
+        kept = omega (arith, less.kept, h.kept);
+        states = record {
+          here = subst H (sym less.here) h.states.here;
+          elements = subst A (sym less.elements) (all_front (IsOpen (is_state a)) es (o ∷ []) (subst A last h.states.elements));
+        };
+      } in
+      let top : stack (means a) (changed l c).elements ≡ open_form (means a) o ∷ stack (means a) (changed l d).elements =
+      ap (stack (means a)) last ∙ stack_more (means a) es o ∙ ap (λ zs. open_form (means a) o ∷ stack (means a) zs) (sym less.elements) in
       let T : List (Open Residual) → Type 0 = λ s. Takes (is_state b) (means b) l (record d { here = Some t.here }) (leaves (option_map (means a) (changed l c).here) s) t.flaw in
-      let H : Option S → Type 0 = λ h. Takes (is_state b) (means b) l (record d { here = Some t.here }) (closes (stack (means a) (changed l d).elements) (ended (option_map (means a) h) (open_form (means a) o))) t.flaw in
-      subst T (sym p.top) (subst H p.here (ends l d p.change (ended (option_map (means a) (changed l d).here) (open_form (means a) o)) t k))
+      subst T (sym top) (ends l d left (ended (option_map (means a) (changed l c).here) (open_form (means a) o)) t k)
 
-pub leaves_none : {S : Type 0} (P : S → Type 0) (f : S → Residual) (l : Levels S) (c d : Change S) → PopsNone P f l c d →
-    Takes P f l d (leaves (option_map f (changed l c).here) (stack f (changed l c).elements)) None
-leaves_none P f l c d p =
-    let T : List (Open Residual) → Type 0 = λ s. Takes P f l d (leaves (option_map f (changed l c).here) s) None in
-    subst T (sym p.before) (record { change = p.change; form = form_is f (changed l d) (option_map f (changed l c).here) [] (ap (option_map f) p.here) p.behind; flaw = refl })
+-- nothing ends where nothing is open
+pub leaves_none : {S : Type 0} (P : S → Type 0) (f : S → Residual) (l : Levels S) (c : Change S) → IsChange P l c → (changed l c).elements ≡ [] →
+    Takes P f l c (leaves (option_map f (changed l c).here) (stack f (changed l c).elements)) None
+leaves_none P f l c h none =
+    let e : stack f (changed l c).elements ≡ [] = ap (stack f) none ∙ stack_nil f in
+    let T : List (Open Residual) → Type 0 = λ s. Takes P f l c (leaves (option_map f (changed l c).here) s) None in
+    subst T (sym e) (record { change = h; form = form_is f (changed l c) (option_map f (changed l c).here) [] refl e; flaw = refl })
 
--- ---- taking one off
-
-pub pops_above : {S : Type 0} (P : S → Type 0) (f : S → Residual) (l : Levels S) (c : Change S) (v : Vec (Open S) Global) (o : Open S) → c.above.items ≡ v.items ++ o ∷ [] → IsChange P l c → PopsOne P f l c (record c { above = v }) o
-pops_above {S = S} P f l c v o e h =
-    let es : List (Open S) = take c.kept l.elements.items ++ v.items in
-    let w : (changed l c).elements ≡ es ++ o ∷ [] = ap (λ x. take c.kept l.elements.items ++ x) e ∙ sym (append_assoc (take c.kept l.elements.items) v.items (o ∷ [])) in
+-- the innermost element's states are states
+pub last_is_open : {S : Type 0} (P : S → Type 0) (l : Levels S) (c : Change S) (o : Open S) → IsChange P l c → IsLast (changed l c).elements (Some o) → IsOpen P o
+last_is_open {S = S} P l c o h last =
     let A : List (Open S) → Type 0 = λ x. AllByRecursion (IsOpen P) x in
-    let all = subst A w h.states.elements in
-    record {
-      change = record { kept = h.kept; states = record { here = h.states.here; elements = all_front (IsOpen P) es (o ∷ []) all } };
-      here = refl;
-      state = (all_back (IsOpen P) es (o ∷ []) all).0;
-      top = ap (stack f) w ∙ stack_more f es o;
-    }
-
-pub pops_old : {S : Type 0} (P : S → Type 0) (f : S → Residual) (l : Levels S) (c : Change S) (v : Vec (Open S) Global) (x : Open S) → c.above.items ≡ [] → v.items ≡ [] → 0 < c.kept → take c.kept l.elements.items ≡ take (c.kept - 1) l.elements.items ++ x ∷ [] →
-    IsChange P l c → PopsOne P f l c (record { here = c.here; kept = c.kept - 1; above = v }) x
-pops_old {S = S} P f l c v x e z n k h =
-    let d : Change S = record { here = c.here; kept = c.kept - 1; above = v } in
-    let front : List (Open S) = take (c.kept - 1) l.elements.items in
-    let w : (changed l d).elements ≡ front = ap (λ y. front ++ y) z ∙ append-nil front in
-    let u : (changed l c).elements ≡ front ++ x ∷ [] = ap (λ y. take c.kept l.elements.items ++ y) e ∙ append-nil (take c.kept l.elements.items) ∙ k in
-    let A : List (Open S) → Type 0 = λ y. AllByRecursion (IsOpen P) y in
-    let all = subst A u h.states.elements in
-    record {
-      change = record { kept = omega (arith, h.kept); states = record { here = h.states.here; elements = subst A (sym w) (all_front (IsOpen P) front (x ∷ []) all) } };
-      here = refl;
-      state = (all_back (IsOpen P) front (x ∷ []) all).0;
-      top = ap (stack f) u ∙ stack_more f front x ∙ ap (λ y. open_form f x ∷ stack f y) (sym w);
-    }
-
-pub pops_none : {S : Type 0} (P : S → Type 0) (f : S → Residual) (l : Levels S) (c : Change S) (v : Vec (Open S) Global) → c.above.items ≡ [] → v.items ≡ [] → c.kept ≡ 0 → IsChange P l c → PopsNone P f l c (record c { above = v })
-pops_none {S = S} P f l c v e z k h =
-    let u : (changed l c).elements ≡ [] = nothing c.kept l.elements.items c.above.items k e in
-    let w : (changed l (record c { above = v })).elements ≡ [] = nothing c.kept l.elements.items v.items k z in
-    let A : List (Open S) → Type 0 = λ y. AllByRecursion (IsOpen P) y in
-    record {
-      change = record { kept = h.kept; states = record { here = h.states.here; elements = subst A (sym w) tt } };
-      here = refl;
-      before = ap (stack f) u ∙ stack_nil f;
-      behind = ap (stack f) w ∙ stack_nil f;
-    }
+    (all_back (IsOpen P) (front (changed l c).elements) (o ∷ []) (subst A last h.states.elements)).0

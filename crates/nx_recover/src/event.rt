@@ -1,10 +1,10 @@
 //! One event: the levels behind it are kept aside.
 
-ghost use Rattle.std.specs.Prelude.{◌≡◌, IfOk, IfSome, option_map, take, length};
+ghost use Rattle.std.specs.Prelude.{◌≡◌, ◌<◌, ◌≤◌, IfOk, option_copied, length};
 ghost use Rattle.nx_events.specs.Texts.{EventIsText};
 ghost use Rattle.nx_recover.specs.States.{IsChange, changed, form};
 ghost use Rattle.nx_recover.specs.Admitting.{refused_in};
-ghost use Rattle.nx_recover.specs.Aside.{Popped, Pushed, Takes, open_of};
+ghost use Rattle.nx_recover.specs.Aside.{IsLast, IsOneLess, Pushed, Takes};
 ghost use Rattle.nx_recover.specs.Table as t;
 
 use crate::levels::{Begun, Change, Ended, Levels, Open, Turn};
@@ -42,40 +42,32 @@ fn push<S: Drop>(change: &mut Change<S>, begun: Begun<S>) -> Result<Option<Flaw>
     Ok(flaw)
 }
 
-// An open element that was taken off: one that is aside, or an old one, which stays where it is.
-#[derive(Drop)]
-enum TakenOff<'a, S> {
-    Aside(Open<S>),
-    Old(&'a Open<S>),
+// The innermost open element: one that is aside, or an old one.
+fn innermost<'a, S: Drop>(levels: &'a Levels<S>, change: &'a Change<S>) -> Option<&'a Open<S>>
+    requires { change.now.kept ≤ length levels.now.elements.items }
+    ensures { IsLast (changed levels.now change.now).elements (option_copied result) }
+{
+    let above = change.above.len();
+    if above > 0 {
+        return Some(&change.above[above - 1]);
+    }
+    if change.kept > 0 {
+        return Some(&levels.elements[change.kept - 1]);
+    }
+    None
 }
 
-// The element that was taken off.
-fn open_of<'a, S>(taken: &'a TakenOff<'a, S>) -> &'a Open<S>
-    ensures { result.now ≡ open_of taken.now }
+// Takes the innermost open element off; an old one stays where it is. The levels are asked nothing: they tell which element that is.
+fn take_off<S: Drop>(_levels: &Levels<S>, change: &mut Change<S>)
+    requires kept { change.old.kept ≤ length _levels.now.elements.items }
+    requires some { 0 < length (changed _levels.now change.old).elements }
+    ensures { IsOneLess _levels.now change.old change.new }
 {
-    match taken {
-        TakenOff::Aside(element) => element,
-        TakenOff::Old(element) => element,
+    if change.above.is_empty() {
+        change.kept -= 1;
+    } else {
+        change.above.pop();
     }
-}
-
-// Takes the innermost open element off. The matcher is asked nothing: it tells what states are.
-fn pop<'a, M: Matcher>(
-    _matcher: &M,
-    levels: &'a Levels<M::State>,
-    change: &mut Change<M::State>,
-) -> Option<TakenOff<'a, M::State>>
-    requires { IsChange (M.is_state _matcher.now) levels.now change.old }
-    ensures { Popped (M.is_state _matcher.now) (M.means _matcher.now) levels.now change.old change.new (option_map open_of result) }
-{
-    if let Some(element) = change.above.pop() {
-        return Some(TakenOff::Aside(element));
-    }
-    if change.kept == 0 {
-        return None;
-    }
-    change.kept -= 1;
-    Some(TakenOff::Old(&levels.elements[change.kept]))
 }
 
 // Takes a name out of its place, and leaves an empty one there.
@@ -167,11 +159,12 @@ fn take_leave<M: Matcher>(
     ensures gives { IfOk result (Takes (M.is_state matcher.new) (M.means matcher.new) levels.now change.new
         (t.done_in (M.language matcher.old) (form (M.means matcher.old) (changed levels.now change.old)) Event.Leave)) }
 {
-    let Some(taken) = pop(matcher, levels, change) else {
+    let Some(element) = innermost(levels, change) else {
         return Ok(None);
     };
-    let ended = row::end_element(alloc, matcher, here(levels, change), open_of(&taken))?;
+    let ended = row::end_element(alloc, matcher, here(levels, change), element)?;
     let Ended { here: behind, flaw } = ended;
+    take_off(levels, change);
     change.here = Some(behind);
     Ok(flaw)
 }
