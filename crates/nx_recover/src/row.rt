@@ -256,6 +256,42 @@ fn leave_here<M: Matcher>(
     }
 }
 
+// What is wrong where an element of this name ends with its frame.
+#[tactic(auto, unfolding(crate::specs::Table::left))]
+fn incomplete<M: Matcher>(
+    alloc: Global,
+    matcher: &mut M,
+    here: &M::State,
+    name: &Name,
+) -> Result<Option<Flaw>, NoMemory>
+    requires { M.is_state matcher.old here.now }
+    ensures later { M.later matcher.old matcher.new }
+    ensures gives { IfOk result (λ found. found ≡ (t.left name.now (M.means matcher.old here.now)).flaw) }
+{
+    match matcher.leave(alloc, here)? {
+        Some(_) => Ok(None),
+        None => named(alloc, Kind::Incomplete, name),
+    }
+}
+
+// What is wrong where it ends here.
+fn incomplete_here<M: Matcher>(
+    alloc: Global,
+    matcher: &mut M,
+    here: &Option<M::State>,
+    name: &Name,
+) -> Result<Option<Flaw>, NoMemory>
+    requires { IfSome here.now (M.is_state matcher.old) }
+    ensures later { M.later matcher.old matcher.new }
+    ensures gives { IfOk result (λ found. found
+        ≡ (t.in_frame (t.left name.now) (option_map (M.means matcher.old) here.now)).flaw) }
+{
+    match here {
+        Some(state) => incomplete(alloc, matcher, state, name),
+        None => Ok(None),
+    }
+}
+
 /// Where this element ends.
 pub fn end_element<M: Matcher>(
     alloc: Global,
@@ -278,10 +314,10 @@ pub fn end_element<M: Matcher>(
             })
         }
         Open::Begins(name, around) => {
-            let turn = leave_here(alloc, matcher, here, name)?;
+            let flaw = incomplete_here(alloc, matcher, here, name)?;
             Ok(Ended {
                 here: copy_here(alloc, matcher, around)?,
-                flaw: turn.flaw,
+                flaw,
             })
         }
         Open::Lost(around) => Ok(Ended {
