@@ -190,3 +190,15 @@ impl TryCopyAll for Item {
         copy_each(alloc, items)
     }
 }
+
+// The memory that is kept stays behind.
+impl TryCopy for Items {
+    fn copy(&self) -> Result<Items, NoMemory> {
+        let alloc = *self.items.allocator();
+        Ok(Items {
+            items: Item::copy_all(alloc, self.items.as_slice())?,
+            string: Vec::new(alloc),
+            names: Vec::new(alloc),
+        })
+    }
+}

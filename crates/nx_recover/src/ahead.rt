@@ -10,8 +10,8 @@ use crate::levels::Change;
 use crate::state::RecoverState;
 use crate::step::{make_room, put};
 use nx_base::memory::NoMemory;
-use nx_base::sequence::{Sequence, TryCopyAll};
-use nx_events::item::{Item, Items};
+use nx_base::sequence::{Sequence, TryCopy};
+use nx_events::item::Items;
 use rng_live::matcher::Matcher;
 use std::alloc::Global;
 
@@ -31,7 +31,7 @@ pub fn take_items<M: Matcher>(
     ensures levels { OnOk result (form (M.means matcher.new) (view_of state.new.levels)
         ≡ form_along (M.language matcher.old) (form (M.means matcher.old) (view_of state.old.levels)) items.now) }
 {
-    let mut own = Item::copy_all(alloc, items.as_slice())?;
+    let mut own = items.copy()?.into_vec();
     let mut found = Sequence::new(alloc);
     let mut change = Change::new(alloc);
     along::take_items(
