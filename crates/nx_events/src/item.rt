@@ -1,6 +1,6 @@
 //! Events and faults, in the order in which they arise.
 
-ghost use Rattle.std.specs.Prelude.{◌≡◌, [], ◌∷◌, ◌++◌, ◌==◌, length, take, IfOk, OnOk, OnErr};
+ghost use Rattle.std.specs.Prelude.{◌≡◌, ◌≤◌, [], ◌∷◌, ◌++◌, ◌==◌, length, take, drop, insert, slice_get, option_copied, IfOk, OnOk, OnErr};
 
 use crate::tag::copy_in;
 use nx_base::fault::{Fault, Span};
@@ -34,6 +34,9 @@ pub enum Item {
     Event(Event, Span),
     Fault(Fault),
 }
+
+/// Of so many names the memory is kept at most.
+const NAMES_KEPT: usize = 64;
 
 /// A list of items, and memory of what was among them, in which the next ones are put. To a contract it is the list.
 #[derive(Drop)]
@@ -73,6 +76,20 @@ impl Items {
         self.items.as_slice()
     }
 
+    /// How many items there are.
+    pub fn len(&self) -> usize
+        ensures { result ≡ length self.now }
+    {
+        self.items.len()
+    }
+
+    /// The item at `i`; none exactly where `i` is at least the length.
+    pub fn get(&self, i: usize) -> Option<&Item>
+        ensures { option_copied result ≡ slice_get self.now i }
+    {
+        self.items.as_slice().get(i)
+    }
+
     /// Whether there is no item.
     pub fn is_empty(&self) -> bool
         ensures { result ≡ (length self.now == 0) }
@@ -97,6 +114,25 @@ impl Items {
         let mut more = more;
         self.items.append(&mut more.items)?;
         Ok(())
+    }
+
+    /// Puts an item in front of the one at `i`, or at the end.
+    pub fn insert(&mut self, i: usize, item: Item) -> Result<(), NoMemory>
+        requires { i ≤ length self.old }
+        ensures ok { OnOk result (self.new ≡ insert self.old i item) }
+        ensures err { OnErr result (self.new ≡ self.old) }
+    {
+        self.items.insert(i, item)?;
+        Ok(())
+    }
+
+    /// Removes the items from `from` to `to`.
+    pub fn cut(&mut self, from: usize, to: usize)
+        requires ordered { from ≤ to }
+        requires within { to ≤ length self.old }
+        ensures { self.new ≡ take from self.old ++ drop to self.old }
+    {
+        self.items.drain(from..to);
     }
 
     /// Drops all items. The list keeps its room, and the memory of a run's string, which comes first among the items of a token.
@@ -137,8 +173,11 @@ impl Items {
     pub fn keep_memory(&mut self, name: Name)
         ensures { self.new ≡ self.old }
     {
-        // Where it can't be kept it is let go.
-        let _ = self.names.push(name.local.into_vec());
+        // More end than begin where parts of a text are read again and again.
+        if self.names.len() < NAMES_KEPT {
+            // Where it can't be kept it is let go.
+            let _ = self.names.push(name.local.into_vec());
+        }
     }
 
     /// Memory for a name.

@@ -86,7 +86,7 @@ impl<T: Drop> Reusable<T> {
 
 impl Reusable<OpenElement> {
     /// Adds an open element at the end, in the memory of one that was taken off, if one was.
-    pub(crate) fn push_open(
+    pub(crate) fn open_element(
         &mut self,
         alloc: Global,
         written: &[u8],

@@ -65,6 +65,9 @@ impl OwnBindings {
     pub(crate) fn of(alloc: Global, pairs: Bindings) -> Result<OwnBindings, NoMemory>
         ensures { IfOk result (λ own. own ≡ pairs) }
     {
+        if pairs.as_slice().is_empty() {
+            return Ok(OwnBindings::none());
+        }
         Ok(OwnBindings {
             pairs: Some(Box::new(alloc, pairs)?),
         })

@@ -188,13 +188,13 @@ impl<T: Named + Drop> Stack<T> {
 
 impl Stack<OpenElement> {
     /// Adds an open element at the end, in the memory of one that was taken off, if one was.
-    pub(crate) fn push_open(&mut self, written: &[u8], outer: usize) -> Result<(), NoMemory>
+    pub(crate) fn open_element(&mut self, written: &[u8], outer: usize) -> Result<(), NoMemory>
         ensures ok { OnOk result (self.new ≡ self.old ++ (record { written = written.now; outer = outer }) ∷ []) }
         ensures err { OnErr result (self.new ≡ self.old) }
     {
         let len = self.items.len();
         push_name(&mut self.inner, self.alloc, written, len)?;
-        match self.items.push_open(self.alloc, written, outer) {
+        match self.items.open_element(self.alloc, written, outer) {
             Ok(()) => Ok(()),
             Err(error) => {
                 pop_name(&mut self.inner, len);

@@ -125,7 +125,7 @@ pub(crate) fn open(state: &mut EventState, token: &Token, own: &[Binding]) -> Re
     let outer = state.scope.len();
     state
         .elements
-        .push_open(start_name(token.bytes.as_slice()), outer)?;
+        .open_element(start_name(token.bytes.as_slice()), outer)?;
     if state.scope.append(own).is_err() {
         state.elements.shorten(depth);
         return Err(NoMemory);

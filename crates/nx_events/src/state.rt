@@ -42,16 +42,18 @@ pub struct Run {
 pub struct Pending {
     alloc: Global,
     is_pending: bool,
-    last: Run,
+    // on the heap, since states are kept by the ten thousand and most of them have none
+    last: Option<Box<Run>>,
 }
 
 impl Model for Pending {
-    ghost use Rattle.std.specs.Prelude.{Option, Some, None, if◌then◌else◌};
+    ghost use Rattle.std.specs.Prelude.{Option, None, if◌then◌else◌};
+    ghost use Rattle.std.specs.Option.{option_map};
     ghost use Rattle.nx_events.specs.declared.state.Run.{Run};
 
     ghost Value = { Option Run };
 
-    ghost view = { λ p. if p.is_pending then Some p.last else None };
+    ghost view = { λ p. if p.is_pending then option_map (λ run. run.value) p.last else None };
 }
 
 /// What is known of the tokens so far. It holds no place of the text.
@@ -117,11 +119,7 @@ impl Pending {
         Pending {
             alloc,
             is_pending: false,
-            last: Run {
-                string: Buffer::new(alloc),
-                len: 0,
-                gap: 0,
-            },
+            last: None,
         }
     }
 
@@ -129,10 +127,9 @@ impl Pending {
     pub(crate) fn get(&self) -> Option<&Run>
         ensures { option_copied result ≡ self.now }
     {
-        if self.is_pending {
-            Some(&self.last)
-        } else {
-            None
+        match &self.last {
+            Some(run) if self.is_pending => Some(run),
+            _ => None,
         }
     }
 
@@ -149,8 +146,28 @@ impl Pending {
         ensures { self.new ≡ run_passed n self.old }
     {
         if self.is_pending {
-            self.last.gap += n;
+            if let Some(run) = &mut self.last {
+                run.gap += n;
+            }
         }
+    }
+
+    // The first run of all.
+    fn begin(&mut self, reading: Reading, text: &[u8], n: usize) -> Result<(), NoMemory>
+        requires { self.old ≡ None }
+        ensures ok { OnOk result (self.new ≡ run_joined (string_of reading text.now) n self.old) }
+        ensures err { OnErr result (self.new ≡ self.old) }
+    {
+        let mut string = Buffer::new(self.alloc);
+        string.fill_with_string(reading, text)?;
+        let run = Run {
+            string,
+            len: n,
+            gap: 0,
+        };
+        self.last = Some(Box::new(self.alloc, run)?);
+        self.is_pending = true;
+        Ok(())
     }
 
     /// The run behind one more token of `n` bytes whose text is this.
@@ -159,29 +176,32 @@ impl Pending {
         ensures ok { OnOk result (self.new ≡ run_joined (string_of reading text.now) n self.old) }
         ensures err { OnErr result (self.new ≡ self.old) }
     {
+        let Some(run) = &mut self.last else {
+            return self.begin(reading, text, n);
+        };
         if self.is_pending {
-            self.last.string.append_string(reading, text)?;
-            self.last.len += self.last.gap + n;
+            run.string.append_string(reading, text)?;
+            run.len += run.gap + n;
         } else {
-            self.last.string.fill_with_string(reading, text)?;
-            self.last.len = n;
+            run.string.fill_with_string(reading, text)?;
+            run.len = n;
             self.is_pending = true;
         }
-        self.last.gap = 0;
+        run.gap = 0;
         Ok(())
     }
 }
 
 impl TryCopy for Pending {
-    // States are kept by the ten thousand, so the memory of runs that are over stays behind.
+    // The memory of runs that are over stays behind.
     fn copy(&self) -> Result<Pending, NoMemory> {
-        if !self.is_pending {
+        let Some(run) = self.get() else {
             return Ok(Pending::new(self.alloc));
-        }
+        };
         Ok(Pending {
             alloc: self.alloc,
             is_pending: true,
-            last: self.last.copy()?,
+            last: Some(Box::new(self.alloc, run.copy()?)?),
         })
     }
 }

@@ -112,8 +112,8 @@ fn name_of<S: Drop>(element: Open<S>) -> Option<Name> {
     }
 }
 
-// Takes off the elements above so many.
-fn take_off<S: Drop>(elements: &mut Vec<Open<S>>, kept: usize, items: &mut Items)
+// Drops the elements above so many.
+fn drop_above<S: Drop>(elements: &mut Vec<Open<S>>, kept: usize, items: &mut Items)
     ensures elements { elements.new.items ≡ take kept elements.old.items }
     ensures len { vec_len elements.new ≤ vec_len elements.old }
     ensures room { vec_capacity elements.new ≡ vec_capacity elements.old }
@@ -138,7 +138,7 @@ pub fn put<S: Drop>(levels: &mut Levels<S>, change: &mut Change<S>, items: &mut 
     ensures view { view_of levels.new ≡ changed levels.old change.old }
     ensures items { items.new ≡ items.old }
 {
-    take_off(&mut levels.elements, change.kept, items);
+    drop_above(&mut levels.elements, change.kept, items);
     move_onto(&mut levels.elements, &mut change.above);
     if let Some(here) = change.here.take() {
         levels.here = here;
