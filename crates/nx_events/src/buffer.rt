@@ -43,15 +43,6 @@ impl Buffer {
         }
     }
 
-    /// A copy of these bytes.
-    pub(crate) fn of(alloc: Global, bytes: &[u8]) -> Result<Buffer, NoMemory>
-        ensures { IfOk result (λ buffer. buffer ≡ bytes.now) }
-    {
-        let mut buffer = Buffer::new(alloc);
-        buffer.fill(bytes)?;
-        Ok(buffer)
-    }
-
     /// The bytes.
     pub(crate) fn as_slice(&self) -> &[u8]
         ensures { result.now ≡ self.now }

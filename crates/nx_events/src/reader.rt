@@ -11,7 +11,7 @@ use crate::item::Items;
 use crate::nesting::push_all_left_out;
 use crate::other_token::{pass_other, push_other};
 use crate::reading::Reading;
-use crate::scope::OwnBindings;
+use crate::scope::Bindings;
 use crate::stack::Stack;
 use crate::start_tag::{empty, open, push_empty, push_start};
 use crate::state::{EventState, Pending, push_run};
@@ -28,7 +28,7 @@ pub fn begin(alloc: Global) -> Result<EventState, NoMemory>
 {
     Ok(EventState {
         elements: Stack::new(alloc),
-        scope: Stack::new(alloc),
+        scope: Bindings::new(alloc),
         came: false,
         doctype: false,
         started: false,
@@ -39,15 +39,15 @@ pub fn begin(alloc: Global) -> Result<EventState, NoMemory>
 /// What a token declares for the tokens behind it, as `read` answers it to `pass_token`.
 #[derive(Drop)]
 pub struct Declared {
-    pub(crate) own: OwnBindings,
+    pub(crate) own: Bindings,
 }
 
 // What a token declares that isn't a start tag.
-fn nothing_declared() -> Declared
+fn nothing_declared(alloc: Global) -> Declared
     ensures { result.own ≡ [] }
 {
     Declared {
-        own: OwnBindings::none(),
+        own: Bindings::new(alloc),
     }
 }
 
@@ -94,7 +94,7 @@ fn read_by_kind(
         TokenKind::Bad => push_other(alloc, items, state, token)?,
         TokenKind::Unclosed => push_other(alloc, items, state, token)?,
     }
-    Ok(nothing_declared())
+    Ok(nothing_declared(alloc))
 }
 
 /// Adds the items of one more token to a list, and answers what the token declares. The state stays. Where it is

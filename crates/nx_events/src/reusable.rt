@@ -2,8 +2,8 @@
 
 ghost use Rattle.std.specs.Prelude.{◌≡◌, ◌-◌, ◌++◌, ◌∷◌, [], length, take, IfOk, OnOk, OnErr};
 
-use crate::buffer::Buffer;
 use crate::state::OpenElement;
+use crate::written_name::WrittenName;
 use nx_base::memory::NoMemory;
 use std::alloc::Global;
 use std::marker::Model;
@@ -101,7 +101,7 @@ impl Reusable<OpenElement> {
             return Ok(());
         }
         self.push(OpenElement {
-            written: Buffer::of(alloc, written)?,
+            written: WrittenName::of(alloc, written)?,
             outer,
         })
     }

@@ -1,6 +1,8 @@
 //! Namespace declarations in force (Namespaces in XML 1.0, sections 3, 5 and 6).
 
-ghost use Rattle.std.specs.Prelude.{◌≡◌, ◌++◌, [], option_copied, IfOk};
+ghost use Rattle.std.specs.Prelude.{◌≡◌, ◌++◌, ◌∷◌, [], length, take, option_copied, OnOk, OnErr};
+ghost use Rattle.nx_events.specs.declared.scope.Binding.{Binding};
+ghost use Rattle.nx_events.specs.Places.{last_named};
 ghost use Rattle.nx_events.specs.Scopes.{last_uri, bound_uri, element_uri, attribute_uri};
 
 use crate::stack::{Named, Stack};
@@ -33,44 +35,30 @@ impl Named for Binding {
     }
 }
 
-/// Pairs in the order of their declarations, in which the last one of a prefix is found at once.
-pub type Bindings = Stack<Binding>;
-
-/// The pairs that a token declares. Most declare none: then this takes no memory beside a pointer, and is moved and
-/// dropped in a step or two. To a contract it is the list.
+/// Pairs in the order of their declarations, in which the last one of a prefix is found at once. Most tags and most texts declare
+/// none: then they take no memory beside a pointer. To a contract they are the list.
 #[derive(Drop)]
-pub struct OwnBindings {
-    pairs: Option<Box<Bindings>>,
+pub struct Bindings {
+    alloc: Global,
+    pairs: Option<Box<Stack<Binding>>>,
 }
 
-impl Model for OwnBindings {
+impl Model for Bindings {
     ghost use Rattle.std.specs.Prelude.{List, [], unwrap_or};
     ghost use Rattle.std.specs.Option.{option_map};
     ghost use Rattle.nx_events.specs.declared.scope.Binding.{Binding};
 
     ghost Value = { List Binding };
 
-    ghost view = { λ own. unwrap_or (option_map (λ pairs. pairs.value) own.pairs) [] };
+    ghost view = { λ bindings. unwrap_or (option_map (λ pairs. pairs.value) bindings.pairs) [] };
 }
 
-impl OwnBindings {
+impl Bindings {
     /// No pairs.
-    pub(crate) fn none() -> OwnBindings
+    pub(crate) fn new(alloc: Global) -> Bindings
         ensures { result ≡ [] }
     {
-        OwnBindings { pairs: None }
-    }
-
-    /// These pairs.
-    pub(crate) fn of(alloc: Global, pairs: Bindings) -> Result<OwnBindings, NoMemory>
-        ensures { IfOk result (λ own. own ≡ pairs) }
-    {
-        if pairs.as_slice().is_empty() {
-            return Ok(OwnBindings::none());
-        }
-        Ok(OwnBindings {
-            pairs: Some(Box::new(alloc, pairs)?),
-        })
+        Bindings { alloc, pairs: None }
     }
 
     /// The pairs, in order.
@@ -81,6 +69,76 @@ impl OwnBindings {
             None => &[],
             Some(pairs) => pairs.as_slice(),
         }
+    }
+
+    /// How many pairs there are.
+    pub(crate) fn len(&self) -> usize
+        ensures { result ≡ length self.now }
+    {
+        self.as_slice().len()
+    }
+
+    /// The last pair of the prefix.
+    pub(crate) fn last_named(&self, prefix: &[u8]) -> Option<&Binding>
+        ensures { option_copied result ≡ last_named (λ (binding : Binding). binding.prefix) prefix.now self.now }
+    {
+        match &self.pairs {
+            None => None,
+            Some(pairs) => pairs.last_named(prefix),
+        }
+    }
+
+    /// Adds copies of pairs at the end, or leaves the list as it is.
+    pub(crate) fn append(&mut self, more: &[Binding]) -> Result<(), NoMemory>
+        ensures ok { OnOk result (self.new ≡ self.old ++ more.now) }
+        ensures err { OnErr result (self.new ≡ self.old) }
+    {
+        // Most tags declare nothing.
+        if more.is_empty() {
+            return Ok(());
+        }
+        if let Some(pairs) = &mut self.pairs {
+            return pairs.append(more);
+        }
+        let mut pairs = Stack::new(self.alloc);
+        pairs.append(more)?;
+        self.pairs = Some(Box::new(self.alloc, pairs)?);
+        Ok(())
+    }
+
+    /// Adds a pair at the end.
+    pub(crate) fn push(&mut self, binding: Binding) -> Result<(), NoMemory>
+        ensures ok { OnOk result (self.new ≡ self.old ++ binding ∷ []) }
+        ensures err { OnErr result (self.new ≡ self.old) }
+    {
+        if let Some(pairs) = &mut self.pairs {
+            return pairs.push(binding);
+        }
+        let mut pairs = Stack::new(self.alloc);
+        pairs.push(binding)?;
+        self.pairs = Some(Box::new(self.alloc, pairs)?);
+        Ok(())
+    }
+
+    /// Leaves so many pairs at the front.
+    pub(crate) fn shorten(&mut self, n: usize)
+        ensures { self.new ≡ take n self.old }
+    {
+        if let Some(pairs) = &mut self.pairs {
+            pairs.shorten(n);
+        }
+    }
+}
+
+impl TryCopy for Bindings {
+    fn copy(&self) -> Result<Bindings, NoMemory> {
+        let mut copied = Bindings::new(self.alloc);
+        if let Some(pairs) = &self.pairs {
+            if pairs.len() > 0 {
+                copied.pairs = Some(Box::new(self.alloc, pairs.copy()?)?);
+            }
+        }
+        Ok(copied)
     }
 }
 

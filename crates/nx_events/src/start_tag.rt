@@ -13,7 +13,7 @@ use crate::element::{element_resolved, push_attributes, push_element};
 use crate::item::{Event, Item, Items};
 use crate::namespace::declarations;
 use crate::reading::Reading;
-use crate::scope::{Binding, Bindings, OwnBindings};
+use crate::scope::{Binding, Bindings};
 use crate::stage::is_inside;
 use crate::state::{EventState, push_run};
 use crate::tag::{is_name_alone, start_name, tag_attributes};
@@ -79,7 +79,7 @@ fn push_declaring(
     items: &mut Items,
     state: &EventState,
     token: &Token,
-) -> Result<OwnBindings, NoMemory>
+) -> Result<Bindings, NoMemory>
     requires { token.now.from + length token.now.bytes < 2 ^ 64 }
     ensures items { OnOk result (items.new ≡ open_items items.old state.now token.now) }
     ensures own { IfOk result (λ own. own ≡ own_bindings token.now) }
@@ -87,13 +87,12 @@ fn push_declaring(
     let bytes = token.bytes.as_slice();
     if !is_name_alone(bytes) {
         let opening = push_open(alloc, items, state, token)?;
-        let own = OwnBindings::of(alloc, opening.own)?;
-        return Ok(own);
+        return Ok(opening.own);
     }
-    let nothing = Bindings::new(alloc);
+    let own = Bindings::new(alloc);
     push_character_faults(alloc, items, Reading::Value, token.from, bytes)?;
-    push_tag_element(alloc, items, state, token, &nothing)?;
-    Ok(OwnBindings::none())
+    push_tag_element(alloc, items, state, token, &own)?;
+    Ok(own)
 }
 
 // Adds the items of a start tag, and answers the pairs that it declares.
@@ -103,7 +102,7 @@ pub(crate) fn push_start(
     items: &mut Items,
     state: &EventState,
     token: &Token,
-) -> Result<OwnBindings, NoMemory>
+) -> Result<Bindings, NoMemory>
     requires place { run_back state.now.run ≤ token.now.from }
     requires room { token.now.from + length token.now.bytes < 2 ^ 64 }
     ensures items { OnOk result (items.new ≡ items.old ++ start_items state.now token.now) }

@@ -9,6 +9,7 @@ use crate::item::{Event, Item, Items};
 use crate::reading::Reading;
 use crate::scope::Bindings;
 use crate::stack::{Named, Stack};
+use crate::written_name::WrittenName;
 use nx_base::fault::Span;
 use nx_base::memory::NoMemory;
 use nx_base::sequence::TryCopy;
@@ -19,7 +20,7 @@ use std::marker::Model;
 #[derive(Drop)]
 pub struct OpenElement {
     /// The name as it is written in its start tag.
-    pub written: Buffer,
+    pub written: WrittenName,
     /// How many of the pairs in scope are declared around it.
     pub outer: usize,
 }
