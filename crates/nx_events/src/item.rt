@@ -102,7 +102,9 @@ impl Items {
         ensures ok { OnOk result (self.new ≡ self.old ++ item ∷ []) }
         ensures err { OnErr result (self.new ≡ self.old) }
     {
-        self.items.push(item)?;
+        // With room for it, the item is moved once.
+        self.items.reserve(1)?;
+        self.items.push_reserved(item);
         Ok(())
     }
 
@@ -135,15 +137,34 @@ impl Items {
         self.items.drain(from..to);
     }
 
-    /// Drops all items. The list keeps its room, and the memory of a run's string, which comes first among the items of a token.
+    /// Drops all items. The list keeps its room, and the memory of a run's string.
     pub fn clear(&mut self)
         ensures { self.new ≡ [] }
     {
-        if let Some(Item::Event(Event::Chars(string), _)) = self.items.first_mut() {
-            let alloc = *self.string.allocator();
-            self.string = mem::replace(string, Bytes::new(alloc)).into_vec();
+        while let Some(item) = self.items.pop() {
+            self.let_go(item);
         }
-        self.items.clear();
+    }
+
+    // Drops an item, but for the memory of a run's string. Most items hold no other, so each kind is told apart here, where that takes
+    // no call.
+    fn let_go(&mut self, item: Item)
+        ensures { self.new ≡ self.old }
+    {
+        match item {
+            Item::Event(event, _) => match event {
+                Event::Chars(string) => self.string = string.into_vec(),
+                Event::Enter(name) => drop(name),
+                Event::Att(name, value) => {
+                    drop(name);
+                    drop(value);
+                }
+                Event::EnterLost => {}
+                Event::TagEnd => {}
+                Event::Leave => {}
+            },
+            Item::Fault(fault) => drop(fault),
+        }
     }
 
     /// The items, in order, with the list's room.
