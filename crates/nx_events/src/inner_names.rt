@@ -45,6 +45,8 @@ impl InnerNames {
     }
 
     /// Adds a name at the end.
+    // Few documents nest deep enough: callers that seldom call this stay small.
+    #[inline(never)]
     pub(crate) fn push(&mut self, alloc: Global, name: &[u8]) -> Result<(), NoMemory>
         ensures ok { OnOk result (self.new ≡ self.old ++ name.now ∷ []) }
         ensures err { OnErr result (self.new ≡ self.old) }
@@ -61,6 +63,7 @@ impl InnerNames {
     }
 
     /// Takes the last name off, if there is one.
+    #[inline(never)]
     pub(crate) fn pop(&mut self)
         ensures { self.new ≡ take (length self.old - 1) self.old }
     {
