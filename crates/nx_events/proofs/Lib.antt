@@ -3,6 +3,7 @@ pub mod References
 pub mod Pieces
 pub mod Buffers
 pub mod PlainNames
+pub mod PlainTags
 pub mod PlainRuns
 pub mod CharacterFaults
 pub mod Characters

@@ -12,11 +12,11 @@ use Rattle.nx_events.specs.Names.{begins_unprefixed, goes_on_unprefixed, is_unpr
 use Rattle.nx_events.specs.PlainNames.{is_plain_start, is_plain_further, is_plain_name}
 
 -- a test holds of all numbers below one
-every : ℕ → (ℕ → Bool) → Bool
+unfoldable pub every : ℕ → (ℕ → Bool) → Bool
 every zero p = true
 every (suc n) p = p n && every n p
 
-every_at : (n b : ℕ) (p : ℕ → Bool) → every n p ≡ true → b < n → p b ≡ true
+pub every_at : (n b : ℕ) (p : ℕ → Bool) → every n p ≡ true → b < n → p b ≡ true
 unfolding every
 every_at zero b p e h = absurd (omega arith)
 every_at (suc n) b p e h =
@@ -26,7 +26,7 @@ every_at (suc n) b p e h =
     (λ (k : n ≤ b). let same : n ≡ b = omega (arith, h, k) in subst (λ m. p m ≡ true) same t.0)
     (cases_lt b n)
 
-implies : (a b : Bool) → (not a || b) ≡ true → a ≡ true → b ≡ true
+pub implies : (a b : Bool) → (not a || b) ≡ true → a ≡ true → b ≡ true
 implies true b e h = e
 implies false b e h = absurd (false≢true h)
 
@@ -39,10 +39,10 @@ others_go_on : every 128 (λ b. not (is_plain_further b) || goes_on_unprefixed b
 unfolding every goes_on_unprefixed is_name_char is_name_start
 others_go_on = refl
 
-start_small : (b : ℕ) → is_plain_start b ≡ true → b < 128
+pub start_small : (b : ℕ) → is_plain_start b ≡ true → b < 128
 start_small b h = grind (arith, nat_tests)
 
-further_small : (b : ℕ) → is_plain_further b ≡ true → b < 128
+pub further_small : (b : ℕ) → is_plain_further b ≡ true → b < 128
 further_small b h = grind (arith, nat_tests)
 
 begins : (b : ℕ) → is_plain_start b ≡ true → begins_unprefixed b ≡ true

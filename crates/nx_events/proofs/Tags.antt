@@ -91,7 +91,7 @@ tag_of_nothing at [] e = refl
 tag_of_nothing at (b ∷ bs) e = absurd (let h : suc (length bs) ≡ 0 = (Decides-eqb (suc (length bs)) 0).0 e in omega arith)
 
 -- no attribute stands among white space, `/` and `>`
-none_among : (at : ℕ) (bs : List ℕ) → list_all is_between bs ≡ true → attributes_from 0 at bs ≡ []
+pub none_among : (at : ℕ) (bs : List ℕ) → list_all is_between bs ≡ true → attributes_from 0 at bs ≡ []
 unfolding attributes_from front_attribute front_len
 none_among at [] h = refl
 none_among at (b ∷ bs) h =

@@ -41,6 +41,7 @@ pub mod Moves
 -- ---- what private contracts cite
 pub mod Plain
 pub mod PlainNames
+pub mod PlainTags
 pub mod SeenNames
 pub mod Places
 pub mod TagPlaces

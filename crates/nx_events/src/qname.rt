@@ -48,7 +48,7 @@ fn is_plain_start(b: u8) -> bool
     b.is_ascii_alphabetic() || b == b'_'
 }
 
-// Whether the byte is the same, a digit, `-` or `.`.
+// Whether the byte is a letter of ASCII, `_`, a digit, `-` or `.`.
 fn is_plain_further(b: u8) -> bool
     ensures { result ≡ is_plain_further b }
 {
@@ -62,9 +62,9 @@ fn are_plain_further(bytes: &[u8]) -> bool
     bytes.iter().all(|b| is_plain_further(*b))
 }
 
-// Whether such bytes alone stand in the name, as in nearly all. Then it is one without a colon, and its characters
-// needn't be read.
-fn is_plain_name(name: &[u8]) -> bool
+/// Whether a letter of ASCII or `_` and then such ones, digits, `-` and `.` alone stand in the name, as in nearly all. Then it is one
+/// without a colon, and its characters needn't be read.
+pub(crate) fn is_plain_name(name: &[u8]) -> bool
     ensures { result ≡ is_plain_name name.now }
 {
     match name {

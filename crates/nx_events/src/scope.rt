@@ -1,6 +1,6 @@
 //! Namespace declarations in force (Namespaces in XML 1.0, sections 3, 5 and 6).
 
-ghost use Rattle.std.specs.Prelude.{◌≡◌, ◌++◌, ◌∷◌, [], length, take, option_copied, OnOk, OnErr};
+ghost use Rattle.std.specs.Prelude.{◌≡◌, ◌++◌, ◌∷◌, [], length, take, Some, option_copied, OnOk, OnErr};
 ghost use Rattle.nx_events.specs.declared.scope.Binding.{Binding};
 ghost use Rattle.nx_events.specs.Places.{last_named};
 ghost use Rattle.nx_events.specs.Scopes.{last_uri, bound_uri, element_uri, attribute_uri};
@@ -155,7 +155,7 @@ fn last_uri<'a>(bindings: &'a Bindings, prefix: &[u8]) -> Option<&'a [u8]>
     }
 }
 
-// The same in declarations around a tag and its own.
+// The URI of the last pair of the prefix among those around a tag and then its own.
 fn last_uri_of_two<'a>(outer: &'a Bindings, own: &'a Bindings, prefix: &[u8]) -> Option<&'a [u8]>
     ensures { option_copied result ≡ last_uri (outer.now ++ own.now) prefix.now }
 {
@@ -181,6 +181,17 @@ fn bound_uri<'a>(outer: &'a Bindings, own: &'a Bindings, prefix: &[u8]) -> Optio
     }
 }
 
+/// The namespace of an element without a prefix, and nothing where it has none.
+#[tactic(auto, unfolding(crate::specs::Scopes::element_uri))]
+pub(crate) fn default_uri(bindings: &Bindings) -> &[u8]
+    ensures { Some result.now ≡ element_uri bindings.now [] }
+{
+    match last_uri(bindings, &[]) {
+        Some(uri) => uri,
+        None => &[],
+    }
+}
+
 /// The namespace of an element of this prefix that has these declarations around it and these of its own.
 #[tactic(auto, unfolding(crate::specs::Scopes::element_uri))]
 pub(crate) fn element_uri<'a>(
@@ -199,7 +210,7 @@ pub(crate) fn element_uri<'a>(
     }
 }
 
-/// The same of an attribute of such an element.
+/// The namespace of an attribute of this prefix, of such an element.
 #[tactic(auto, unfolding(crate::specs::Scopes::attribute_uri))]
 pub(crate) fn attribute_uri<'a>(
     outer: &'a Bindings,

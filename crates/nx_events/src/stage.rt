@@ -2,15 +2,23 @@
 
 ghost use Rattle.std.specs.Prelude.{◌≡◌, ◌+◌, ◌<◌, ◌^◌, length};
 ghost use Rattle.nx_events.specs.Runs.{run_back};
-ghost use Rattle.nx_events.specs.Items.{is_inside, passed};
+ghost use Rattle.nx_events.specs.Items.{is_inside, is_behind, passed};
 
 use crate::state::EventState;
 use nx_base::token::Token;
 
+/// Whether an element is open.
 pub(crate) fn is_inside(state: &EventState) -> bool
     ensures { result ≡ is_inside state.now }
 {
     state.elements.len() > 0
+}
+
+/// Whether the root has ended.
+pub(crate) fn is_behind(state: &EventState) -> bool
+    ensures { result ≡ is_behind state.now }
+{
+    state.started && !is_inside(state)
 }
 
 /// The state behind a token that neither opens, closes nor adds to a run.

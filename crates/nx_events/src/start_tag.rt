@@ -1,22 +1,23 @@
 //! Start tags and empty-element tags.
 
-ghost use Rattle.std.specs.Prelude.{◌≡◌, ◌+◌, ◌<◌, ◌≤◌, ◌^◌, ◌++◌, [], length, IfOk, OnOk, OnErr};
+ghost use Rattle.std.specs.Prelude.{◌≡◌, ◌+◌, ◌<◌, ◌≤◌, ◌^◌, ◌++◌, [], false, length, IfOk, OnOk, OnErr};
 ghost use Rattle.nx_events.specs.Elements.{element_items, element_resolved};
 ghost use Rattle.nx_events.specs.OpenItems.{open_items, kept_names};
+ghost use Rattle.nx_events.specs.PlainTags.{IsPlainTag};
 ghost use Rattle.nx_events.specs.Tags.{start_name, tag_attributes};
 ghost use Rattle.nx_events.specs.Runs.{run_back};
 ghost use Rattle.nx_events.specs.SeenNames.{AreKept};
 ghost use Rattle.nx_events.specs.Items.{token_span, is_behind, own_bindings, start_items, empty_items, opened, emptied};
 
 use crate::character_fault::push_character_faults;
-use crate::element::{element_resolved, push_attributes, push_element};
+use crate::element::{element_resolved, plain_element_name, push_attributes, push_element};
 use crate::item::{Event, Item, Items};
 use crate::namespace::declarations;
 use crate::reading::Reading;
 use crate::scope::{Binding, Bindings};
-use crate::stage::is_inside;
+use crate::stage::is_behind;
 use crate::state::{EventState, push_run};
-use crate::tag::{is_name_alone, start_name, tag_attributes};
+use crate::tag::{is_name_alone, plain_tag_name, start_name, tag_attributes};
 use crate::tag_names::TagNames;
 use crate::token_fault::token_span;
 use nx_base::memory::NoMemory;
@@ -35,10 +36,9 @@ fn push_tag_element(
     ensures { OnOk result (items.new ≡ items.old ++ element_items (token_span token.now)
         (element_resolved (is_behind state.now) (state.now.scope ++ own.now) (start_name token.now.bytes))) }
 {
-    let behind_root = state.started && !is_inside(state);
     let written = start_name(token.bytes.as_slice());
     let memory = items.name_memory();
-    let resolved = element_resolved(alloc, memory, behind_root, &state.scope, own, written)?;
+    let resolved = element_resolved(alloc, memory, is_behind(state), &state.scope, own, written)?;
     push_element(items, token_span(token), resolved)?;
     Ok(())
 }
@@ -72,8 +72,27 @@ pub(crate) fn push_open(
     Ok(Opening { own, kept })
 }
 
-// Adds the same, and answers the pairs that the tag declares. Most tags have no attributes: they need none of the lists
-// that those are gathered in.
+// Adds the items of a start tag that is a plain name alone: it has no fault and declares nothing, so they are the element's.
+fn push_plain(
+    alloc: Global,
+    items: &mut Items,
+    state: &EventState,
+    token: &Token,
+    name: &[u8],
+) -> Result<(), NoMemory>
+    requires plain { IsPlainTag token.now.bytes name.now }
+    requires before_end { is_behind state.now ≡ false }
+    requires room { token.now.from + length token.now.bytes < 2 ^ 64 }
+    ensures { OnOk result (items.new ≡ open_items items.old state.now token.now) }
+{
+    let memory = items.name_memory();
+    let name = plain_element_name(alloc, memory, &state.scope, name)?;
+    items.push(Item::Event(Event::Enter(name), token_span(token)))?;
+    Ok(())
+}
+
+// Adds the items of a start tag as far as `push_open` does, and answers the pairs that it declares. Most tags have no attributes: they
+// need none of the lists that those are gathered in.
 fn push_declaring(
     alloc: Global,
     items: &mut Items,
@@ -95,6 +114,27 @@ fn push_declaring(
     Ok(own)
 }
 
+// Adds them by the tag's form: most tags are a plain name alone.
+fn push_by_form(
+    alloc: Global,
+    items: &mut Items,
+    state: &EventState,
+    token: &Token,
+) -> Result<Bindings, NoMemory>
+    requires { token.now.from + length token.now.bytes < 2 ^ 64 }
+    ensures items { OnOk result (items.new ≡ open_items items.old state.now token.now) }
+    ensures own { IfOk result (λ own. own ≡ own_bindings token.now) }
+{
+    if let Some(name) = plain_tag_name(token.bytes.as_slice()) {
+        if !is_behind(state) {
+            push_plain(alloc, items, state, token, name)?;
+            return Ok(Bindings::new(alloc));
+        }
+    }
+    let own = push_declaring(alloc, items, state, token)?;
+    Ok(own)
+}
+
 // Adds the items of a start tag, and answers the pairs that it declares.
 #[tactic(auto, unfolding(crate::specs::Items::start_items))]
 pub(crate) fn push_start(
@@ -109,7 +149,7 @@ pub(crate) fn push_start(
     ensures pairs { IfOk result (λ own. own ≡ own_bindings token.now) }
 {
     push_run(items, token.from, &state.run)?;
-    let own = push_declaring(alloc, items, state, token)?;
+    let own = push_by_form(alloc, items, state, token)?;
     items.push(Item::Event(Event::TagEnd, token_span(token)))?;
     Ok(own)
 }

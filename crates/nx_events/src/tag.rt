@@ -1,12 +1,14 @@
 //! What is written in a tag (XML 1.0, 3.1).
 
-ghost use Rattle.std.specs.Prelude.{◌≡◌, ◌+◌, ◌<◌, ◌≤◌, ◌^◌, ◌++◌, [], ℕ, true, false, length, IfOk, OnOk, MatchOption};
+ghost use Rattle.std.specs.Prelude.{◌≡◌, ◌+◌, ◌<◌, ◌≤◌, ◌^◌, ◌++◌, [], ℕ, true, false, length, IfOk, IfSome, OnOk, MatchOption};
 ghost use Rattle.std.specs.List.{list_all};
 ghost use Rattle.nx_events.specs.Tags.{is_between, written_name, quote_place, value_len, attribute_len, begins_attribute, attribute_at};
 ghost use Rattle.nx_events.specs.Tags.{front_attribute, front_len, attributes_from, start_name, end_name, tag_attributes};
+ghost use Rattle.nx_events.specs.PlainTags.{IsPlainTag};
 
 use crate::front::{byte_place, is_between, name_end, quote_place};
 use crate::piece::string_of;
+use crate::qname::is_plain_name;
 use crate::reading::Reading;
 use nx_base::fault::Span;
 use nx_base::memory::NoMemory;
@@ -191,6 +193,22 @@ pub(crate) fn is_name_alone(bytes: &[u8]) -> bool
     }
     let n = 1 + name_end(&bytes[1..]);
     are_between(&bytes[n..])
+}
+
+/// The name of a tag that is `<`, a plain name and `>`, as most start tags are. One look at its bytes tells that.
+pub(crate) fn plain_tag_name(bytes: &[u8]) -> Option<&[u8]>
+    ensures { IfSome result (λ name. IsPlainTag bytes.now name.now) }
+{
+    let len = bytes.len();
+    if len < 2 || bytes[0] != b'<' || bytes[len - 1] != b'>' {
+        return None;
+    }
+    let name = &bytes[1..len - 1];
+    if is_plain_name(name) {
+        Some(name)
+    } else {
+        None
+    }
 }
 
 /// The attributes of a tag that begins at the place `at`.
