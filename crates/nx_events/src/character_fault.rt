@@ -35,7 +35,7 @@ fn character_flaw(piece: &[u8]) -> Option<Kind>
     }
 }
 
-// The same in a tag.
+// What is wrong with a piece in a tag, where references are read.
 #[tactic(auto, unfolding(crate::specs::CharacterFaults::tag_flaw))]
 fn tag_flaw(piece: &[u8]) -> Option<Kind>
     ensures { result ≡ tag_flaw piece.now }
@@ -51,7 +51,7 @@ fn tag_flaw(piece: &[u8]) -> Option<Kind>
     }
 }
 
-// The same in character data.
+// What is wrong with a piece of character data, where `]]>` may not stand.
 #[tactic(auto, unfolding(crate::specs::CharacterFaults::text_flaw))]
 fn text_flaw(piece: &[u8]) -> Option<Kind>
     ensures { result ≡ text_flaw piece.now }
@@ -63,6 +63,7 @@ fn text_flaw(piece: &[u8]) -> Option<Kind>
     }
 }
 
+// What is wrong with a piece in this reading.
 fn piece_flaw(reading: Reading, piece: &[u8]) -> Option<Kind>
     ensures { result ≡ piece_flaw reading piece.now }
 {
@@ -203,7 +204,8 @@ pub(crate) fn push_character_faults(
     Ok(())
 }
 
-// Adds the same, a run or a piece at a time.
+// Adds the faults of bytes some of which aren't plain, a run or a piece at a time.
+#[inline(never)]
 fn push_faults_one_by_one(
     alloc: Global,
     items: &mut Items,
