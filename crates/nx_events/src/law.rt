@@ -40,7 +40,7 @@ pub fn items_move_with_tokens()
     ensures { ItemsMoveWithTokens }
 {}
 
-/// And it leads to the same state.
+/// A token farther on leads to the same state.
 #[tactic(auto, using(crate::specs::ItemsMove::states_hold_no_place))]
 pub fn states_hold_no_place()
     ensures { StatesHoldNoPlace }

@@ -106,7 +106,7 @@ fn declare(
     Ok(())
 }
 
-// The same of any attribute, behind those before whose declarations came.
+// Declares what an attribute does, if it is a declaration, behind those before it whose names came.
 #[tactic(auto, unfolding(crate::specs::Declarations::faults_at, crate::specs::Declarations::bindings_at))]
 fn declare_if(
     alloc: Global,

@@ -36,7 +36,7 @@ fn push_left_out(
     Ok(())
 }
 
-/// Adds the same of all these elements, the innermost first.
+/// Adds the fault and the end of each of these elements, the innermost first.
 pub(crate) fn push_all_left_out(
     items: &mut Items,
     kind: Kind,

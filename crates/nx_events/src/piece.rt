@@ -30,7 +30,7 @@ fn line_piece_len(bytes: &[u8]) -> usize
     }
 }
 
-// The same where references are read, and `]]>` is one piece.
+// How long the piece at the front is where references are read and `]]>` is one piece.
 #[tactic(auto, unfolding(crate::specs::Strings::text_piece_len))]
 fn text_piece_len(bytes: &[u8]) -> usize
     ensures { result ≡ text_piece_len bytes.now }
@@ -158,7 +158,7 @@ pub(crate) fn push_string(reading: Reading, out: &mut Vec<u8>, bytes: &[u8]) -> 
     Ok(())
 }
 
-// Adds the same, a run or a piece at a time.
+// Adds the string of bytes that may be of any kind, a run or a piece at a time.
 fn push_further(reading: Reading, out: &mut Vec<u8>, bytes: &[u8]) -> Result<(), NoMemory>
     ensures { OnOk result (out.new.items ≡ out.old.items ++ string_of reading bytes.now) }
 {

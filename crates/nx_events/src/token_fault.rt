@@ -52,8 +52,6 @@ pub(crate) fn push_characters(
     ensures { OnOk result (items.new ≡ items.old ++ character_items reading test kind token.now) }
 {
     push_character_faults(alloc, items, reading, token.from, token.bytes.as_slice())?;
-    if test {
-        push_bare(alloc, items, kind, token_span(token))?;
-    }
+    push_token_fault_if(alloc, items, test, kind, token)?;
     Ok(())
 }
