@@ -1,5 +1,5 @@
 -- A part of a tag that lies in one piece.
-use Rattle.std.proofs.Common.{◌≡◌, ◌∙◌, ℕ, zero, suc, ◌+◌, ◌-◌, ◌<◌, ◌≤◌, Bool, true, false, List, ◌++◌, length, take, drop, get_or, sym, ap, subst, arith, take_all}
+use Rattle.std.proofs.Common.{◌≡◌, ◌∙◌, ℕ, zero, suc, ◌+◌, ◌-◌, ◌<◌, ◌≤◌, Bool, true, false, List, ◌++◌, length, take, drop, get_or, refl, sym, ap, subst, arith, take_all}
 use Rattle.std.specs.Prelude.{nat_lt, not, ◌&&◌, ◌==◌}
 use Rattle.std.specs.List.{prefix_len}
 use Rattle.std.proofs.lemmas.List.Sums.{prefix_len_passes}
@@ -8,17 +8,22 @@ use Rattle.std.specs.Str.{IsUtf8}
 use lib.Utf8.{encode}
 use Rattle.std.proofs.lemmas.List.{drop-drop, drop_more, drop-append-le, length-drop, get_or-drop}
 use Rattle.std.proofs.lemmas.Str.{length-encode, encode_ascii}
-use Rattle.nx_base.specs.Characters.{is_name_char}
+use Rattle.nx_base.specs.Characters.{is_name_start, is_name_char}
 use Rattle.nx_base.specs.Text.{IsPlace}
+use Rattle.nx_base.specs.Tokens.{tag, tags}
+use Rattle.nx_base.specs.declared.token.TokenKind.{TokenKind}
+use Rattle.nx_base.specs.declared.token.TokenKind.TheVariants as kinds
 use Rattle.nx_text.specs.Reading.{StandsAt, StandFrom}
-use Rattle.nx_scan.specs.Tag.{left_of, left_after, IsReadTo, Stays, is_name_byte, is_value_byte}
+use Rattle.nx_scan.specs.Tag.{left_of, left_after, IsReadTo, IsClosedName, Stays, is_name_byte, is_value_byte}
+use Rattle.nx_scan.specs.declared.scan.End.{End}
+use Rattle.nx_scan.specs.Ending.{EndsAt}
 use Rattle.nx_scan.specs.declared.tag.TagState.{TagState}
 use Rattle.nx_scan.specs.declared.tag.TagState.TheVariants as seen
-use Rattle.nx_scan.proofs.Reading.{name-name, attribute-name, end-name, double-other, single-other}
-use Rattle.nx_scan.proofs.TagEnds.{IsOpen, step-on}
+use Rattle.nx_scan.proofs.Reading.{open-slash, open-start, end-start, name-name, name-other, value-close, end-name, end-other, end-close, attribute-name, double-other, single-other}
+use Rattle.nx_scan.proofs.TagEnds.{IsOpen, IsWhole, start-whole, end-whole, open-part, begin-place, begin-tag, step-on, is-whole}
 
 -- a byte of a piece that stands in the text is a character of it
-byte-stands : (text piece : List ℕ) (place i : ℕ) → StandFrom text place piece → i < length piece → IsPlace text (place + i) →
+pub byte-stands : (text piece : List ℕ) (place i : ℕ) → StandFrom text place piece → i < length piece → IsPlace text (place + i) →
     get_or piece i 0 < 128 → StandsAt text (place + i) (get_or piece i 0)
 byte-stands text piece place i is within border low =
     let b = get_or piece i 0 in
@@ -66,12 +71,15 @@ there from k piece =
     ∙ get_or-drop from piece k 0
 
 -- the bytes of a front that pass a test
+pub each_passes : (p : ℕ → Bool) (piece : List ℕ) (from count : ℕ) → count ≡ prefix_len p (take (length piece - from) (drop from piece)) →
+    (k : ℕ) → k < count → p (get_or piece (from + k) 0) ≡ true
+each_passes p piece from count is k less =
+    subst (λ (byte : ℕ). p byte ≡ true) (there from k piece)
+    (prefix_len_passes p (take (length piece - from) (drop from piece)) k 0 (omega (arith, is, less)))
+
 pub each_stays : (p : ℕ → Bool) (read : TagState) → ((byte : ℕ) → p byte ≡ true → Stays read byte) → (piece : List ℕ) (from count : ℕ) →
     count ≡ prefix_len p (take (length piece - from) (drop from piece)) → (k : ℕ) → k < count → Stays read (get_or piece (from + k) 0)
-each_stays p read stay piece from count is k less =
-    subst (λ (byte : ℕ). Stays read byte) (there from k piece)
-    (stay (get_or (take (length piece - from) (drop from piece)) k 0)
-    (prefix_len_passes p (take (length piece - from) (drop from piece)) k 0 (omega (arith, is, less))))
+each_stays p read stay piece from count is k less = stay (get_or piece (from + k) 0) (each_passes p piece from count is k less)
 
 -- bytes of names, and of values
 low_byte : (byte : ℕ) (other : Bool) → (nat_lt byte 128 && other) ≡ true → byte < 128
@@ -119,3 +127,78 @@ in_single byte is =
       low = low_byte byte (not (byte == 39) && not (byte == 60)) is;
       same = single-other byte (differs_from byte 39 both.0) (differs_from byte 60 both.1);
     }
+
+-- a tag is read on through a name that is closed
+pub name-on : (text piece : List ℕ) (at place from close : ℕ) (before read : TagState) → IsUtf8 text → StandFrom text place piece →
+    IsClosedName piece from close → left_of read ≡ left_after (left_of before) (get_or piece from 0) →
+    ((byte : ℕ) → is_name_byte byte ≡ true → Stays read byte) → IsOpen read →
+    IsReadTo text at (place + from) before → IsReadTo text at (place + close) read
+name-on text piece at place from close before read utf8 is named first stays open_read so_far =
+    let some = named.some in let within = named.within in
+    let sum : from + 1 + (close - (from + 1)) ≡ close = omega (arith, some) in
+    subst (λ (k : ℕ). IsReadTo text at (place + k) read) sum
+    (stay-on (close - (from + 1)) text piece at place (from + 1) read utf8 is (omega (arith, some, within))
+    (λ k less. stays (get_or piece (from + 1 + k) 0) (named.others k less)) open_read
+    (byte-on text piece at place from before read utf8 is (omega (arith, some, within)) named.low first open_read so_far))
+
+-- and is whole behind the `>`
+pub name-whole : (text piece : List ℕ) (at place from close : ℕ) (read whole : TagState) (kind : TokenKind) → IsUtf8 text →
+    StandFrom text place piece → IsClosedName piece from close → IsWhole whole kind → left_of whole ≡ left_after (left_of read) 62 →
+    IsReadTo text at (place + close) read → (found : End) → found.kind ≡ kind → found.place ≡ place + close + 1 →
+    EndsAt text at (tag tags (drop at text)) found
+name-whole text piece at place from close read whole kind utf8 is named is_whole next so_far found kind_is place_is =
+    let low : get_or piece close 0 < 128 = (let closed = named.closed in omega (arith, closed)) in
+    let here : StandsAt text (place + close) 62 =
+    subst (λ c. StandsAt text (place + close) c) named.closed (byte-stands text piece place close is named.within so_far.border low) in
+    let one : length (encode 62) ≡ 1 = ap length (encode_ascii 62 (omega arith)) in
+    is-whole text at (place + close) 62 (left_of read) utf8 here so_far.behind so_far.part so_far.so_far whole kind is_whole next found kind_is
+    (let k = length-encode 62 in omega (arith, place_is, one, k))
+
+-- names are open, and whole behind `>`
+name_open : IsOpen seen.Name
+unfolding left_of
+name_open = record { part = record { end = refl; start = refl; empty = refl }; possible = refl }
+
+end_open : IsOpen seen.EndOpen
+unfolding left_of
+end_open = record { part = record { end = refl; start = refl; empty = refl }; possible = refl }
+
+end_name_open : IsOpen seen.EndName
+unfolding left_of
+end_name_open = record { part = record { end = refl; start = refl; empty = refl }; possible = refl }
+
+no_name : is_name_char 62 ≡ false
+unfolding is_name_char is_name_start
+no_name = refl
+
+name-close : left_of seen.Start ≡ left_after (left_of seen.Name) 62
+name-close = value-close 62 refl ∙ sym (name-other 62 no_name)
+
+end_name-close : left_of seen.End ≡ left_after (left_of seen.EndName) 62
+end_name-close = end-close 62 refl ∙ sym (end-other 62 no_name)
+
+-- a tag that begins at `at` with `<`
+module _ (text piece : List ℕ) (at : ℕ) where
+  pub begun : IsUtf8 text → at < length text → get_or text at 0 ≡ 60 → IsReadTo text at (at + 1 + 0) seen.Open
+  begun utf8 within is =
+      let start : at + 1 ≡ at + 1 + 0 = omega arith in
+      subst (λ (k : ℕ). IsReadTo text at k seen.Open) start
+      (record { border = begin-place text at utf8 within is; behind = omega arith; part = open-part; so_far = begin-tag text at utf8 within is })
+
+  pub start-named : (close : ℕ) → IsUtf8 text → at < length text → get_or text at 0 ≡ 60 → StandFrom text (at + 1) piece →
+      IsClosedName piece 0 close → (found : End) → found.kind ≡ kinds.Start → found.place ≡ at + 1 + close + 1 →
+      EndsAt text at (tag tags (drop at text)) found
+  start-named close utf8 within is stand named found kind_is place_is =
+      name-whole text piece at (at + 1) 0 close seen.Name seen.Start kinds.Start utf8 stand named start-whole name-close
+      (name-on text piece at (at + 1) 0 close seen.Open seen.Name utf8 stand named (open-start (get_or piece 0 0) named.first) in_name name_open
+      (begun utf8 within is)) found kind_is place_is
+
+  pub end-named : (close : ℕ) → IsUtf8 text → at < length text → get_or text at 0 ≡ 60 → StandFrom text (at + 1) piece →
+      0 < length piece → get_or piece 0 0 ≡ 47 → IsClosedName piece 1 close → (found : End) → found.kind ≡ kinds.End →
+      found.place ≡ at + 1 + close + 1 → EndsAt text at (tag tags (drop at text)) found
+  end-named close utf8 within is stand some slash named found kind_is place_is =
+      name-whole text piece at (at + 1) 1 close seen.EndName seen.End kinds.End utf8 stand named end-whole end_name-close
+      (name-on text piece at (at + 1) 1 close seen.EndOpen seen.EndName utf8 stand named (end-start (get_or piece 1 0) named.first) in_end_name
+      end_name_open
+      (byte-on text piece at (at + 1) 0 seen.Open seen.EndOpen utf8 stand some (omega (arith, slash)) (open-slash (get_or piece 0 0) slash) end_open
+      (begun utf8 within is))) found kind_is place_is

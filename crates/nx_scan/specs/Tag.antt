@@ -1,6 +1,6 @@
 -- What may still follow a part of a tag.
-use Rattle.std.specs.Prelude.{◌≡◌, ℕ, ◌+◌, ◌-◌, ◌<◌, ◌≤◌, nat_lt, Bool, false, not, ◌&&◌, ◌==◌, List, drop}
-use Rattle.nx_base.specs.Characters.{is_name_char}
+use Rattle.std.specs.Prelude.{◌≡◌, ℕ, ◌+◌, ◌-◌, ◌<◌, ◌≤◌, nat_lt, Bool, true, false, not, ◌&&◌, ◌==◌, List, length, slice_index, drop}
+use Rattle.nx_base.specs.Characters.{is_name_start, is_name_char}
 use Rattle.nx_base.specs.Form.{Form, name_char, only, one, seq, alt, many, never, nothing, after, may_end}
 use Rattle.nx_base.specs.Tags.{name_form, spaces, quoted_rest, attribute_value, attribute_rest, attribute, tag_rest}
 use Rattle.nx_base.specs.Text.{IsPlace}
@@ -76,6 +76,15 @@ pub record Stays (read : TagState) (byte : ℕ) : Type 0 where
 -- a character of one byte of a name, and of a value in such quotes
 abbrev pub is_name_byte : ℕ → Bool
 is_name_byte byte = nat_lt byte 128 && is_name_char byte
+
+-- a name of such characters from an index on, which `>` closes at another
+pub record IsClosedName (bytes : List ℕ) (from close : ℕ) : Type 0 where
+  pub some : from < close
+  pub within : close < length bytes
+  pub low : slice_index bytes from < 128
+  pub first : is_name_start (slice_index bytes from) ≡ true
+  pub others : (k : ℕ) → k < close - (from + 1) → is_name_byte (slice_index bytes (from + 1 + k)) ≡ true
+  pub closed : slice_index bytes close ≡ 62
 
 abbrev pub is_value_byte : ℕ → ℕ → Bool
 is_value_byte quote byte = nat_lt byte 128 && (not (byte == quote) && not (byte == 60))

@@ -12,7 +12,7 @@ ghost use Rattle.nx_scan.specs.Ending.{EndsAt};
 use crate::doctype::doctype_end;
 use crate::mark::{byte_is, find_byte, find_past, stands_at};
 use crate::tag::TagState;
-use crate::tag_part::read_on;
+use crate::tag_part::{closed_name, read_on};
 use nx_base::character::is_space;
 use nx_base::memory::NoMemory;
 use nx_base::sequence::Bytes;
@@ -163,6 +163,25 @@ fn tag_end(text: &Text, at: usize) -> End
     bad_end(text, part.place)
 }
 
+/// A tag that is a name alone, `<name>` or `</name>`, where all its characters have one byte and lie in one piece of the text. Most tags
+/// are such, and are read at once. A `<` stands at `at`.
+fn named_tag_end(text: &Text, at: usize) -> Option<End>
+    requires utf8 { IsUtf8 text.now }
+    requires within { at < length text.now }
+    requires fits { at + 1 < 2 ^ 64 }
+    requires open { slice_index text.now at ≡ 60 }
+    ensures { IfSome result (EndsAt text.now at (tag tags (drop at text.now))) }
+{
+    let piece = text.piece_at(at + 1);
+    if !piece.is_empty() && piece[0] == b'/' {
+        let close = closed_name(piece, 1)?;
+        Some(End::new(TokenKind::End, at + 1 + close + 1))
+    } else {
+        let close = closed_name(piece, 0)?;
+        Some(End::new(TokenKind::Start, at + 1 + close + 1))
+    }
+}
+
 /// A token that begins with `<`, which stands at `at`, by its mark.
 fn marked_end(text: &Text, at: usize) -> End
     requires utf8 { IsUtf8 text.now }
@@ -197,7 +216,10 @@ fn markup_end(text: &Text, at: usize) -> End
     } else if byte_is(text, at + 1, b'?') {
         marked_end(text, at)
     } else {
-        tag_end(text, at)
+        match named_tag_end(text, at) {
+            Some(end) => end,
+            None => tag_end(text, at),
+        }
     }
 }
 

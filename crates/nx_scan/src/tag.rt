@@ -75,7 +75,7 @@ impl TagState {
 
 /// Whether a name may begin with the character.
 #[tactic(auto, unfolding(nx_base::specs::Characters::is_name_start))]
-fn is_name_start(c: char) -> bool
+pub(crate) fn is_name_start(c: char) -> bool
     ensures { result ≡ is_name_start c }
 {
     if c.is_ascii_lowercase() {

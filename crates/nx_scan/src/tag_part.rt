@@ -1,12 +1,14 @@
 //! A tag is read on at once through the characters of one byte that lie in one piece of the text.
 
-ghost use Rattle.std.specs.Prelude.{◌≡◌, ℕ, ◌+◌, ◌<◌, ◌≤◌, length, slice_index};
+ghost use Rattle.std.specs.Prelude.{◌≡◌, ℕ, ◌+◌, ◌<◌, ◌≤◌, length, slice_index, IsTrue, IfSome};
+ghost use Rattle.std.specs.Bool.{OnTrue};
 ghost use Rattle.std.specs.List.{prefix_len};
 ghost use Rattle.std.specs.Str.{IsUtf8};
+ghost use Rattle.nx_base.specs.Characters.{is_name_start};
 ghost use Rattle.nx_base.specs.Text.{IsPlace};
-ghost use Rattle.nx_scan.specs.Tag.{IsReadTo, Stays, is_name_byte, is_value_byte};
+ghost use Rattle.nx_scan.specs.Tag.{IsReadTo, IsClosedName, Stays, is_name_byte, is_value_byte};
 
-use crate::tag::{TagState, is_name_char};
+use crate::tag::{TagState, is_name_char, is_name_start};
 use nx_text::text::Text;
 
 /// How far a tag is read, and what was read of it.
@@ -16,11 +18,20 @@ pub(crate) struct TagPart {
     pub(crate) seen: TagState,
 }
 
+/// Whether the byte is a character of its own, with which a name may begin.
+fn is_name_first(byte: u8) -> bool
+    ensures low { OnTrue result (byte < 128) }
+    ensures first { OnTrue result (IsTrue (is_name_start byte)) }
+{
+    byte < 128 && is_name_start(char::from(byte))
+}
+
 /// Whether a name goes on with the byte, which is a character of its own.
+#[tactic(auto, unfolding(nx_base::specs::Characters::is_name_char, nx_base::specs::Characters::is_name_start))]
 fn is_in_name(byte: u8) -> bool
     ensures { result ≡ is_name_byte byte }
 {
-    byte < 128 && is_name_char(char::from(byte))
+    byte.is_ascii_lowercase() || byte < 128 && is_name_char(char::from(byte))
 }
 
 /// Whether a value in such quotes goes on with the byte, which is a character of its own.
@@ -36,6 +47,21 @@ fn name_len(bytes: &[u8]) -> usize
     ensures within { result ≤ length bytes.now }
 {
     bytes.iter().take_while(|byte| is_in_name(**byte)).count()
+}
+
+/// The index at which a `>` closes a name that begins at another, where that stands there and all the name's characters have one byte.
+pub(crate) fn closed_name(bytes: &[u8], from: usize) -> Option<usize>
+    ensures { IfSome result (IsClosedName bytes.now from) }
+{
+    if from >= bytes.len() || !is_name_first(bytes[from]) {
+        return None;
+    }
+    let close = from + 1 + name_len(&bytes[from + 1..]);
+    if close < bytes.len() && bytes[close] == b'>' {
+        Some(close)
+    } else {
+        None
+    }
 }
 
 /// How many bytes of a value in such quotes stand in front.
