@@ -6,6 +6,7 @@ ghost use Rattle.nx_text.specs.Gap.{Parted};
 
 use std::alloc::{AllocError, Global};
 use std::marker::Model;
+use std::mem;
 
 /// A gap that is widened gets one item of room for so many that the list has.
 const SPARE_PART: usize = 16;
@@ -163,6 +164,16 @@ impl<T: Copy> GapBuffer<T> {
             self.start = at;
             self.end += moved;
         }
+    }
+
+    /// The list itself, which leaves an empty one. A loop over one of its own need not write the gap's ends to memory for each item.
+    pub(crate) fn take(&mut self) -> GapBuffer<T>
+        ensures list { result ≡ self.old }
+        ensures front { self.new.front ≡ [] }
+        ensures back { self.new.back ≡ [] }
+    {
+        let empty = GapBuffer::new(*self.items.allocator());
+        mem::replace(self, empty)
     }
 
     /// Puts an item in at the start of the gap.

@@ -51,11 +51,16 @@ fn lower_gap(bytes: &GapBuffer<u8>, feeds: &mut GapBuffer<usize>, count: usize)
     ensures room { feeds.new.room ≡ feeds.old.room }
     ensures few { length feeds.new.front ≤ count }
 {
-    let len = bytes.len();
-    while count < feeds.front_len() {
-        let feed = feeds.pop();
-        feeds.push_back(len - feed);
+    if feeds.front_len() <= count {
+        return;
     }
+    let len = bytes.len();
+    let mut moved = feeds.take();
+    while count < moved.front_len() {
+        let feed = moved.pop();
+        moved.push_back(len - feed);
+    }
+    *feeds = moved;
 }
 
 /// Takes feeds from behind the index's gap to in front of it, until there are as many in front as are wanted.
@@ -67,11 +72,16 @@ fn raise_gap(bytes: &GapBuffer<u8>, feeds: &mut GapBuffer<usize>, count: usize)
     ensures room { feeds.new.room ≡ feeds.old.room }
     ensures count { length feeds.new.front ≡ count }
 {
-    let len = bytes.len();
-    while feeds.front_len() < count {
-        let left = feeds.pop_back();
-        feeds.push(len - left);
+    if feeds.front_len() == count {
+        return;
     }
+    let len = bytes.len();
+    let mut moved = feeds.take();
+    while moved.front_len() < count {
+        let left = moved.pop_back();
+        moved.push(len - left);
+    }
+    *feeds = moved;
 }
 
 /// Moves both gaps to a place.

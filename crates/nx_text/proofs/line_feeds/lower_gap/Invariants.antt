@@ -2,8 +2,8 @@ use Rattle.std.proofs.Common.{◌≡◌, ◌-◌, length}
 use Rattle.nx_text.specs.Feeds.{IsIndex, joined}
 use Rattle.nx_text.proofs.line_feeds.lower_gap.Given as goal
 
-abbrev pub invariant-loop-feeds : goal.invariant-loop-feeds
-invariant-loop-feeds l = IsIndex (joined l.bytes) l.feeds × (l.feeds.room ≡ l.fn.feeds.room)
+abbrev pub invariant-loop-moved : goal.invariant-loop-moved
+invariant-loop-moved l = IsIndex (joined l.bytes) l.moved × (l.moved.room ≡ l.fn.feeds.room)
 
-abbrev pub decreases-loop-feeds : goal.decreases-loop-feeds
-decreases-loop-feeds l = length l.feeds.front - l.count
+abbrev pub decreases-loop-moved : goal.decreases-loop-moved
+decreases-loop-moved l = length l.moved.front - l.count
