@@ -32,7 +32,7 @@ dropped front here mark next aside fewer h e le =
     record { counted = (let i = h.counted in omega arith); fits = (let i = h.fits in omega arith) }
 
 -- a mark with nothing behind it yet is put in front
-pub began : {S : Type 0} (front more aside : List (Mark S)) (here x : Mark S) → Held front here aside → more ≡ front ++ x ∷ [] → x.len ≡ 0 → length front + length aside + 2 < 2 ^ 64 → Held more here aside
+pub began : {S : Type 0} (front more aside : List (Mark S)) (here x : Mark S) → Held front here aside → more ≡ front ++ x ∷ [] → x.len ≡ 0 → length front + length aside + 2 < 2 ^ 32 → Held more here aside
 began front more aside here x h e zero lt =
     let a = longer more front x e in
     let b = further more front x e in

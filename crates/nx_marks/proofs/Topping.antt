@@ -155,7 +155,7 @@ settled-far xs one top x lt e f =
     omega arith
 
 -- one more
-pub pushed : {S : Type 0} (all xs : List (Mark S)) (x y : Mark S) (far far' : ℕ) {was : List (Mark S)} → Reaches was far → was ≡ all → xs ≡ was → length all + 1 < 2 ^ 64 → y ≡ x → far' ≡ far + y.len → Reaches (xs ++ x ∷ []) far'
+pub pushed : {S : Type 0} (all xs : List (Mark S)) (x y : Mark S) (far far' : ℕ) {was : List (Mark S)} → Reaches was far → was ≡ all → xs ≡ was → length all + 1 < 2 ^ 32 → y ≡ x → far' ≡ far + y.len → Reaches (xs ++ x ∷ []) far'
 pushed {S = S} all xs x y far far' r are e lt f g = record {
   reaches = (let a = r.reaches in let b = ap reach e in let c = reach-append xs (x ∷ []) in let n = ap (λ (m : Mark S). m.len) f in omega arith);
   counted = (let b = ap length (e ∙ are) in let c = length-append xs (x ∷ []) in omega arith);

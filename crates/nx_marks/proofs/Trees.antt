@@ -14,7 +14,7 @@ pub record AtNode {S : Type 0} (all l : List (Mark S)) (m : Mark S) (r : List (M
   pub is : all ≡ l ++ m ∷ r
   pub counts : length all ≡ length l + 1 + length r
   pub reaches : reach all ≡ reach l + m.len + reach r
-  pub count_fits : length all < 2 ^ 64
+  pub count_fits : length all < 2 ^ 32
   pub reach_fits : reach all < 2 ^ 64
 
 at_some : {S : Type 0} (all l : List (Mark S)) (m : Mark S) (r : List (Mark S)) (count far : ℕ) (whole faulty : Bool) → all ≡ l ++ m ∷ r → Summed (l ++ m ∷ r) count far whole faulty → AtNode all l m r
@@ -105,7 +105,7 @@ pub faulty-parts : {S : Type 0} (l : List (Mark S)) (m : Mark S) (r : List (Mark
 faulty-parts l m r v e = rw (faulty-append l (m ∷ r)) (rw (or-assoc (any_faulty l) (has_some m.faults) (any_faulty r)) e)
 
 -- what marks and more of them come to
-pub summed-with : {S : Type 0} {xs ys all : List (Mark S)} {m n k f g h : ℕ} {a b v d e w : Bool} → Summed xs m f a d → Summed ys n g b e → all ≡ xs ++ ys → length xs + length ys < 2 ^ 64 → reach xs + reach ys < 2 ^ 64 → k ≡ m + n → h ≡ f + g → v ≡ (a && b) → w ≡ (d || e) → Summed all k h v w
+pub summed-with : {S : Type 0} {xs ys all : List (Mark S)} {m n k f g h : ℕ} {a b v d e w : Bool} → Summed xs m f a d → Summed ys n g b e → all ≡ xs ++ ys → length xs + length ys < 2 ^ 32 → reach xs + reach ys < 2 ^ 64 → k ≡ m + n → h ≡ f + g → v ≡ (a && b) → w ≡ (d || e) → Summed all k h v w
 summed-with {S} {xs} {ys} {all} s t is count_fits reach_fits counts reaches whole faulty =
     let n = ap length is ∙ length-append xs ys in
     let f = ap reach is ∙ reach-append xs ys in

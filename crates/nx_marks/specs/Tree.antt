@@ -33,7 +33,7 @@ pub record Summed {S : Type 0} (marks : List (Mark S)) (count far : ℕ) (whole 
   pub reaches : far ≡ reach marks
   pub are_whole : whole ≡ all_whole marks
   pub are_faulty : faulty ≡ any_faulty marks
-  pub count_fits : length marks < 2 ^ 64
+  pub count_fits : length marks < 2 ^ 32
   pub reach_fits : reach marks < 2 ^ 64
 
 -- how many of these marks, from the first on, reach no farther than a place

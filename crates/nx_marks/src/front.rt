@@ -47,7 +47,7 @@ impl<S> Model for Front<S> {
 
 /// Puts the last mark into the tree, too.
 fn settle<S: Drop>(below: &mut Tree<S>, top: &mut Option<Single<S>>)
-    requires count { length (below.old ++ option_to_list top.old) < 2 ^ 64 }
+    requires count { length (below.old ++ option_to_list top.old) < 2 ^ 32 }
     requires reach { reach (below.old ++ option_to_list top.old) < 2 ^ 64 }
     ensures below { below.new ≡ below.old ++ option_to_list top.old }
     ensures top { top.new ≡ None }
@@ -181,7 +181,7 @@ impl<S: Drop> Front<S> {
 
     /// Puts marks behind the last.
     pub(crate) fn append(&mut self, more: Tree<S>)
-        requires count { length self.old + length more < 2 ^ 64 }
+        requires count { length self.old + length more < 2 ^ 32 }
         requires reach { reach self.old + reach more < 2 ^ 64 }
         ensures { self.new ≡ self.old ++ more }
     {
@@ -192,7 +192,7 @@ impl<S: Drop> Front<S> {
 
     /// Puts a mark behind the last.
     pub(crate) fn push(&mut self, mark: Single<S>)
-        requires count { length self.old + 1 < 2 ^ 64 }
+        requires count { length self.old + 1 < 2 ^ 32 }
         requires reach { reach self.old + mark.len < 2 ^ 64 }
         ensures { self.new ≡ self.old ++ mark ∷ [] }
     {

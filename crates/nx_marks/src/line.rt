@@ -42,8 +42,8 @@ pub struct Line<S> {
     /// Whether a mark stands at the frontier.
     pub(crate) marked: bool,
     pub(crate) aside: Tree<S>,
-    /// The weight of the last node that was made.
-    weight: u32,
+    /// The weight of the last node that was made, in its upper half.
+    lot: u32,
 }
 
 impl<S> Model for Line<S> {
@@ -57,9 +57,9 @@ impl<S> Model for Line<S> {
     ghost invariant = { λ k. Held k.front k.here k.aside };
 }
 
-/// The weight that comes after this one. Weights rise and fall as if by lot.
-fn next_weight(weight: u32) -> u32 {
-    weight.wrapping_mul(747_796_405).wrapping_add(2_891_336_453)
+/// The lot that comes after this one. Lots rise and fall without order, and so do their upper halves, which are weights.
+fn next_lot(lot: u32) -> u32 {
+    lot.wrapping_mul(747_796_405).wrapping_add(2_891_336_453)
 }
 
 /// Drops all faults.
@@ -95,7 +95,7 @@ impl<S: Drop> Line<S> {
             },
             marked: true,
             aside: Tree::empty(),
-            weight: 0,
+            lot: 0,
         }
     }
 
@@ -515,8 +515,8 @@ impl<S: Drop> Line<S> {
         ensures ok { OnOk result (self.new ≡ begun self.old state) }
         ensures err { OnErr result (self.new ≡ self.old) }
     {
-        // No memory holds so many marks, but their count is to be a number.
-        if self.front.count() + self.aside.count() >= usize::MAX - 1 {
+        // Marks are counted in 32 bits. So many would take some hundred gigabytes, of text and of memory.
+        if self.front.count() + self.aside.count() >= u32::MAX as usize - 1 {
             return Err(NoMemory);
         }
         let mark = Mark {
@@ -527,9 +527,10 @@ impl<S: Drop> Line<S> {
             whole: true,
             saved: true,
         };
-        let weight = next_weight(self.weight);
+        let lot = next_lot(self.lot);
+        let weight = (lot >> 16) as u16;
         self.front.push(Single::new(alloc, mark, weight)?);
-        self.weight = weight;
+        self.lot = lot;
         self.marked = false;
         Ok(())
     }

@@ -50,13 +50,14 @@ impl<S: Drop> Tree<S> {
             return Ok(());
         }
         let before = node.left.sums();
-        if count <= before.count {
+        let earlier = before.count as usize;
+        if count <= earlier {
             return node.left.add_faults(count, faults, place);
         }
-        node.left.add_faults(before.count, faults, place)?;
+        node.left.add_faults(earlier, faults, place)?;
         add_faults(faults, &node.mark.faults, place + before.reach)?;
         node.right.add_faults(
-            count - before.count - 1,
+            count - earlier - 1,
             faults,
             place + before.reach + node.mark.len,
         )

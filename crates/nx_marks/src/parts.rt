@@ -43,7 +43,7 @@ fn only<S: Drop>(tree: Tree<S>) -> Single<S>
 impl<S: Drop> Tree<S> {
     /// Puts marks behind the last.
     pub(crate) fn append(&mut self, more: Tree<S>)
-        requires count { length self.old + length more < 2 ^ 64 }
+        requires count { length self.old + length more < 2 ^ 32 }
         requires reach { reach self.old + reach more < 2 ^ 64 }
         ensures { self.new ≡ self.old ++ more }
     {
@@ -55,7 +55,7 @@ impl<S: Drop> Tree<S> {
             return;
         };
         let all = first.sums.with(second.sums);
-        if first.weight >= second.weight {
+        if first.sums.weight >= second.sums.weight {
             first.sums = all;
             first.right.append(Tree { root: Some(second) });
             return;

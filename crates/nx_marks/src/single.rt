@@ -31,15 +31,16 @@ impl<S> Model for Single<S> {
 
 /// The tree below a node, of which is told anew what its marks come to.
 pub(crate) fn summed<S: Drop>(mut node: Box<Node<S>>) -> Tree<S>
-    requires count { length (marks_at node.value) < 2 ^ 64 }
+    requires count { length (marks_at node.value) < 2 ^ 32 }
     requires reach { reach (marks_at node.value) < 2 ^ 64 }
     ensures { result ≡ marks_at node.value }
 {
     let left = node.left.sums();
     let right = node.right.sums();
     node.sums = Sums {
-        count: left.count + 1 + right.count,
         reach: left.reach + node.mark.len + right.reach,
+        count: left.count + 1 + right.count,
+        weight: node.sums.weight,
         whole: left.whole && node.mark.whole && right.whole,
         faulty: left.faulty || !node.mark.faults.is_empty() || right.faulty,
     };
@@ -48,7 +49,7 @@ pub(crate) fn summed<S: Drop>(mut node: Box<Node<S>>) -> Tree<S>
 
 impl<S: Drop> Single<S> {
     /// Puts a mark in a node.
-    pub(crate) fn new(alloc: Global, mark: Mark<S>, weight: u32) -> Result<Single<S>, NoMemory>
+    pub(crate) fn new(alloc: Global, mark: Mark<S>, weight: u16) -> Result<Single<S>, NoMemory>
         ensures { IfOk result (λ single. single ≡ mark) }
     {
         let node = Node {
@@ -56,12 +57,12 @@ impl<S: Drop> Single<S> {
             left: Tree::empty(),
             right: Tree::empty(),
             sums: Sums {
-                count: 0,
                 reach: 0,
+                count: 0,
+                weight,
                 whole: true,
                 faulty: false,
             },
-            weight,
         };
         Ok(Single {
             node: Box::new(alloc, node)?,

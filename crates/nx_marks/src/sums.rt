@@ -10,7 +10,7 @@ use crate::tree::{Sums, Tree};
 impl Sums {
     /// What these marks and more come to.
     pub(crate) fn with(self, more: Sums) -> Sums
-        requires count { self.count + more.count < 2 ^ 64 }
+        requires count { self.count + more.count < 2 ^ 32 }
         requires reach { self.reach + more.reach < 2 ^ 64 }
         ensures count { result.count ≡ self.count + more.count }
         ensures reach { result.reach ≡ self.reach + more.reach }
@@ -18,8 +18,9 @@ impl Sums {
         ensures faulty { result.faulty ≡ (self.faulty || more.faulty) }
     {
         Sums {
-            count: self.count + more.count,
             reach: self.reach + more.reach,
+            count: self.count + more.count,
+            weight: self.weight.max(more.weight),
             whole: self.whole && more.whole,
             faulty: self.faulty || more.faulty,
         }
@@ -44,8 +45,9 @@ impl<S: Drop> Tree<S> {
         match &self.root {
             Some(node) => node.sums,
             None => Sums {
-                count: 0,
                 reach: 0,
+                count: 0,
+                weight: 0,
                 whole: true,
                 faulty: false,
             },
@@ -63,7 +65,7 @@ impl<S: Drop> Tree<S> {
     pub(crate) fn count(&self) -> usize
         ensures { result ≡ length self.now }
     {
-        self.sums().count
+        self.sums().count as usize
     }
 
     /// How many bytes they reach.
@@ -116,13 +118,14 @@ impl<S: Drop> Tree<S> {
             unreachable!()
         };
         let before = node.left.sums();
-        if index < before.count {
+        let count = before.count as usize;
+        if index < count {
             return node.left.get(index);
         }
-        if index == before.count {
+        if index == count {
             return (before.reach, &node.mark);
         }
-        let (place, mark) = node.right.get(index - before.count - 1);
+        let (place, mark) = node.right.get(index - count - 1);
         (before.reach + node.mark.len + place, mark)
     }
 }

@@ -6,10 +6,12 @@ use std::marker::Model;
 /// What marks come to, so that nobody has to walk over them for it.
 #[derive(Clone, Copy)]
 pub(crate) struct Sums {
-    /// How many there are.
-    pub(crate) count: usize,
     /// How many bytes they reach.
     pub(crate) reach: usize,
+    /// How many there are, which fits in 32 bits, since no more are made.
+    pub(crate) count: u32,
+    /// The largest weight of their nodes, which is the root's.
+    pub(crate) weight: u16,
     /// Whether all are whole.
     pub(crate) whole: bool,
     /// Whether one has faults.
@@ -17,8 +19,8 @@ pub(crate) struct Sums {
 }
 
 /// Marks in their order. A node's weight is at least that of each node below it, and weights rise and fall as if drawn by lot, so a tree
-/// of n marks is about 3 log n deep (to base 2) behind edits that aren't chosen against it; no clause says so. Trees are put together
-/// and parted without memory.
+/// of n marks is about 3 log n deep (to base 2) behind edits that aren't chosen against it, and one deeper for each 65,536 marks, of
+/// which two have the same weight; no clause says so. Trees are put together and parted without memory.
 #[cycle(tree)]
 #[derive(Drop)]
 pub(crate) struct Tree<S> {
@@ -33,7 +35,6 @@ pub(crate) struct Node<S> {
     pub(crate) left: Tree<S>,
     pub(crate) right: Tree<S>,
     pub(crate) sums: Sums,
-    pub(crate) weight: u32,
 }
 
 impl<S> Model for Tree<S> {

@@ -4,16 +4,16 @@ use Rattle.nx_marks.proofs.Trees.{reach-parts, length-parts, whole-parts, faulty
 use Rattle.nx_marks.proofs.single.summed.Goals as goal
 use Rattle.nx_marks.proofs.single.summed.Goals.{then-left, else-left, then-deref, else-deref, then-left-2, else-left-2, then-not-is_empty, else-not-is_empty}
 
-pub overflow_add-left-3 : goal.overflow_add-left-3
-overflow_add-left-3 g c =
+pub overflow_add-left : goal.overflow_add-left
+overflow_add-left g c =
     let n = c.args.node.value in
     let l = rw c.deref.ensures at c.sums-left.ensures.reach in
     let p = reach-parts n.left n.mark n.right in
     let fits = c.requires.reach in
     rw c.deref-3.ensures (omega arith)
 
-pub overflow_add-left-4 : goal.overflow_add-left-4
-overflow_add-left-4 g c =
+pub overflow_add-left-2 : goal.overflow_add-left-2
+overflow_add-left-2 g c =
     let n = c.args.node.value in
     let l = rw c.deref.ensures at c.sums-left.ensures.reach in
     let r = rw c.deref-2.ensures at c.sums-right.ensures.reach in

@@ -29,10 +29,10 @@ add_faults-requires g t c κs within =
     let far : c.sums-before.result.reach ≡ reach n.left = c.sums-before.ensures.reach ∙ ap (λ n. reach n.left) c.deref-2.ensures in
     let lens = parts-length all n.left n.mark n.right at in
     let fars = parts-reach all n.left n.mark n.right at in
-    let v = c.deref-then-count-before.result.now in
-    let same = ap (λ n. length n.left) c.deref-then-count-before.ensures in
-    let reaches = ap (λ n. reach n.left) c.deref-then-count-before.ensures in
-    (omega (arith, c.decreases, lens, same), (λ a m. within a m, (fit-left c.args.count c.args.count all v.left v.mark v.right (at ∙ ap marks_at (sym c.deref-then-count-before.ensures)) (omega (arith, c.if-count-before.true)) (omega (arith, c.if-count-before.true, len, same)) c.requires.fit, (omega (arith, c.requires.fits, fars, reaches), omega (arith, c.if-count-before.true, len, same)))))
+    let v = c.deref-then-count-earlier.result.now in
+    let same = ap (λ n. length n.left) c.deref-then-count-earlier.ensures in
+    let reaches = ap (λ n. reach n.left) c.deref-then-count-earlier.ensures in
+    (omega (arith, c.decreases, lens, same), (λ a m. within a m, (fit-left c.args.count c.args.count all v.left v.mark v.right (at ∙ ap marks_at (sym c.deref-then-count-earlier.ensures)) (omega (arith, c.if-count-earlier.true)) (omega (arith, c.if-count-earlier.true, len, same)) c.requires.fit, (omega (arith, c.requires.fits, fars, reaches), omega (arith, c.if-count-earlier.true, len, same)))))
 
 pub add_faults-requires-2 : goal.add_faults-requires-2
 add_faults-requires-2 g t c κs within =
@@ -46,7 +46,7 @@ add_faults-requires-2 g t c κs within =
     let v = c.deref-3.result.now in
     let same = ap (λ n. length n.left) c.deref-3.ensures in
     let reaches = ap (λ n. reach n.left) c.deref-3.ensures in
-    (omega (arith, c.decreases, lens, same), (λ a m. within a m, (fit-left c.sums-before.result.count c.args.count all v.left v.mark v.right (at ∙ ap marks_at (sym c.deref-3.ensures)) (omega (arith, c.if-count-before.false)) (omega (arith, c.if-count-before.false, len, same)) c.requires.fit, (omega (arith, c.requires.fits, fars, reaches), omega (arith, c.if-count-before.false, len, same)))))
+    (omega (arith, c.decreases, lens, same), (λ a m. within a m, (fit-left c.sums-before.result.count c.args.count all v.left v.mark v.right (at ∙ ap marks_at (sym c.deref-3.ensures)) (omega (arith, c.if-count-earlier.false)) (omega (arith, c.if-count-earlier.false, len, same)) c.requires.fit, (omega (arith, c.requires.fits, fars, reaches), omega (arith, c.if-count-earlier.false, len, same)))))
 
 pub overflow_add-place : goal.overflow_add-place
 overflow_add-place g t c =
@@ -71,7 +71,7 @@ add_faults-requires-3 g t c =
     let v = c.deref-4.result.now in
     let same = ap (λ n. length n.left) c.deref-4.ensures in
     let one = ap (λ n. n.mark.len) c.deref-4.ensures in
-    fit-mark c.args.count (c.args.count - c.sums-before.result.count - 1) _ all v.left v.mark v.right (at ∙ ap marks_at (sym c.deref-4.ensures)) (omega (arith, c.if-count-before.false, len, same)) (omega (arith, c.requires.fits, far, fars, one)) c.requires.fit
+    fit-mark c.args.count (c.args.count - c.sums-before.result.count - 1) _ all v.left v.mark v.right (at ∙ ap marks_at (sym c.deref-4.ensures)) (omega (arith, c.if-count-earlier.false, len, same)) (omega (arith, c.requires.fits, far, fars, one)) c.requires.fit
 
 pub overflow_add-place-2 : goal.overflow_add-place-2
 overflow_add-place-2 g t c =
@@ -114,8 +114,8 @@ add_faults-requires-4 g t c κs within =
       (
         λ a m. within a m,
         (
-          (fit-parts c.args.count (c.args.count - c.sums-before.result.count - 1) all v.left v.mark v.right (at ∙ ap marks_at (sym c.deref-5.ensures)) (omega (arith, c.if-count-before.false, len, before)) c.requires.fit).1,
-          (omega (arith, c.requires.fits, far, fars, one, reaches), omega (arith, c.if-count-before.false, c.requires.count, len, lens, same)),
+          (fit-parts c.args.count (c.args.count - c.sums-before.result.count - 1) all v.left v.mark v.right (at ∙ ap marks_at (sym c.deref-5.ensures)) (omega (arith, c.if-count-earlier.false, len, before)) c.requires.fit).1,
+          (omega (arith, c.requires.fits, far, fars, one, reaches), omega (arith, c.if-count-earlier.false, c.requires.count, len, lens, same)),
         ),
       ),
     )
@@ -134,7 +134,7 @@ returns g t c =
     let mid = c.add_faults-3.new.faults in
     let q = c.args.place + c.sums-before.result.reach in
     let m = c.args.count - c.sums-before.result.count - 1 in
-    on_ok c.add_faults-4.result (λ e. listed-parts c.args.place q c.args.count m c.sums-before.result.count all n.left n.mark n.right old front mid c.add_faults-4.new.faults at (omega (arith, c.if-count-before.false, len)) len (omega (arith, far))
+    on_ok c.add_faults-4.result (λ e. listed-parts c.args.place q c.args.count m c.sums-before.result.count all n.left n.mark n.right old front mid c.add_faults-4.new.faults at (omega (arith, c.if-count-earlier.false, len)) len (omega (arith, far))
     (c.in_ok-add_faults.ensures ∙ ap (λ n. old ++ faults_in c.args.place (take c.sums-before.result.count n.left)) c.deref-3.ensures)
     (c.in_ok-add_faults-2.ensures ∙ ap (λ n. front ++ placed q n.mark.faults) c.deref-4.ensures)
     (e ∙ ap (λ v. mid ++ faults_in (q + v.mark.len) (take m c.deref-5.result.now.right)) c.deref-6.ensures ∙ ap (λ v. mid ++ faults_in (q + n.mark.len) (take m v.right)) c.deref-5.ensures)) c.add_faults-4.ensures
