@@ -66,15 +66,12 @@ pub cut_there : {S : Type 0} (from to added : ℕ) (k d : Kept S) (place len : �
 unfolding kept_at
 cut_there {S = S} from to added k d place len o le fits h long =
     let next : ℕ = frontier_of k + k.here.len in
-    let all = reach-append k.front (k.here ∷ k.aside) in
-    let old = fits.old in
-    let small : next + reach k.aside < 2 ^ 64 = omega arith in
-    let far = h.far small in
+    let far = h.far in
     let rest = kept-rest from to added place d.aside h.there in
     let kept : kept_marks from to added next k.aside ≡ d.aside =
-    ap (kept_marks from to added next) h.aside ∙ kept-skip from to added next place h.gone d.aside le (h.between small) (sym far) ∙ rest.0 in
+    ap (kept_marks from to added next) h.aside ∙ kept-skip from to added next place h.gone d.aside le h.between (sym far) ∙ rest.0 in
     let first : first_kept from to next k.aside ≡ place =
-    ap (first_kept from to next) h.aside ∙ first-skip from to next place h.gone d.aside le (h.between small) (sym far) ∙ rest.1 in
+    ap (first_kept from to next) h.aside ∙ first-skip from to next place h.gone d.aside le h.between (sym far) ∙ rest.1 in
     let there : place_after from to added (first_kept from to next k.aside) - frontier_of k ≡ len =
     ap (λ n. place_after from to added n - frontier_of k) first ∙ ap (λ n. n - frontier_of k) (moved-behind from to added place (omega arith)) ∙ sym long in
     sym (cut_is from to added k le
@@ -96,7 +93,7 @@ cut_fits from to added k d place fits h =
         let new = fits.new in
         let gone = reach-append h.gone d.aside in
         let aside = ap reach h.aside in
-        let far = h.far (omega arith) in
+        let far = h.far in
         let n = ap reach none in
         omega arith
     by (inr lt) =
@@ -105,7 +102,7 @@ cut_fits from to added k d place fits h =
         let new = fits.new in
         let gone = reach-append h.gone d.aside in
         let aside = ap reach h.aside in
-        let far = h.far (omega arith) in
+        let far = h.far in
         omega arith
 
 -- nothing lies behind

@@ -6,7 +6,7 @@ use Rattle.nx_marks.specs.Chain.{AreWhole, Kept}
 use Rattle.nx_marks.specs.Editing.{split}
 use Rattle.nx_marks.specs.Taking.{let_go}
 use Rattle.nx_marks.specs.Tree.{whole_count}
-use Rattle.nx_marks.specs.Walking.{MovesOn, DropsNext, PassesNext, PassesUpTo, TakesNext, Follows, farther}
+use Rattle.nx_marks.specs.Walking.{MovesOn, PassesNext, PassesUpTo, TakesNext, Follows, farther}
 use Rattle.nx_marks.specs.declared.mark.Mark.{Mark}
 use Rattle.nx_marks.proofs.Splits.{split-on, split-off}
 use Rattle.nx_marks.proofs.Trees.{fits-up-to, goes-beyond, is-empty}
@@ -129,10 +129,9 @@ followed_none {S = S} k e = at_end k.aside
     at_end [] = ap (λ f. kept_of f k.here k.marked []) (sym (append-nil k.front))
     at_end (y ∷ ys) = ap (λ f. kept_of f k.here k.marked (y ∷ ys)) (sym (append-nil k.front)) ∙ ap (λ (row : Kept S). kept_of (k.front ++ row.front) row.here k.marked row.aside) (sym (split-off k.marked k.here y ys e))
 
-pub passed_next : {S : Type 0} (k d : Kept S) (len : ℕ) → DropsNext k d len → PassesNext k (record { front = d.front; here = farther d.here len; marked = d.marked; aside = d.aside })
-passed_next {S = S} k d len s =
-    let P : Kept S → Type 0 = λ i. PassesNext k (record { front = i.front; here = farther i.here len; marked = i.marked; aside = i.aside }) in
-    subst P (sym s.is) (record { mark = s.mark; behind = s.behind; are = s.are; is = ap (λ n. kept_of k.front (farther k.here n) k.marked s.behind) s.long })
+pub passed_next : {S : Type 0} (front : List (Mark S)) (here mark : Mark S) (marked : Bool) (aside fewer : List (Mark S)) (len : ℕ) → aside ≡ mark ∷ fewer → len ≡ mark.len →
+    PassesNext (record { front = front; here = here; marked = marked; aside = aside }) (record { front = front; here = farther here len; marked = marked; aside = fewer })
+passed_next front here mark marked aside fewer len e long = record { mark = mark; behind = fewer; are = e; is = ap (λ n. kept_of front (farther here n) marked fewer) long }
 
 pub taken_next : {S : Type 0} (front : List (Mark S)) (here here' mark : Mark S) (marked : Bool) (aside fewer : List (Mark S)) → aside ≡ mark ∷ fewer → here' ≡ mark →
     TakesNext (record { front = front; here = here; marked = marked; aside = aside }) (record { front = front; here = here'; marked = marked; aside = fewer })

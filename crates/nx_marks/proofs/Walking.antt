@@ -5,17 +5,13 @@ use Rattle.std.proofs.lemmas.List.{length-append, append-nil}
 use Rattle.std.proofs.lemmas.Bool.Decides.{nat_tests}
 use Rattle.nx_marks.specs.Chain.{Kept, all_of, frontier_of, reach}
 use Rattle.nx_marks.specs.Tree.{count_up_to}
-use Rattle.nx_marks.specs.Walking.{Moved, MovesBack, MovesOn, DropsNext, DropsBetween, GoesBack, GoesOn, ComesBack, AreUpTo}
+use Rattle.nx_marks.specs.Walking.{Moved, MovesBack, MovesOn, DropsBetween, GoesBack, GoesOn, ComesBack, AreUpTo}
 use Rattle.nx_marks.specs.declared.mark.Mark.{Mark}
 use Rattle.nx_marks.proofs.Backs.{reach-append}
 use Rattle.nx_marks.proofs.Trees.{count-most, is-empty, is-up-to}
 
 kept_at : {S : Type 0} → List (Mark S) → Mark S → Bool → List (Mark S) → Kept S
 kept_at front here marked aside = record { front = front; here = here; marked = marked; aside = aside }
-
-pub dropped_next : {S : Type 0} (front : List (Mark S)) (here mark : Mark S) (marked : Bool) (aside fewer : List (Mark S)) → aside ≡ mark ∷ fewer →
-    DropsNext (record { front = front; here = here; marked = marked; aside = aside }) (record { front = front; here = here; marked = marked; aside = fewer }) mark.len
-dropped_next front here mark marked aside fewer e = record { mark = mark; behind = fewer; are = e; is = refl; long = refl }
 
 -- ---- several steps
 
@@ -196,8 +192,8 @@ dropped_between {S = S} next to n place old new gone le list f h m long within o
   front = f;
   here = h;
   marked = m;
-  far = λ _. far;
-  between = λ _. (let C : List (Mark S) → Type 0 = λ l. length gone ≤ count_up_to (to - next) l + 1 in up_to_counted to next gone new.aside le (subst C list (omega (arith, within.0))));
+  far = far;
+  between = (let C : List (Mark S) → Type 0 = λ l. length gone ≤ count_up_to (to - next) l + 1 in up_to_counted to next gone new.aside le (subst C list (omega (arith, within.0))));
   there = by or;
 }
   where
@@ -209,7 +205,7 @@ dropped_between {S = S} next to n place old new gone le list f h m long within o
         inr (omega arith)
 
 pub none_between : {S : Type 0} (next to : ℕ) (k : Kept S) → to < next → DropsBetween next to k k next
-none_between next to k lt = record { gone = []; aside = refl; front = refl; here = refl; marked = refl; far = λ _. omega arith; between = λ _. tt; there = inr lt }
+none_between next to k lt = record { gone = []; aside = refl; front = refl; here = refl; marked = refl; far = omega arith; between = tt; there = inr lt }
 
 -- all items of a list are cut out of it
 pub cut_everything : {X : Type 0} (xs : List X) (n : ℕ) → n ≡ length xs → take 0 xs ++ drop n xs ≡ []

@@ -29,14 +29,6 @@ abbrev pub AreUpTo : {S : Type 0} → ℕ → ℕ → List (Mark S) → Type 0
 AreUpTo to p [] = Unit {0}
 AreUpTo to p (x ∷ xs) = (p ≤ to) × AreUpTo to (p + x.len) xs
 
--- the first mark aside goes
-pub record DropsNext {S : Type 0} (old new : Kept S) (len : ℕ) : Type 0 where
-  pub mark : Mark S
-  pub behind : List (Mark S)
-  pub are : old.aside ≡ mark ∷ behind
-  pub is : new ≡ record { front = old.front; here = old.here; marked = old.marked; aside = behind }
-  pub long : len ≡ mark.len
-
 -- the first mark aside goes, and the next one is that much farther from the frontier
 pub record PassesNext {S : Type 0} (old new : Kept S) : Type 0 where
   pub mark : Mark S
@@ -62,16 +54,15 @@ Follows old new =
     let row = split old.marked old.here old.aside in
     new ≡ record { front = old.front ++ row.front; here = row.here; marked = old.marked; aside = row.aside }
 
--- the marks aside up to a place go; the first of them lies at `next`, and the first that stays at `place`, unless all
--- went; where places are too large for the machine nothing is said of it
+-- the marks aside up to a place go; the first of them lies at `next`, and the first that stays at `place`, unless all went
 pub record DropsBetween {S : Type 0} (next to : ℕ) (old new : Kept S) (place : ℕ) : Type 0 where
   pub gone : List (Mark S)
   pub aside : old.aside ≡ gone ++ new.aside
   pub front : new.front ≡ old.front
   pub here : new.here ≡ old.here
   pub marked : new.marked ≡ old.marked
-  pub far : next + reach old.aside < 2 ^ 64 → place ≡ next + reach gone
-  pub between : next + reach old.aside < 2 ^ 64 → AreUpTo to next gone
+  pub far : place ≡ next + reach gone
+  pub between : AreUpTo to next gone
   pub there : (new.aside ≡ []) ⊎ (to < place)
 
 -- back to the last mark before a place, or to the start. `passed` are the marks that were passed

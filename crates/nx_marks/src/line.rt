@@ -574,7 +574,6 @@ pub(crate) fn begin_here<A: Machine>(
     ensures gap { line.new.here.len ≡ line.old.here.len }
     ensures keeps { KeepsMarks (A.means machine.now) (A.rules machine.now) text.now line.old line.new }
 {
-    let _len = text.len();
     if !line.marked {
         return Ok(());
     }
@@ -604,6 +603,7 @@ pub(crate) fn step<A: Machine>(
     ensures off { OnErr result (frontier_of line.new ≡ frontier_of line.old) }
     ensures keeps { KeepsMarks (A.means machine.old) (A.rules machine.old) text.now line.old line.new }
 {
+    // A text whose length is read is known to be in UTF-8.
     let _len = text.len();
     let tags = lengthen_last(alloc, machine, &mut line.here.state, token, &mut line.front)?;
     line.here.len -= token.bytes.len();

@@ -62,6 +62,7 @@ fn take_here<A: Machine>(
     ensures off { OnErr result (frontier_of line.new ≡ frontier_of line.old) }
     ensures keeps { KeepsMarks (A.means machine.old) (A.rules machine.old) text.now line.old line.new }
 {
+    // A text whose length is read is known to be in UTF-8.
     let _len = text.len();
     begin_here(alloc, machine, text, line)?;
     let count = token.bytes.len();
@@ -164,6 +165,7 @@ impl<A: Machine> Marks<A> {
         ensures taken { self.new.taken ≡ self.old.taken }
         ensures step { steps.new ≡ steps.old + 1 }
     {
+        // A text whose length is read is known to be in UTF-8.
         let _len = text.len();
         let at = self.kept.frontier();
         scan_token_into(text, at, &mut self.token, steps)?;
