@@ -1,6 +1,6 @@
 -- How far the frontier moves.
 use Rattle.std.proofs.Common.{◌≡◌, ◌⊎◌, inl, inr, ℕ, ◌+◌, ◌-◌, ◌^◌, ◌<◌, ◌≤◌, true, List, [], ◌∷◌, ◌++◌, length, refl, sym, ap, subst, ◌∙◌, arith}
-use Rattle.std.specs.Prelude.{IsUtf8, OnOk, Result, Ok, Err}
+use Rattle.std.specs.Prelude.{IsUtf8, OnOk, OnErr, Result, Ok, Err}
 use Rattle.nx_base.specs.Rules.{Rules, RulesLaws, Lexeme, lexeme_of}
 use Rattle.nx_base.specs.Running.{CutsTo, after_all}
 use Rattle.nx_base.specs.Text.{IsPlace, edited}
@@ -243,6 +243,10 @@ fits_text is_state means r t added from to k utf8 added_utf8 f u o h small new =
 pub on_ok : {A E : Type 0} (P Q : Type 0) (o : Result A E) → (P → Q) → OnOk o P → OnOk o Q
 on_ok P Q (Ok x) f p = f p
 on_ok P Q (Err e) f p = tt
+
+pub on_err : {A E : Type 0} (P : Type 0) (o : Result A E) → P → OnErr o P
+on_err P (Ok x) p = tt
+on_err P (Err e) p = p
 
 -- before the text's end some token is left
 pub still_some : (n len at : ℕ) → at < len → (0 < n) ⊎ (len ≤ at) → 0 < n

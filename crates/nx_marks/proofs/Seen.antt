@@ -195,3 +195,8 @@ seen-longer {S = S} k some = by k.aside some
 pub nothing-joined : {S : Type 0} (joined : Bool) (k : Kept S) → joined ≡ true → (seen joined k).aside ≡ []
 nothing-joined true k e = refl
 nothing-joined false k e = absurd (cc)
+
+-- where the next mark isn't at the frontier, or none is left, that is so of what is seen
+pub seen-settled : {S : Type 0} (joined : Bool) (k : Kept S) → (0 < k.here.len) ⊎ (k.aside ≡ []) → (0 < (seen joined k).here.len) ⊎ ((seen joined k).aside ≡ [])
+seen-settled true k h = inr refl
+seen-settled false k h = h

@@ -145,7 +145,7 @@ impl<S: Drop> Line<S> {
         ensures there { IsTrue result → (self.now.here.len ≡ 0) × (0 < length self.now.aside) }
         ensures not { result ≡ false → (0 < self.now.here.len) ⊎ (self.now.aside ≡ []) }
     {
-        self.here.len == 0 && !self.aside.is_empty()
+        !self.aside.is_empty() && self.here.len == 0
     }
 
     /// Goes back to the last mark before a place, or to the start.

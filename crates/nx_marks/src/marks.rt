@@ -70,28 +70,33 @@ fn take_here<A: Machine>(
     step(alloc, machine, text, line, token)
 }
 
-/// Takes the token at the frontier. Marks aside that it passes are dropped.
-fn take<A: Machine>(
+/// Takes the token at the frontier, where the line is parted from here on. Marks aside that it passes are dropped.
+fn take<A: Machine, L: Ledger>(
     alloc: Global,
     machine: &mut A,
     text: &Text,
     kept: &mut Kept<A::State>,
     token: &mut Token,
+    steps: &mut Steps<L>,
 ) -> Result<(), NoMemory>
     requires right { IsRight (A.is_state machine.old) (A.means machine.old) (A.rules machine.old) text.now kept.old }
     requires rest { frontier_of kept.old < length text.now }
-    requires token { token.old ≡ cut text.now (frontier_of kept.old) }
     requires settled { (0 < kept.old.here.len) ⊎ (kept.old.aside ≡ []) }
     ensures later { A.later machine.old machine.new }
     ensures right { IsRight (A.is_state machine.new) (A.means machine.new) (A.rules machine.new) text.now kept.new }
-    ensures on { OnOk result (frontier_of kept.new ≡ frontier_of kept.old + length token.old.bytes) }
+    ensures on { OnOk result (MovesOver text.now (frontier_of kept.old) 1 (frontier_of kept.new)) }
     ensures near { OnOk result ((n end : ℕ) → WillReach (A.means machine.old) (A.rules machine.old) text.now n end kept.old
         → 0 < kept.old.here.len → (0 < n) × WillReach (A.means machine.new) (A.rules machine.new) text.now (n - 1) end kept.new) }
     ensures off { OnErr result (frontier_of kept.new ≡ frontier_of kept.old) }
     ensures keeps { KeepsMarks (A.means machine.old) (A.rules machine.old) text.now kept.old kept.new }
+    ensures step { steps.new ≡ steps.old + 1 }
 {
+    // A text whose length is read is known to be in UTF-8.
+    let _len = text.len();
     kept.line.arrive(kept.joined);
     kept.joined = false;
+    let at = kept.line.frontier(false);
+    scan_token_into(text, at, token, steps)?;
     take_here(alloc, machine, text, &mut kept.line, token)
 }
 
@@ -167,9 +172,14 @@ impl<A: Machine> Marks<A> {
     {
         // A text whose length is read is known to be in UTF-8.
         let _len = text.len();
-        let at = self.kept.frontier();
-        scan_token_into(text, at, &mut self.token, steps)?;
-        take(self.alloc, machine, text, &mut self.kept, &mut self.token)?;
+        take(
+            self.alloc,
+            machine,
+            text,
+            &mut self.kept,
+            &mut self.token,
+            steps,
+        )?;
         rejoin(machine, &mut self.kept);
         Ok(())
     }

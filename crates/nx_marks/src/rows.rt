@@ -77,7 +77,7 @@ pub(crate) fn rejoin<A: Machine>(machine: &A, kept: &mut Kept<A::State>)
     requires { IsRightForSome (A.is_state machine.now) (A.means machine.now) (A.rules machine.now) kept.old }
     ensures { Rejoins (A.is_state machine.now) (A.means machine.now) (A.rules machine.now) kept.old kept.new }
 {
-    while !kept.joined && kept.line.is_at_next() {
+    while kept.line.is_at_next() && !kept.joined {
         kept.joined = rejoin_one(machine, &mut kept.line);
     }
 }

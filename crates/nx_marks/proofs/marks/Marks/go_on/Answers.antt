@@ -1,33 +1,18 @@
-use Rattle.std.proofs.Common.{◌≡◌, ℕ, ap, subst, sym, ◌∙◌}
-use Rattle.nx_base.specs.Text.{IsPlace}
-use Rattle.nx_base.specs.Tokens.{cut}
 use Rattle.nx_marks.specs.Chain.{frontier_of}
-use Rattle.nx_marks.proofs.Moving.{one_token, moves_on, over_between, over_reaches, near_on}
-use Rattle.nx_marks.proofs.Keeping.{keeps_all, keeps_later}
-use Rattle.nx_marks.proofs.Reading.{frontier_place}
+use Rattle.nx_marks.proofs.Moving.{moves_on, over_between, over_reaches, near_on}
+use Rattle.nx_marks.proofs.Keeping.{keeps_later}
 use Rattle.nx_marks.proofs.marks.Marks.go_on.Goals as goal
-
-pub scan_token_into-requires-clause-place : goal.scan_token_into-requires-clause-place
-scan_token_into-requires-clause-place g c =
-    let m = g.A.Machine in
-    let a = c.args.machine.now in
-    let P : ℕ → Type 0 = λ n. IsPlace c.args.text.now n in
-    subst P (sym c.frontier-at.ensures) (frontier_place (m.is_state a) (m.means a) (m.rules a) c.args.text.now (g.met.A.Machine.rule_laws a) c.len-len.ensures.utf8 c.args.self.now.kept c.requires.right)
 
 pub returns-clause-on : goal.returns-clause-on
 returns-clause-on g c =
     let m = g.A.Machine in
-    let a = c.args.machine.now in
     let b = c.take.new.machine in
     let t = c.args.text.now in
     let k = c.args.self.now.kept in
     let i = c.take.new.kept in
     let utf8 = c.len-len.ensures.utf8 in
-    let place = frontier_place (m.is_state a) (m.means a) (m.rules a) t (g.met.A.Machine.rule_laws a) utf8 k c.requires.right in
-    let is : c.scan_token_into.new.token ≡ cut t (frontier_of k) = c.in_ok-scan_token_into.ensures.token ∙ ap (cut t) c.frontier-at.ensures in
-    let one = one_token t (frontier_of k) (frontier_of i) c.scan_token_into.new.token place c.requires.rest is c.in_ok-take.ensures.on in
     let zero = over_between (m.is_state b) (m.means b) (m.rules b) (g.met.A.Machine.rule_laws b) t utf8 i c.rejoin.new.kept c.take.ensures.right (c.rejoin.ensures.right t utf8 c.take.ensures.right) c.rejoin.ensures.further in
-    moves_on t (frontier_of k) 1 (frontier_of i) 0 (frontier_of c.rejoin.new.kept) one zero
+    moves_on t (frontier_of k) 1 (frontier_of i) 0 (frontier_of c.rejoin.new.kept) c.in_ok-take.ensures.on zero
 
 pub returns-clause-near : goal.returns-clause-near
 returns-clause-near g c = λ n end w.
@@ -42,6 +27,3 @@ returns-clause-keeps g c =
     let m = g.A.Machine in
     keeps_later m.later m.is_state m.means m.rules g.met.A.Machine.laws c.args.machine.now c.take.new.machine c.args.text.now c.args.self.now.kept c.take.new.kept c.rejoin.new.kept c.take.ensures.later c.requires.right c.take.ensures.keeps
     (c.rejoin.ensures.keeps c.args.text.now c.len-len.ensures.utf8 c.take.ensures.right)
-
-pub returns-in_err-scan_token_into-clause-keeps : goal.returns-in_err-scan_token_into-clause-keeps
-returns-in_err-scan_token_into-clause-keeps g c = keeps_all (g.A.Machine.means c.args.machine.now) (g.A.Machine.rules c.args.machine.now) c.args.text.now c.args.self.now.kept
