@@ -42,7 +42,7 @@ pub struct Line<S> {
     /// Whether a mark stands at the frontier.
     pub(crate) marked: bool,
     pub(crate) aside: Tree<S>,
-    /// The weight of the last node that was made, in its upper half.
+    /// What was drawn for the last mark that was made, whose weight is its upper half.
     lot: u32,
 }
 

@@ -8,7 +8,7 @@ use std::marker::Model;
 pub(crate) struct Sums {
     /// How many bytes they reach.
     pub(crate) reach: usize,
-    /// How many there are, which fits in 32 bits, since no more are made.
+    /// How many there are. No more are made than 32 bits count.
     pub(crate) count: u32,
     /// The largest weight of their nodes, which is the root's.
     pub(crate) weight: u16,
@@ -19,8 +19,8 @@ pub(crate) struct Sums {
 }
 
 /// Marks in their order. A node's weight is at least that of each node below it, and weights rise and fall as if drawn by lot, so a tree
-/// of n marks is about 3 log n deep (to base 2) behind edits that aren't chosen against it, and one deeper for each 65,536 marks, of
-/// which two have the same weight; no clause says so. Trees are put together and parted without memory.
+/// of n marks is about 3 log n deep (to base 2) behind edits that aren't chosen against it. There are 65,536 weights, and marks of one
+/// weight lie one below another, which adds n / 65,536 to that. No clause says so. Trees are put together and parted without memory.
 #[cycle(tree)]
 #[derive(Drop)]
 pub(crate) struct Tree<S> {
