@@ -7,7 +7,9 @@ ghost use Rattle.nx_events.specs.Among.{fault_in, faults_among};
 ghost use Rattle.nx_events.specs.BareRules.{bare_rules};
 ghost use Rattle.nx_events.specs.Runs.{run_back};
 
+use crate::faultless::is_faultless;
 use crate::item::{Item, Items};
+use crate::reader::nothing_declared;
 use crate::state::EventState;
 use crate::{equal, reader};
 use nx_base::fault::Faults;
@@ -65,6 +67,11 @@ pub fn step_bare(
     ensures unchanged { OnErr result (state.new ≡ state.old) }
     ensures no_faults { OnErr result (faults.new ≡ faults.old) }
 {
+    // Most tokens: no event is made that nothing takes.
+    if is_faultless(state, token) {
+        reader::pass_token(alloc, state, token, &nothing_declared(alloc))?;
+        return Ok(());
+    }
     items.clear();
     let declared = reader::read(alloc, items, state, token)?;
     let len = faults.len();

@@ -36,6 +36,7 @@ pub mod bare;
 mod element;
 mod end_tag;
 pub mod equal;
+mod faultless;
 pub mod fold;
 mod inner_names;
 pub mod item;

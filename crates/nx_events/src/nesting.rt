@@ -5,8 +5,9 @@ ghost use Rattle.std.specs.List.{flat_map};
 ghost use Rattle.nx_events.specs.Items.{around_innermost, left_out};
 
 use crate::item::{Event, Item, Items};
-use crate::stack::Stack;
+use crate::stack::{Named, Stack};
 use crate::state::OpenElement;
+use nx_base::equal::same_each;
 use nx_base::fault::{Fault, Kind, Span};
 use nx_base::memory::NoMemory;
 
@@ -15,6 +16,15 @@ pub(crate) fn around_innermost(name: &[u8], elements: &Stack<OpenElement>) -> Op
     ensures value { result ≡ around_innermost name.now elements.now }
     ensures bound { IfSome result (λ n. n < length elements.now) }
 {
+    // Nearly every end tag ends the innermost element.
+    let all = elements.as_slice();
+    let len = all.len();
+    if len > 0 {
+        let innermost = &all[len - 1];
+        if same_each(innermost.name(), name) {
+            return Some(len - 1);
+        }
+    }
     elements.last_place(name)
 }
 

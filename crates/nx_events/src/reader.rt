@@ -42,8 +42,8 @@ pub struct Declared {
     pub(crate) own: Bindings,
 }
 
-// What a token declares that isn't a start tag.
-fn nothing_declared(alloc: Global) -> Declared
+/// What a token declares that isn't a start tag.
+pub(crate) fn nothing_declared(alloc: Global) -> Declared
     ensures { result.own ≡ [] }
 {
     Declared {

@@ -114,7 +114,7 @@ fn push_declaring(
     Ok(own)
 }
 
-// Adds them by the tag's form: most tags are a plain name alone.
+// Adds the items of a start tag as far as `push_open` does, by the tag's form: most tags are a plain name alone.
 fn push_by_form(
     alloc: Global,
     items: &mut Items,
