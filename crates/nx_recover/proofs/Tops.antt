@@ -9,7 +9,7 @@ use Rattle.rng_core.specs.Patterns.{Language}
 use Rattle.rng_kept.specs.Residuals.{Residual}
 use Rattle.nx_recover.specs.States.{View, IsOpen, open_form, stack, form, changed, IsChange, TurnIs, BegunIs, EndedIs}
 use Rattle.nx_recover.specs.Table.{goes_on_as, goes_on_by, opens, ended, closes, leaves}
-use Rattle.nx_recover.specs.Aside.{IsLast, IsOneLess, Pushed, Takes, front}
+use Rattle.nx_recover.specs.Aside.{IsInnermost, IsOneLess, Pushed, Takes, without_innermost}
 use Rattle.nx_recover.specs.declared.levels.Open.{Open}
 use Rattle.nx_recover.specs.declared.levels.Levels.{Levels}
 use Rattle.nx_recover.specs.declared.levels.Change.{Change}
@@ -51,7 +51,7 @@ last_kept xs n x p h e =
     let k : n ≡ suc (n - 1) = omega arith in
     ap (λ m. take m xs) k ∙ take-suc xs (n - 1) x (omega arith) ∙ ap (λ y. take (n - 1) xs ++ y ∷ []) (sym e)
 
--- ---- all but the last
+-- ---- all but the innermost, which stands last
 
 take_front : {X : Type 0} (n : ℕ) (xs : List X) (x : X) → n ≡ length xs → take n (xs ++ x ∷ []) ≡ xs
 take_front zero [] x e = refl
@@ -59,14 +59,14 @@ take_front zero (y ∷ ys) x e = absurd (omega (arith, e))
 take_front (suc n) [] x e = absurd (omega (arith, e))
 take_front (suc n) (y ∷ ys) x e = ap (λ zs. y ∷ zs) (take_front n ys x (omega (arith, e)))
 
-front_of : {X : Type 0} (es ys : List X) (x : X) → es ≡ ys ++ x ∷ [] → front es ≡ ys
-front_of es ys x e = ap front e ∙ take_front (length (ys ++ x ∷ []) - 1) ys x (omega (arith, length-append ys (x ∷ [])))
+without_innermost_is : {X : Type 0} (es ys : List X) (x : X) → es ≡ ys ++ x ∷ [] → without_innermost es ≡ ys
+without_innermost_is es ys x e = ap without_innermost e ∙ take_front (length (ys ++ x ∷ []) - 1) ys x (omega (arith, length-append ys (x ∷ [])))
 
-ends_with : {X : Type 0} (es ys : List X) (x : X) → es ≡ ys ++ x ∷ [] → es ≡ front es ++ x ∷ []
-ends_with es ys x e = e ∙ ap (λ zs. zs ++ x ∷ []) (sym (front_of es ys x e))
+ends_with : {X : Type 0} (es ys : List X) (x : X) → es ≡ ys ++ x ∷ [] → es ≡ without_innermost es ++ x ∷ []
+ends_with es ys x e = e ∙ ap (λ zs. zs ++ x ∷ []) (sym (without_innermost_is es ys x e))
 
 -- one that is aside stands last
-pub last_above : {X : Type 0} (below above : List X) (n : ℕ) (x : X) → n ≡ length above → 0 < n → x ≡ get_or above (n - 1) x → below ++ above ≡ front (below ++ above) ++ x ∷ []
+pub last_above : {X : Type 0} (below above : List X) (n : ℕ) (x : X) → n ≡ length above → 0 < n → x ≡ get_or above (n - 1) x → below ++ above ≡ without_innermost (below ++ above) ++ x ∷ []
 last_above below above n x size some at =
     let ys = take (n - 1) above in
     let e : above ≡ ys ++ x ∷ [] = sym (take_all n above (omega (arith, size))) ∙ last_kept above n x some (omega (arith, size)) at in
@@ -141,11 +141,11 @@ module _ {D S : Type 0} {later : D → D → Type 0} {is_state : D → S → Typ
       }
 
   -- the innermost element ends
-  pub leaves_last : (l : Levels S) (c d : Change S) (o : Open S) → IsChange (is_state a) l c → IsLast (changed l c).elements (Some o) → IsOneLess l c d →
+  pub leaves_last : (l : Levels S) (c d : Change S) (o : Open S) → IsChange (is_state a) l c → IsInnermost (changed l c).elements (Some o) → IsOneLess l c d →
       (t : Ended S) → EndedIs (is_state b) (means b) (ended (option_map (means a) (changed l c).here) (open_form (means a) o)) t →
       Takes (is_state b) (means b) l (record d { here = Some t.here }) (leaves (option_map (means a) (changed l c).here) (stack (means a) (changed l c).elements)) t.flaw
   leaves_last l c d o h last less t k =
-      let es : List (Open S) = front (changed l c).elements in
+      let es : List (Open S) = without_innermost (changed l c).elements in
       let H : Option (Option S) → Type 0 = λ x. IfSome (unwrap_or x l.here) (is_state a) in
       let A : List (Open S) → Type 0 = λ x. AllByRecursion (IsOpen (is_state a)) x in
       let left : IsChange (is_state a) l d = record {
@@ -169,7 +169,7 @@ leaves_none P f l c h none =
     subst T (sym e) (record { change = h; form = form_is f (changed l c) (option_map f (changed l c).here) [] refl e; flaw = refl })
 
 -- the innermost element's states are states
-pub last_is_open : {S : Type 0} (P : S → Type 0) (l : Levels S) (c : Change S) (o : Open S) → IsChange P l c → IsLast (changed l c).elements (Some o) → IsOpen P o
+pub last_is_open : {S : Type 0} (P : S → Type 0) (l : Levels S) (c : Change S) (o : Open S) → IsChange P l c → IsInnermost (changed l c).elements (Some o) → IsOpen P o
 last_is_open {S = S} P l c o h last =
     let A : List (Open S) → Type 0 = λ x. AllByRecursion (IsOpen P) x in
-    (all_back (IsOpen P) (front (changed l c).elements) (o ∷ []) (subst A last h.states.elements)).0
+    (all_back (IsOpen P) (without_innermost (changed l c).elements) (o ∷ []) (subst A last h.states.elements)).0

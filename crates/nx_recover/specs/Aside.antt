@@ -15,20 +15,20 @@ pub record Pushed {S : Type 0} (b : Begun S) (c d : Change S) (o : Option Flaw) 
   pub above : d.above.items ≡ c.above.items ++ b.element ∷ []
   pub flaw : o ≡ b.flaw
 
--- all but the last
-abbrev pub front : {X : Type 0} → List X → List X
-front xs = take (length xs - 1) xs
+-- of elements the innermost of which stands last, those around it
+abbrev pub without_innermost : {X : Type 0} → List X → List X
+without_innermost xs = take (length xs - 1) xs
 
--- what stands last
-abbrev pub IsLast : {X : Type 0} → List X → Option X → Type 0
-IsLast xs None = xs ≡ []
-IsLast xs (Some x) = xs ≡ front xs ++ x ∷ []
+-- the innermost of them, none of none
+abbrev pub IsInnermost : {X : Type 0} → List X → Option X → Type 0
+IsInnermost xs None = xs ≡ []
+IsInnermost xs (Some x) = xs ≡ without_innermost xs ++ x ∷ []
 
 -- one open element less
 pub record IsOneLess {S : Type 0} (l : Levels S) (c d : Change S) : Type 0 where
   pub here : d.here ≡ c.here
   pub kept : d.kept ≤ c.kept
-  pub elements : (changed l d).elements ≡ front (changed l c).elements
+  pub elements : (changed l d).elements ≡ without_innermost (changed l c).elements
 
 -- the change and the flaw are those of an event
 pub record Takes {S : Type 0} (P : S → Type 0) (f : S → Residual) (l : Levels S) (c : Change S) (d : Done) (o : Option Flaw) : Type 0 where

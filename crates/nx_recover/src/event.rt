@@ -4,7 +4,7 @@ ghost use Rattle.std.specs.Prelude.{◌≡◌, ◌<◌, ◌≤◌, IfOk, option_
 ghost use Rattle.nx_events.specs.Texts.{EventIsText};
 ghost use Rattle.nx_recover.specs.States.{IsChange, changed, form};
 ghost use Rattle.nx_recover.specs.Admitting.{refused_in};
-ghost use Rattle.nx_recover.specs.Aside.{IsLast, IsOneLess, Pushed, Takes};
+ghost use Rattle.nx_recover.specs.Aside.{IsInnermost, IsOneLess, Pushed, Takes};
 ghost use Rattle.nx_recover.specs.Table as t;
 
 use crate::levels::{Begun, Change, Ended, Levels, Open, Turn};
@@ -45,7 +45,7 @@ fn push<S: Drop>(change: &mut Change<S>, begun: Begun<S>) -> Result<Option<Flaw>
 // The innermost open element: one that is aside, or an old one.
 fn innermost<'a, S: Drop>(levels: &'a Levels<S>, change: &'a Change<S>) -> Option<&'a Open<S>>
     requires { change.now.kept ≤ length levels.now.elements.items }
-    ensures { IsLast (changed levels.now change.now).elements (option_copied result) }
+    ensures { IsInnermost (changed levels.now change.now).elements (option_copied result) }
 {
     let above = change.above.len();
     if above > 0 {
