@@ -7,7 +7,7 @@ use Rattle.std.specs.List.{list_all}
 abbrev pub is_plain_start : ℕ → Bool
 is_plain_start b = is_ascii_alphabetic b || b == 95
 
--- the same, a digit, `-` (45) or `.` (46)
+-- such a byte, a digit, `-` (45) or `.` (46)
 abbrev pub is_plain_further : ℕ → Bool
 is_plain_further b = is_plain_start b || (is_ascii_digit b || (b == 45 || b == 46))
 

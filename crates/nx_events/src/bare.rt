@@ -67,12 +67,12 @@ pub fn step_bare(
     ensures unchanged { OnErr result (state.new ≡ state.old) }
     ensures no_faults { OnErr result (faults.new ≡ faults.old) }
 {
-    // Most tokens: no event is made that nothing takes.
+    items.clear();
+    // Of most tokens nothing is asked but the state behind them.
     if is_faultless(state, token) {
         reader::pass_token(alloc, state, token, &nothing_declared(alloc))?;
         return Ok(());
     }
-    items.clear();
     let declared = reader::read(alloc, items, state, token)?;
     let len = faults.len();
     push_faults(faults, items.as_slice())?;

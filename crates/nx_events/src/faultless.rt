@@ -1,12 +1,12 @@
-//! Tokens that give no fault, as a look at them tells: of nearly all that give none it does. Where faults alone are asked, their
-//! events needn't be made.
+//! Tokens of which a look tells that they give no fault: tags that are a plain name alone, the end of the innermost element, and
+//! characters that stand for themselves. Most tokens are such. Where faults alone are asked, their events needn't be made.
 
 ghost use Rattle.std.specs.Prelude.{◌≡◌, [], true};
 ghost use Rattle.nx_events.specs.Among.{faults_among};
 ghost use Rattle.nx_events.specs.Items.{declared_in, end_items, items_of_token};
 ghost use Rattle.nx_events.specs.Items.{own_bindings, start_items, text_items};
 
-use crate::nesting::around_innermost;
+use crate::nesting::is_innermost;
 use crate::plain::is_plain_text;
 use crate::reading::Reading;
 use crate::stage::{is_behind, is_inside};
@@ -29,10 +29,7 @@ fn is_faultless_start(state: &EventState, token: &Token) -> bool
 fn is_faultless_end(state: &EventState, token: &Token) -> bool
     ensures { result ≡ true → faults_among (end_items state.now token.now) ≡ [] }
 {
-    match around_innermost(end_name(token.bytes.as_slice()), &state.elements) {
-        Some(n) => state.elements.len() - n == 1,
-        None => false,
-    }
+    is_innermost(end_name(token.bytes.as_slice()), &state.elements)
 }
 
 // Whether character data stands inside of an element, and each of its bytes for itself.

@@ -146,8 +146,8 @@ impl Items {
         }
     }
 
-    // Drops an item, but for the memory of a run's string. Most items hold no other, so each kind is told apart here, where that takes
-    // no call.
+    // Drops an item, but for the memory of a run's string. Most items hold no other: with a case for each kind no call is made to drop
+    // them.
     fn let_go(&mut self, item: Item)
         ensures { self.new ≡ self.old }
     {

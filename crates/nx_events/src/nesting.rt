@@ -1,6 +1,6 @@
 //! Open elements, the innermost last, and their ends (XML 1.0, 3, Element Type Match).
 
-ghost use Rattle.std.specs.Prelude.{◌≡◌, ◌++◌, ◌<◌, ◌≤◌, length, reverse, OnOk, IfSome};
+ghost use Rattle.std.specs.Prelude.{◌≡◌, ◌-◌, ◌++◌, ◌<◌, ◌≤◌, true, length, reverse, Some, OnOk, IfSome};
 ghost use Rattle.std.specs.List.{flat_map};
 ghost use Rattle.nx_events.specs.Items.{around_innermost, left_out};
 
@@ -11,19 +11,28 @@ use nx_base::equal::same_each;
 use nx_base::fault::{Fault, Kind, Span};
 use nx_base::memory::NoMemory;
 
+/// Whether the innermost element has this written name.
+pub(crate) fn is_innermost(name: &[u8], elements: &Stack<OpenElement>) -> bool
+    ensures place { result ≡ true → around_innermost name.now elements.now ≡ Some (length elements.now - 1) }
+    ensures some { result ≡ true → 0 < length elements.now }
+{
+    let all = elements.as_slice();
+    let len = all.len();
+    if len == 0 {
+        return false;
+    }
+    let innermost = &all[len - 1];
+    same_each(innermost.name(), name)
+}
+
 /// How many elements stand around the innermost one with this written name, if there is one.
 pub(crate) fn around_innermost(name: &[u8], elements: &Stack<OpenElement>) -> Option<usize>
     ensures value { result ≡ around_innermost name.now elements.now }
     ensures bound { IfSome result (λ n. n < length elements.now) }
 {
     // Nearly every end tag ends the innermost element.
-    let all = elements.as_slice();
-    let len = all.len();
-    if len > 0 {
-        let innermost = &all[len - 1];
-        if same_each(innermost.name(), name) {
-            return Some(len - 1);
-        }
+    if is_innermost(name, elements) {
+        return Some(elements.len() - 1);
     }
     elements.last_place(name)
 }

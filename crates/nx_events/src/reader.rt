@@ -42,7 +42,7 @@ pub struct Declared {
     pub(crate) own: Bindings,
 }
 
-/// What a token declares that isn't a start tag.
+/// That a token declares nothing.
 pub(crate) fn nothing_declared(alloc: Global) -> Declared
     ensures { result.own ≡ [] }
 {

@@ -515,7 +515,7 @@ impl<S: Drop> Line<S> {
         ensures ok { OnOk result (self.new ≡ begun self.old state) }
         ensures err { OnErr result (self.new ≡ self.old) }
     {
-        // Marks are counted in 32 bits. So many would take some hundred gigabytes, of text and of memory.
+        // Marks are counted in 32 bits. So many would take terabytes.
         if self.front.count() + self.aside.count() >= u32::MAX as usize - 1 {
             return Err(NoMemory);
         }

@@ -70,7 +70,7 @@ fn take_here<A: Machine>(
     step(alloc, machine, text, line, token)
 }
 
-/// Takes the token at the frontier, where the line is parted from here on. Marks aside that it passes are dropped.
+/// Takes the token at the frontier, and parts the line there. Marks aside that it passes are dropped.
 fn take<A: Machine, L: Ledger>(
     alloc: Global,
     machine: &mut A,

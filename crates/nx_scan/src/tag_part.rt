@@ -49,7 +49,8 @@ fn name_len(bytes: &[u8]) -> usize
     bytes.iter().take_while(|byte| is_in_name(**byte)).count()
 }
 
-/// The index at which a `>` closes a name that begins at another, where that stands there and all the name's characters have one byte.
+/// The index of the `>` that closes a name which begins at `from`; none where something else stands there or behind the name, or one of
+/// its characters has more than one byte.
 pub(crate) fn closed_name(bytes: &[u8], from: usize) -> Option<usize>
     ensures { IfSome result (IsClosedName bytes.now from) }
 {

@@ -1,23 +1,6 @@
-use Rattle.std.proofs.Common.{◌≡◌, List, ℕ, length, take, map, true, sym, ap, ◌∙◌, arith}
-use Rattle.std.specs.Str.{bytes_eq}
-use Rattle.std.proofs.lemmas.Grind.{common_steps}
-use Rattle.nx_events.specs.Items.{around_innermost}
-use Rattle.nx_events.specs.Places.{last_place}
-use Rattle.nx_events.specs.declared.state.OpenElement.{OpenElement}
-use Rattle.nx_events.proofs.Stacks.{innermost_is, last_of_front, same_is}
+use Rattle.std.proofs.Common.{sym, ◌∙◌}
+use Rattle.nx_events.proofs.Stacks.{innermost_is}
 use Rattle.nx_events.proofs.nesting.around_innermost.Goals as goal
-
-pub returns-then-same_each-clause-value : goal.returns-then-same_each-clause-value
-returns-then-same_each-clause-value c =
-    let all = c.as_slice-all.result.now in
-    let name = c.args.name.now in
-    let written : OpenElement → List ℕ = λ element. element.written in
-    let whole : take (length all) all ≡ all = grind (arith, common_steps) in
-    let same = sym (ap (λ (p : List ℕ). bytes_eq p name) c.name.ensures) ∙ same_is c.name.result.now name c.same_each.result c.same_each.ensures ∙ c.if-same_each.true in
-    sym (ap (around_innermost name) (sym c.as_slice-all.ensures)
-    ∙ innermost_is name all
-    ∙ ap (λ (xs : List OpenElement). last_place name (map written xs)) (sym whole)
-    ∙ last_of_front written name all (length all) c.index-all-len.result true (omega arith) (omega arith) c.index-all-len.is same)
 
 pub returns-clause-value : goal.returns-clause-value
 returns-clause-value c = c.last_place.ensures.value ∙ sym (innermost_is c.args.name.now c.args.elements.now)
