@@ -2,4 +2,12 @@
 #![tactic(auto)]
 
 #[cfg(test)]
+mod failing_writes;
+#[cfg(test)]
+mod restrictions;
+#[cfg(test)]
 mod tests;
+#[cfg(test)]
+mod told_anew;
+#[cfg(test)]
+mod viewed;

@@ -21,13 +21,13 @@ use std::test::Fail;
 const SCRIPT: &str = "file:///work/run.nxs";
 
 /// A script, what it prints and how it ends.
-struct Row {
-    script: &'static str,
-    output: &'static str,
-    status: Status,
+pub(crate) struct Row {
+    pub(crate) script: &'static str,
+    pub(crate) output: &'static str,
+    pub(crate) status: Status,
 }
 
-const ROWS: [Row; 27] = [
+pub(crate) const ROWS: [Row; 27] = [
     Row {
         script: "schema \"s1.rnc\"\ninsert 0 \"<doc id='a'><title>T</title><para>x<em>y</em></para></doc>\"\nerrors\n",
         output: "errors: 0\n",
@@ -245,7 +245,7 @@ const SECTIONS: &[u8] =
     b"start = element doc { attribute id { xsd:NCName }, element title { text }, element para { (text | element em { text })* }* }";
 
 /// Scripts that hold documents against those schemas, what they print and how they end.
-const VALIDATED: [(&str, &str, Status); 24] = [
+pub(crate) const VALIDATED: [(&str, &str, Status); 25] = [
     (
         "schema \"s1.rnc\"\nerrors\n",
         "errors: 1\n0-0 NoRoot\n",
@@ -342,6 +342,11 @@ const VALIDATED: [(&str, &str, Status); 24] = [
         Status::Done,
     ),
     (
+        "schema \"five.rnc\"\ninsert 0 \"<n> </n>\"\nerrors\n",
+        "errors: 1\n4-8 Incomplete n\n",
+        Status::Done,
+    ),
+    (
         "schema \"xy.rnc\"\ninsert 0 \"<a y='1' x='2'/>\"\nerrors\n",
         "errors: 0\n",
         Status::Done,
@@ -369,7 +374,7 @@ const VALIDATED: [(&str, &str, Status); 24] = [
 ];
 
 /// Scripts that take the caret from place to place, ask views, or make large documents; what they print and how they end.
-const WALKED: [(&str, &str, Status); 9] = [
+pub(crate) const WALKED: [(&str, &str, Status); 9] = [
     (
         "insert 0 \"<a><b/>t<c>u</c></a>\"\ngoto 3\nmove forward\nmove forward\nmove forward\nmove up\nmove backward\nmove down\nmove back-up\n",
         "caret 7\ncaret 16\nstay\ncaret 20\ncaret 0\ncaret 3\ncaret 0\n",
@@ -418,7 +423,7 @@ const WALKED: [(&str, &str, Status); 9] = [
 ];
 
 /// Scripts that ask what may stand at places, what they print and how they end.
-const COMPLETED: [(&str, &str, Status); 11] = [
+pub(crate) const COMPLETED: [(&str, &str, Status); 11] = [
     (
         "schema \"s1.rnc\"\ninsert 0 \"<doc id='a'><\"\ncomplete 13\ninsert 12 \"<title/>\"\ncomplete 21\ninsert 21 \"/\"\ncomplete 22\ncomplete 2\n",
         "offers: 1\nname title\noffers: 1\nname para\noffers: 1\nend doc\noffers: 1\nname doc\n",
@@ -495,7 +500,7 @@ fn places_are_completed(rt: HostRuntime) {
 }
 
 /// The script, and documents beside it.
-fn files_with(alloc: Global, script: &[u8]) -> Result<SureFiles, NoMemory> {
+pub(crate) fn files_with(alloc: Global, script: &[u8]) -> Result<SureFiles, NoMemory> {
     let mut files = SureFiles::new(alloc);
     files.add(SCRIPT, script)?;
     for (uri, bytes) in &DOCUMENTS {
@@ -504,7 +509,7 @@ fn files_with(alloc: Global, script: &[u8]) -> Result<SureFiles, NoMemory> {
     Ok(files)
 }
 
-fn words_of(alloc: Global, texts: &[&str]) -> Result<Vec<Bytes>, NoMemory> {
+pub(crate) fn words_of(alloc: Global, texts: &[&str]) -> Result<Vec<Bytes>, NoMemory> {
     let mut words = Vec::new(alloc);
     for text in texts {
         words.push(Bytes::from_vec(Vec::from_slice(alloc, text.as_bytes())?))?;
@@ -513,7 +518,7 @@ fn words_of(alloc: Global, texts: &[&str]) -> Result<Vec<Bytes>, NoMemory> {
 }
 
 /// A run whose count of tokens nobody asks for; none where there is no memory for the words or the views.
-fn run_words<F: Files, O: Out>(
+pub(crate) fn run_words<F: Files, O: Out>(
     alloc: Global,
     texts: &[&str],
     files: &mut F,
@@ -543,7 +548,12 @@ fn run_counting<F: Files, O: Out, L: Ledger>(
 }
 
 /// Whether a run wrote and ended as a row says.
-fn is_as_told(written: &[u8], ended: Option<Status>, output: &str, status: Status) -> bool {
+pub(crate) fn is_as_told(
+    written: &[u8],
+    ended: Option<Status>,
+    output: &str,
+    status: Status,
+) -> bool {
     written == output.as_bytes() && ended == Some(status)
 }
 
@@ -561,7 +571,13 @@ fn runs<F: Files>(
 }
 
 /// The same beside the documents, where this is the script.
-fn plays(alloc: Global, texts: &[&str], script: &[u8], output: &str, status: Status) -> bool {
+pub(crate) fn plays(
+    alloc: Global,
+    texts: &[&str],
+    script: &[u8],
+    output: &str,
+    status: Status,
+) -> bool {
     match files_with(alloc, script) {
         Ok(mut files) => runs(alloc, texts, &mut files, output, status),
         Err(NoMemory) => false,
@@ -618,7 +634,7 @@ fn carets_and_views_are_walked(rt: HostRuntime) {
 }
 
 /// Scripts that edit what was read, and how many tokens are read again: by hand, marks stand behind each sixteenth tag.
-const MARKED: [(&str, &str); 4] = [
+pub(crate) const MARKED: [(&str, &str); 4] = [
     (
         "make 7 20000\nschema \"s1.rnc\"\nerrors\ninsert 32 \"x\"\nerrors\nstats\n",
         "errors: 0\nerrors: 0\ntaken 27\n",
@@ -657,46 +673,51 @@ fn reading_goes_on_from_marks(rt: HostRuntime) {
     }
 }
 
-/// Whether a run of which a write failed wrote a front of what the row says, and stopped there.
-fn stopped(written: &[u8], ended: Option<Status>, row: &Row) -> &'static str {
-    if ended == Some(Status::Output) && row.output.as_bytes().starts_with(written) {
+/// Whether a run of which a write failed wrote a front of what is wanted, and stopped there.
+fn stopped(written: &[u8], ended: Option<Status>, output: &str, status: Status) -> &'static str {
+    if ended == Some(Status::Output) && output.as_bytes().starts_with(written) {
         "stopped"
-    } else if is_as_told(written, ended, row.output, row.status) {
+    } else if is_as_told(written, ended, output, status) {
         "as told"
     } else {
         "otherwise"
     }
 }
 
-/// What becomes of a row where the write with this number fails.
-fn played_failing(alloc: Global, row: &Row, number: u64) -> &'static str {
-    let Ok(mut files) = files_with(alloc, row.script.as_bytes()) else {
+/// What becomes of a script with these words where the write with this number fails.
+fn played_failing(
+    alloc: Global,
+    texts: &[&str],
+    script: &[u8],
+    output: &str,
+    status: Status,
+    number: u64,
+) -> &'static str {
+    let Ok(mut files) = files_with(alloc, script) else {
         return "no memory";
     };
     let Ok(mut out) = MemOut::new(alloc, &[number]) else {
         return "no memory";
     };
-    let ended = run_words(alloc, &["run.nxs"], &mut files, &mut out);
-    stopped(out.bytes(), ended, row)
+    let ended = run_words(alloc, texts, &mut files, &mut out);
+    stopped(out.bytes(), ended, output, status)
 }
 
-/// Whether a row stops at each of its writes where that fails, and at no later one.
-fn stops_at_writes(alloc: Global, row: &Row) -> bool {
+/// Whether a script stops at each of its writes where that fails, and at no later one.
+pub(crate) fn stops_at_writes(
+    alloc: Global,
+    texts: &[&str],
+    script: &[u8],
+    output: &str,
+    status: Status,
+) -> bool {
     for number in 1..20u64 {
-        let answer = played_failing(alloc, row, number);
+        let answer = played_failing(alloc, texts, script, output, status, number);
         if answer != "stopped" {
             return answer == "as told";
         }
     }
     false
-}
-
-#[test]
-fn failing_writes_stop(rt: HostRuntime) {
-    for row in &ROWS {
-        let script = row.script;
-        assert!(rt; stops_at_writes(rt.alloc(), row), "{script:?}");
-    }
 }
 
 /// The output up to the first line that refuses a command for want of memory.
@@ -799,18 +820,27 @@ fn fails_at(
     }
 }
 
-/// The third call fetches the second schema, the fourth the file that this includes. The first schema stays.
+/// Each call on files that fails, what is printed and how the run ends: the script and the first schema are fetched, then the second one
+/// and the file that this includes. A schema that is held stays.
+const INCLUDED: [(u64, &str, Status); 5] = [
+    (1, "script refused: Failed\n", Status::Script),
+    (2, "line 1 refused: Failed\nerrors: 0\n", Status::Refused),
+    (3, "line 2 refused: Failed\nerrors: 0\n", Status::Refused),
+    (4, "line 2 refused: Failed\nerrors: 0\n", Status::Refused),
+    (5, "errors: 0\n", Status::Done),
+];
+
 #[test]
 fn failing_schemas_are_told(rt: HostRuntime) {
-    for number in 3..5u64 {
+    for (number, output, status) in &INCLUDED {
         assert!(rt;
             fails_at(
                 rt.alloc(),
-                number,
+                *number,
                 &["run.nxs"],
                 INCLUDING,
-                "line 2 refused: Failed\nerrors: 0\n",
-                Status::Refused
+                *output,
+                *status
             ),
             "call {number}"
         );
@@ -823,7 +853,7 @@ const BY_RULES: [&str; 3] = ["--rules", "d/schemas.xml", "run.nxs"];
 
 /// Each call on files that fails, what is printed and how the run ends: the script, the document and the rules are fetched, a file
 /// beside the document is asked for, and the schema is fetched.
-const UNLOCATED: [(u64, &str, Status); 5] = [
+const UNLOCATED: [(u64, &str, Status); 6] = [
     (1, "script refused: Failed\n", Status::Script),
     (
         2,
@@ -833,6 +863,11 @@ const UNLOCATED: [(u64, &str, Status); 5] = [
     (3, "line 2 refused: Failed\nerrors: 0\n", Status::Refused),
     (4, "line 2 refused: Failed\nerrors: 0\n", Status::Refused),
     (5, "line 2 refused: Failed\nerrors: 0\n", Status::Refused),
+    (
+        6,
+        "schema file:///work/d/docbook.rnc\nerrors: 0\n",
+        Status::Done,
+    ),
 ];
 
 #[test]
@@ -876,6 +911,20 @@ fn rules_that_are_cut_off_are_refused(rt: HostRuntime) {
     }
 }
 
+/// One byte of the last character's two is there.
+#[test]
+fn a_script_that_is_cut_in_a_character_is_refused(rt: HostRuntime) {
+    assert!(rt;
+        plays(
+            rt.alloc(),
+            &["run.nxs"],
+            b"insert 0 \"\xC3",
+            "script refused: NotUtf8 11\n",
+            Status::Script
+        )
+    );
+}
+
 const FILING: &str = "insert 0 \"x\"\nsave \"o.xml\"\nopen \"run.nxs\"\ndelete 1 59\nprint\n";
 
 /// Whether that script writes and ends so where the call on files with this number fails.
@@ -912,7 +961,7 @@ fn failing_files_are_told(rt: HostRuntime) {
 }
 
 /// Words with options, the script, what is printed and how the run ends.
-const ASKED: [(&[&str], &str, &str, Status); 9] = [
+pub(crate) const ASKED: [(&[&str], &str, &str, Status); 9] = [
     (
         &["--schema=s1.rnc", "run.nxs"],
         "errors\n",
@@ -980,7 +1029,7 @@ fn options_are_followed(rt: HostRuntime) {
 }
 
 /// Words that name no script that can be read, and what is printed. The script that is there is no text.
-const MISNAMED: [(&[&str], &str, Status); 10] = [
+pub(crate) const MISNAMED: [(&[&str], &str, Status); 10] = [
     (&[], USAGE_LINE, Status::Words),
     (&["--help"], USAGE_LINE, Status::Words),
     (&["run.nxs", "more"], USAGE_LINE, Status::Words),
@@ -1001,13 +1050,16 @@ const MISNAMED: [(&[&str], &str, Status); 10] = [
     (&["run.nxs"], "script refused: NotUtf8 3\n", Status::Script),
 ];
 
+/// The bytes of that script.
+pub(crate) const NO_TEXT: &[u8] = b"p\xE2\x82";
+
 const USAGE_LINE: &str = "usage: nxml [--schema URI] [--rules URI] SCRIPT\n";
 
 #[test]
 fn what_is_no_script_is_refused(rt: HostRuntime) {
     for (texts, output, status) in &MISNAMED {
         assert!(rt;
-            plays(rt.alloc(), *texts, b"p\xE2\x82", *output, *status),
+            plays(rt.alloc(), *texts, NO_TEXT, *output, *status),
             "{output:?}"
         );
     }
