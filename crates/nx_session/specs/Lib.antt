@@ -4,6 +4,7 @@ pub mod Done
 pub mod Editing
 pub mod Editor
 pub mod Faults
+pub mod Held
 pub mod LargeDocuments
 pub mod Locating
 pub mod Marks

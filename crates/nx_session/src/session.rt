@@ -5,6 +5,7 @@ ghost use Rattle.nx_marks.specs.Starting.{started};
 ghost use Rattle.nx_script.specs.Commands.{HasUtf8Texts};
 ghost use Rattle.nx_script.specs.Replies.{reply_of, ReplyIsText};
 ghost use Rattle.nx_session.specs.Editor.{new_editor, files_state, world};
+ghost use Rattle.nx_session.specs.Held.{IsWellHeld};
 ghost use Rattle.nx_session.specs.Marks.{MarksAreRight, MarksStep};
 ghost use Rattle.nx_session.specs.Reading.{rules_for};
 ghost use Rattle.nx_session.specs.Step.{Step};
@@ -97,6 +98,7 @@ impl Session {
         ensures editor { IfOk result (λ session. session.editor ≡ new_editor rules) }
         ensures marks { IfOk result (λ session. session.marks ≡ started (rules_for None).first) }
         ensures right { IfOk result MarksAreRight }
+        ensures held { IfOk result IsWellHeld }
     {
         let untitled = Vec::from_slice(alloc, UNTITLED.as_bytes())?;
         let mut machine = Recover::new(None);
@@ -149,6 +151,7 @@ impl Session {
             (world self.new.editor (files_state (F.told files.new) (F.faults files.new)) (map (λ b. state b) views.new.items) steps.new) }
         ensures marks { MarksStep self.old command.now result self.new }
         ensures right { MarksAreRight self.new }
+        ensures held { IsWellHeld self.new }
         ensures text { ViewsAreText (map (λ b. state b) views.old.items) → ReplyIsText result }
         ensures views { ViewsAreText (map (λ b. state b) views.old.items) → ViewsAreText (map (λ b. state b) views.new.items) }
     {
@@ -160,9 +163,10 @@ impl Session {
         }
     }
 
-    /// Between two commands the marks are right.
+    /// Between two commands the marks are right, the caret stands at a place, and the schema is live and sound.
     fn reads_right(&self)
-        ensures { MarksAreRight self.now }
+        ensures right { MarksAreRight self.now }
+        ensures held { IsWellHeld self.now }
     {
         meanings_are_right::<Recover<Pool>>();
         let _len = self.text.len();
