@@ -44,4 +44,4 @@ pub mod QualifiedNames
 pub mod OpenItems
 pub mod TagPlaces
 pub mod Prefixes
-pub mod FaultlessTokens
+pub mod PlainTokens

@@ -142,12 +142,8 @@ plain_resolved scope uri written h e =
     ∙ ap (λ (l : List ℕ). declared_or_flaw (named_by (element_uri scope []) l) written) (sym t.2)
     ∙ ap (λ o. declared_or_flaw (named_by o written) written) (sym e))
 
-pub plain_resolved_as : (scope : List Binding) (uri written ns local : List ℕ) → is_plain_name written ≡ true → Some uri ≡ element_uri scope [] →
-    ns ≡ uri → local ≡ written → Named (record { ns = ns; local = local }) ≡ element_resolved false scope written
-plain_resolved_as scope uri written ns local h e n l =
-    ap (λ (x : List ℕ). Named (record { ns = x; local = local })) n
-    ∙ ap (λ (x : List ℕ). Named (record { ns = uri; local = x })) l
-    ∙ plain_resolved scope uri written h e
+pub plain_name_is : (bytes name : List ℕ) → IsPlainTag bytes name → start_name bytes ≡ name
+plain_name_is bytes name h = ap start_name (written_as bytes name h) ∙ named name h.plain
 
 -- all that it gives
 pub plain_open : (before new : List Item) (state : EventState) (token : Token) (written : List ℕ) (name : Name) → IsPlainTag token.bytes written →
@@ -160,7 +156,7 @@ plain_open before new state token written name h behind resolved n =
     ap (prefix_len is_plain) bytes
     ∙ one_more (is_plain (byte "<")) (prefix_len is_plain (written ++ byte ">" ∷ [])) (length (written ++ byte ">" ∷ [])) refl (all_plain written stay)
     ∙ sym (ap length bytes) in
-    let start : start_name token.bytes ≡ written = ap start_name bytes ∙ named written h.plain in
+    let start = plain_name_is token.bytes written h in
     let element : Named name ≡ element_resolved (is_behind state) (state.scope ++ []) (start_name token.bytes) =
     resolved
     ∙ ap (λ t. element_resolved t state.scope written) (sym behind)

@@ -204,15 +204,19 @@ abbrev pub outer_of_first : List OpenElement → ℕ
 outer_of_first [] = 0
 outer_of_first (element ∷ inner) = element.outer
 
--- the state behind an end tag for the element behind n others
-abbrev pub closed : EventState → Token → Option ℕ → EventState
-closed state token None = passed state token
-closed state token (Some n) = record state {
+-- the state behind the end of the element behind n others
+abbrev pub element_ended : EventState → ℕ → EventState
+element_ended state n = record state {
   elements = take n state.elements;
   scope = take (outer_of_first (drop n state.elements)) state.scope;
   came = true;
   run = None;
 }
+
+-- the state behind an end tag for the element behind n others
+abbrev pub closed : EventState → Token → Option ℕ → EventState
+closed state token None = passed state token
+closed state token (Some n) = element_ended state n
 
 -- the state behind a token
 abbrev pub state_by_kind : TokenKind → EventState → Token → EventState

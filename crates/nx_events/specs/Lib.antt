@@ -42,6 +42,7 @@ pub mod Moves
 pub mod Plain
 pub mod PlainNames
 pub mod PlainTags
+pub mod PlainTokens
 pub mod SeenNames
 pub mod Places
 pub mod TagPlaces

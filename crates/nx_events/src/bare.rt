@@ -7,9 +7,8 @@ ghost use Rattle.nx_events.specs.Among.{fault_in, faults_among};
 ghost use Rattle.nx_events.specs.BareRules.{bare_rules};
 ghost use Rattle.nx_events.specs.Runs.{run_back};
 
-use crate::faultless::is_faultless;
 use crate::item::{Item, Items};
-use crate::reader::nothing_declared;
+use crate::plain_token::pass_plain;
 use crate::state::EventState;
 use crate::{equal, reader};
 use nx_base::fault::Faults;
@@ -51,7 +50,7 @@ pub fn push_faults(faults: &mut Faults, items: &[Item]) -> Result<(), NoMemory>
 }
 
 /// Takes one more token, as the machine does. The list of items is memory that whoever takes many tokens keeps: what it holds before is
-/// dropped.
+/// dropped when a token is next read into it.
 pub fn step_bare(
     alloc: Global,
     items: &mut Items,
@@ -67,12 +66,11 @@ pub fn step_bare(
     ensures unchanged { OnErr result (state.new ≡ state.old) }
     ensures no_faults { OnErr result (faults.new ≡ faults.old) }
 {
-    items.clear();
     // Of most tokens nothing is asked but the state behind them.
-    if is_faultless(state, token) {
-        reader::pass_token(alloc, state, token, &nothing_declared(alloc))?;
+    if pass_plain(state, token)? {
         return Ok(());
     }
+    items.clear();
     let declared = reader::read(alloc, items, state, token)?;
     let len = faults.len();
     push_faults(faults, items.as_slice())?;

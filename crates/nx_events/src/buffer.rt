@@ -4,7 +4,7 @@ ghost use Rattle.std.specs.Prelude.{◌≡◌, ◌==◌, ◌++◌, [], length, I
 ghost use Rattle.nx_events.specs.Strings.{string_of};
 
 use crate::piece::{push_string, string_of};
-use crate::plain::is_plain_text;
+use crate::plain::are_plain;
 use crate::reading::Reading;
 use crate::tag::copy_of;
 use nx_base::equal::Equal;
@@ -79,7 +79,7 @@ impl Buffer {
         ensures { OnOk result (self.new ≡ string_of reading text.now) }
     {
         // Most texts are one run of plain bytes.
-        if is_plain_text(reading, text) {
+        if are_plain(reading, text) {
             self.fill(text)?;
             return Ok(());
         }

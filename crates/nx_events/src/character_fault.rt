@@ -7,7 +7,7 @@ ghost use Rattle.nx_events.specs.CharacterFaults.{told_behind, new_faults, chara
 
 use crate::item::{Item, Items};
 use crate::piece::front_piece;
-use crate::plain::{is_plain_text, plain_len};
+use crate::plain::{are_plain, plain_len};
 use crate::reading::Reading;
 use crate::reference::referenced;
 use crate::utf8::{front_char, is_char};
@@ -197,7 +197,7 @@ pub(crate) fn push_character_faults(
     requires { at + length bytes.now < 2 ^ 64 }
     ensures { OnOk result (items.new ≡ items.old ++ faults_as_items (character_faults reading at bytes.now)) }
 {
-    if is_plain_text(reading, bytes) {
+    if are_plain(reading, bytes) {
         return Ok(());
     }
     push_faults_one_by_one(alloc, items, reading, at, bytes)?;

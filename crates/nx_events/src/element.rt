@@ -1,6 +1,6 @@
 //! The element of a tag, and its attributes (Namespaces in XML 1.0, sections 5 and 6).
 
-ghost use Rattle.std.specs.Prelude.{◌≡◌, ◌++◌, [], ◌∷◌, true, false, List, Some, option_copied, IfOk, OnOk};
+ghost use Rattle.std.specs.Prelude.{◌≡◌, ◌++◌, [], ◌∷◌, List, Some, option_copied, IfOk, OnOk};
 ghost use Rattle.nx_events.specs.Faults.{faults_as_items};
 ghost use Rattle.nx_base.specs.declared.name.Name.{Name};
 ghost use Rattle.nx_events.specs.Elements.{flawed_as, declared_or_flaw, element_resolved, element_items, new_or_flaw, attribute_declared};
@@ -8,8 +8,7 @@ ghost use Rattle.nx_events.specs.Elements.{declared_if_attribute, attribute_item
 ghost use Rattle.nx_events.specs.OpenItems.{kept_names, name_resolved, new_name};
 ghost use Rattle.nx_events.specs.Scopes.{named_by};
 ghost use Rattle.nx_events.specs.SeenNames.{AreKept, new_of};
-ghost use Rattle.nx_events.specs.PlainNames.{is_plain_name};
-ghost use Rattle.nx_events.specs.declared.flaw.Resolved.TheVariants.{Named};
+ghost use Rattle.nx_events.specs.PlainTokens.{unprefixed_name};
 
 use crate::flaw::{Flaw, Resolved};
 use crate::item::{Event, Item, Items};
@@ -56,15 +55,14 @@ fn declared_or_flaw(
     }
 }
 
-/// The name of an element that is written as a plain name, so without a prefix. It is put in this memory.
-pub(crate) fn plain_element_name(
+/// The name of an element that is written without a prefix. It is put in this memory.
+pub(crate) fn unprefixed_name(
     alloc: Global,
     memory: Vec<u8>,
     scope: &Bindings,
     written: &[u8],
 ) -> Result<Name, NoMemory>
-    requires { is_plain_name written.now ≡ true }
-    ensures { IfOk result (λ name. Named name ≡ element_resolved false scope.now written.now) }
+    ensures { IfOk result (λ name. name ≡ unprefixed_name scope.now written.now) }
 {
     Ok(Name {
         ns: copy_of(alloc, default_uri(scope))?,

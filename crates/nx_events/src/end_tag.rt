@@ -3,7 +3,7 @@
 ghost use Rattle.std.specs.Prelude.{◌≡◌, ◌+◌, ◌<◌, ◌≤◌, ◌^◌, ◌++◌, length, take, Some, OnOk, OnErr};
 ghost use Rattle.nx_events.specs.Tags.{end_name};
 ghost use Rattle.nx_events.specs.Runs.{run_back};
-ghost use Rattle.nx_events.specs.Items.{extra_end_items, closing_items, end_items, around_innermost, closed, outer_of_first};
+ghost use Rattle.nx_events.specs.Items.{extra_end_items, closing_items, end_items, around_innermost, closed, element_ended, outer_of_first};
 
 use crate::flaw::Flaw;
 use crate::item::{Event, Item, Items};
@@ -62,10 +62,10 @@ fn outer_of_first(elements: &[OpenElement]) -> usize
     }
 }
 
-// The state behind the end of the element behind n others.
-fn close(state: &mut EventState, token: &Token, n: usize)
+/// The state behind the end of the element behind n others, whichever token ends it.
+pub(crate) fn close(state: &mut EventState, n: usize)
     requires { n < length state.old.elements }
-    ensures { state.new ≡ closed state.old token.now (Some n) }
+    ensures { state.new ≡ element_ended state.old n }
 {
     let outer = outer_of_first(&state.elements.as_slice()[n..]);
     state.elements.shorten(n);
@@ -102,6 +102,6 @@ pub(crate) fn end(state: &mut EventState, token: &Token)
     let name = end_name(token.bytes.as_slice());
     match around_innermost(name, &state.elements) {
         None => pass(state, token),
-        Some(n) => close(state, token, n),
+        Some(n) => close(state, n),
     }
 }

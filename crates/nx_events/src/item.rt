@@ -153,7 +153,7 @@ impl Items {
     {
         match item {
             Item::Event(event, _) => match event {
-                Event::Chars(string) => self.string = string.into_vec(),
+                Event::Chars(string) => self.keep_string(string),
                 Event::Enter(name) => drop(name),
                 Event::Att(name, value) => {
                     drop(name);
@@ -199,6 +199,13 @@ impl Items {
             // Where it can't be kept it is let go.
             let _ = self.names.push(name.local.into_vec());
         }
+    }
+
+    /// Keeps the memory of a run's string that is over.
+    pub fn keep_string(&mut self, string: Bytes)
+        ensures { self.new ≡ self.old }
+    {
+        self.string = string.into_vec();
     }
 
     /// Memory for a name.

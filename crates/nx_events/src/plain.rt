@@ -41,7 +41,7 @@ pub(crate) fn plain_len(reading: Reading, bytes: &[u8]) -> usize
 }
 
 /// Whether all bytes stand for themselves in this reading. Of nearly all tokens they do.
-pub(crate) fn is_plain_text(reading: Reading, bytes: &[u8]) -> bool
+pub(crate) fn are_plain(reading: Reading, bytes: &[u8]) -> bool
     ensures { result ≡ true → prefix_len (is_plain_in reading) bytes.now ≡ length bytes.now }
 {
     plain_len(reading, bytes) == bytes.len()

@@ -42,8 +42,8 @@ pub struct Declared {
     pub(crate) own: Bindings,
 }
 
-/// That a token declares nothing.
-pub(crate) fn nothing_declared(alloc: Global) -> Declared
+// That a token declares nothing.
+fn nothing_declared(alloc: Global) -> Declared
     ensures { result.own ≡ [] }
 {
     Declared {

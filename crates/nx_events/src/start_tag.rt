@@ -1,23 +1,22 @@
 //! Start tags and empty-element tags.
 
-ghost use Rattle.std.specs.Prelude.{◌≡◌, ◌+◌, ◌<◌, ◌≤◌, ◌^◌, ◌++◌, [], false, length, IfOk, OnOk, OnErr};
+ghost use Rattle.std.specs.Prelude.{◌≡◌, ◌+◌, ◌<◌, ◌≤◌, ◌^◌, ◌++◌, [], length, IfOk, OnOk, OnErr};
 ghost use Rattle.nx_events.specs.Elements.{element_items, element_resolved};
 ghost use Rattle.nx_events.specs.OpenItems.{open_items, kept_names};
-ghost use Rattle.nx_events.specs.PlainTags.{IsPlainTag};
 ghost use Rattle.nx_events.specs.Tags.{start_name, tag_attributes};
 ghost use Rattle.nx_events.specs.Runs.{run_back};
 ghost use Rattle.nx_events.specs.SeenNames.{AreKept};
 ghost use Rattle.nx_events.specs.Items.{token_span, is_behind, own_bindings, start_items, empty_items, opened, emptied};
 
 use crate::character_fault::push_character_faults;
-use crate::element::{element_resolved, plain_element_name, push_attributes, push_element};
+use crate::element::{element_resolved, push_attributes, push_element};
 use crate::item::{Event, Item, Items};
 use crate::namespace::declarations;
 use crate::reading::Reading;
 use crate::scope::{Binding, Bindings};
 use crate::stage::is_behind;
 use crate::state::{EventState, push_run};
-use crate::tag::{is_name_alone, plain_tag_name, start_name, tag_attributes};
+use crate::tag::{is_name_alone, start_name, tag_attributes};
 use crate::tag_names::TagNames;
 use crate::token_fault::token_span;
 use nx_base::memory::NoMemory;
@@ -72,25 +71,6 @@ pub(crate) fn push_open(
     Ok(Opening { own, kept })
 }
 
-// Adds the items of a start tag that is a plain name alone: it has no fault and declares nothing, so they are the element's.
-fn push_plain(
-    alloc: Global,
-    items: &mut Items,
-    state: &EventState,
-    token: &Token,
-    name: &[u8],
-) -> Result<(), NoMemory>
-    requires plain { IsPlainTag token.now.bytes name.now }
-    requires before_end { is_behind state.now ≡ false }
-    requires room { token.now.from + length token.now.bytes < 2 ^ 64 }
-    ensures { OnOk result (items.new ≡ open_items items.old state.now token.now) }
-{
-    let memory = items.name_memory();
-    let name = plain_element_name(alloc, memory, &state.scope, name)?;
-    items.push(Item::Event(Event::Enter(name), token_span(token)))?;
-    Ok(())
-}
-
 // Adds the items of a start tag as far as `push_open` does, and answers the pairs that it declares. Most tags have no attributes: they
 // need none of the lists that those are gathered in.
 fn push_declaring(
@@ -114,27 +94,6 @@ fn push_declaring(
     Ok(own)
 }
 
-// Adds the items of a start tag as far as `push_open` does, by the tag's form: most tags are a plain name alone.
-fn push_by_form(
-    alloc: Global,
-    items: &mut Items,
-    state: &EventState,
-    token: &Token,
-) -> Result<Bindings, NoMemory>
-    requires { token.now.from + length token.now.bytes < 2 ^ 64 }
-    ensures items { OnOk result (items.new ≡ open_items items.old state.now token.now) }
-    ensures own { IfOk result (λ own. own ≡ own_bindings token.now) }
-{
-    if let Some(name) = plain_tag_name(token.bytes.as_slice()) {
-        if !is_behind(state) {
-            push_plain(alloc, items, state, token, name)?;
-            return Ok(Bindings::new(alloc));
-        }
-    }
-    let own = push_declaring(alloc, items, state, token)?;
-    Ok(own)
-}
-
 // Adds the items of a start tag, and answers the pairs that it declares.
 #[tactic(auto, unfolding(crate::specs::Items::start_items))]
 pub(crate) fn push_start(
@@ -149,7 +108,7 @@ pub(crate) fn push_start(
     ensures pairs { IfOk result (λ own. own ≡ own_bindings token.now) }
 {
     push_run(items, token.from, &state.run)?;
-    let own = push_by_form(alloc, items, state, token)?;
+    let own = push_declaring(alloc, items, state, token)?;
     items.push(Item::Event(Event::TagEnd, token_span(token)))?;
     Ok(own)
 }

@@ -2,6 +2,7 @@
 
 ghost use Rattle.std.specs.Prelude.{◌≡◌, ◌+◌, ◌<◌, ◌≤◌, ◌^◌, ◌++◌, length, None, option_copied, IfOk, OnOk, OnErr};
 ghost use Rattle.nx_events.specs.Strings.{string_of};
+ghost use Rattle.nx_events.specs.PlainTokens.{StandsForItself};
 ghost use Rattle.nx_events.specs.Runs.{run_passed, run_joined, run_back, run_items};
 
 use crate::buffer::Buffer;
@@ -190,6 +191,26 @@ impl Pending {
         }
         run.gap = 0;
         Ok(())
+    }
+
+    /// The run behind one more token of bytes that stand for themselves.
+    pub(crate) fn join_plain(&mut self, bytes: &[u8]) -> Result<(), NoMemory>
+        requires room { run_back self.old + length bytes.now < 2 ^ 64 }
+        requires plain { StandsForItself bytes.now }
+        ensures ok { OnOk result (self.new ≡ run_joined bytes.now (length bytes.now) self.old) }
+        ensures err { OnErr result (self.new ≡ self.old) }
+    {
+        // Most texts are a run of their own.
+        if let Some(run) = &mut self.last {
+            if !self.is_pending {
+                run.string.fill(bytes)?;
+                run.len = bytes.len();
+                run.gap = 0;
+                self.is_pending = true;
+                return Ok(());
+            }
+        }
+        self.join(Reading::Text, bytes, bytes.len())
     }
 }
 

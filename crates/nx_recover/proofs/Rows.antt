@@ -21,7 +21,7 @@ use Rattle.nx_recover.specs.declared.levels.Change.{Change}
 use Rattle.nx_recover.specs.declared.levels.Begun.{Begun}
 use Rattle.nx_recover.proofs.Tops.{begins}
 
-entered_if_admitted : (g : Language) (n : Name) (here : Option Residual) (y : Residual) → admitted g n here ≡ Some y → entered g n here ≡ begun (Some y) (In n) None
+pub entered_if_admitted : (g : Language) (n : Name) (here : Option Residual) (y : Residual) → admitted g n here ≡ Some y → entered g n here ≡ begun (Some y) (In n) None
 unfolding entered
 entered_if_admitted g n (Some x) y e = ap (λ o. entered_by x n o (answered (enter_skip g.definitions n x)) (entered_known g n)) e
 entered_if_admitted g n None y e = cc

@@ -10,7 +10,7 @@ use Rattle.nx_events.specs.Runs.{run_back}
 use Rattle.nx_events.specs.Texts.{ItemsAreText}
 use Rattle.nx_events.specs.declared.item.Item.{Item}
 use Rattle.nx_events.specs.declared.state.EventState.{EventState}
-use Rattle.nx_base.specs.Rules.{LaterLaws, lexeme_of}
+use Rattle.nx_base.specs.Rules.{LaterLaws, Lexeme, lexeme_of}
 use Rattle.nx_base.specs.Shifting.{placed}
 use Rattle.nx_events.specs.BareLaws.{after_placed}
 use Rattle.rng_core.specs.Patterns.{Language}
@@ -30,6 +30,10 @@ use Rattle.nx_recover.specs.declared.state.RecoverState.{RecoverState}
 pub on_err : {A E : Type 0} (r : Result A E) {P : Type 0} → P → OnErr r P
 on_err (Ok a) p = tt
 on_err (Err e) p = p
+
+pub then_err : {A E : Type 0} (r : Result A E) {P Q : Type 0} → OnErr r P → (P → Q) → OnErr r Q
+then_err (Ok a) p f = tt
+then_err (Err e) p f = f p
 
 pub from_empty : {X : Type 0} {xs ys es all : List X} → xs ≡ ys → ys ≡ es ++ all → es ≡ [] → xs ≡ all
 from_empty {all = all} e k h = e ∙ k ∙ ap (λ x. x ++ all) h
@@ -66,6 +70,17 @@ pub given : (g : Option Language) (m : Recovered) (token : Token) (old more now 
     now ≡ old ++ more → more ≡ faults_behind g m.levels all → all ≡ items_of_token m.events token →
     now ≡ old ++ placed (token.from - run_back m.events.run) ((recover_rules g).gives m (lexeme_of token))
 given g m token old more now all p e k i = e ∙ ap (λ x. old ++ x) (k ∙ ap (faults_behind g m.levels) i ∙ gives_placed g m token p)
+
+-- the same from an equal state, by equal rules
+pub after_same : (g h : Language) (m n x : Recovered) (lexeme : Lexeme) → h ≡ g → n ≡ m → x ≡ (recover_rules (Some h)).after n lexeme → x ≡ (recover_rules (Some g)).after m lexeme
+after_same g h m n x lexeme e k i = i ∙ ap (λ l. (recover_rules (Some l)).after n lexeme) e ∙ ap (λ r. (recover_rules (Some g)).after r lexeme) k
+
+pub given_same : (g h : Language) (m n : Recovered) (token : Token) (old now : List Fault) → h ≡ g → n ≡ m →
+    now ≡ old ++ placed (token.from - run_back n.events.run) ((recover_rules (Some h)).gives n (lexeme_of token)) →
+    now ≡ old ++ placed (token.from - run_back m.events.run) ((recover_rules (Some g)).gives m (lexeme_of token))
+given_same g h m n token old now e k i =
+    i ∙ ap (λ l. old ++ placed (token.from - run_back n.events.run) ((recover_rules (Some l)).gives n (lexeme_of token))) e
+    ∙ ap (λ r. old ++ placed (token.from - run_back r.events.run) ((recover_rules (Some g)).gives r (lexeme_of token))) k
 
 -- without items the levels stay, and nothing is wrong
 

@@ -18,6 +18,7 @@ pub mod RecoverRules
 pub mod States
 pub mod Admitting
 pub mod Aside
+pub mod PlainSteps
 pub mod Machine
 -- ---- proofs of the laws that the machine hands on, which have to stand here
 pub mod Later

@@ -13,7 +13,8 @@
 //! so is the `doc`, since what is missing counts as read.
 //!
 //! `specs/Outcomes.antt` is the table of recovery, a line for each row, and `src/row.rt` follows it row by row over a matcher's
-//! states. What a token changes is kept aside and put in place last, so a step is all or nothing (`step`).
+//! states. What a token changes is kept aside and put in place last (`step`); a token that one look tells, and that is admitted whole,
+//! changes the levels where they stand, once nothing can be refused any more (`plain_step`). So a step is all or nothing.
 #![tactic(auto)]
 
 pub mod ahead;
@@ -21,6 +22,7 @@ mod along;
 mod detail;
 mod event;
 pub mod levels;
+mod plain_step;
 pub mod recover;
 mod row;
 pub mod state;

@@ -1,4 +1,5 @@
-//! A step over a matcher, all or nothing: the levels behind the token are kept aside, and put in place last.
+//! A step over a matcher, all or nothing. The levels behind a token that is taken item by item are kept aside, and put in place last; those
+//! behind a token that one look tells change where they stand (`plain_step`).
 
 ghost use Rattle.std.specs.Prelude.{◌≡◌, ◌+◌, ◌-◌, ◌<◌, ◌≤◌, ◌^◌, [], ◌++◌, length, take};
 ghost use Rattle.std.specs.Prelude.{IsUtf8, IfOk, OnOk, OnErr, Some, vec_len, vec_capacity};
@@ -13,12 +14,14 @@ ghost use Rattle.nx_recover.specs.Machine.{over};
 
 use crate::along::take_items;
 use crate::levels::{Change, Levels, Open};
+use crate::plain_step::step_plain;
 use crate::state::RecoverState;
 use nx_base::fault::Faults;
 use nx_base::memory::NoMemory;
 use nx_base::name::Name;
 use nx_base::token::Token;
 use nx_events::item::Items;
+use nx_events::law::tokens_give_text;
 use nx_events::reader::{Declared, pass_token, read};
 use nx_events::state::EventState;
 use rng_live::matcher::Matcher;
@@ -28,7 +31,7 @@ use std::mem;
 /// Memory that a token is read in. Whoever takes many tokens keeps it; what it holds before is dropped.
 #[derive(Drop)]
 pub struct Scratch<S> {
-    /// The token's items.
+    /// The items of the last token that was taken item by item.
     pub items: Items,
     /// The levels behind it.
     pub change: Change<S>,
@@ -112,8 +115,8 @@ fn name_of<S: Drop>(element: Open<S>) -> Option<Name> {
     }
 }
 
-// Drops the elements above so many.
-fn drop_above<S: Drop>(elements: &mut Vec<Open<S>>, kept: usize, items: &mut Items)
+/// Drops the elements above so many. The list of items keeps memory of what is taken off.
+pub fn drop_above<S: Drop>(elements: &mut Vec<Open<S>>, kept: usize, items: &mut Items)
     ensures elements { elements.new.items ≡ take kept elements.old.items }
     ensures len { vec_len elements.new ≤ vec_len elements.old }
     ensures room { vec_capacity elements.new ≡ vec_capacity elements.old }
@@ -183,8 +186,8 @@ fn drop_left(found: &mut Faults)
     }
 }
 
-/// A step over a matcher. For want of memory the state means what it meant, and the faults are as before.
-pub fn step_over<M: Matcher>(
+// A step item by item. For want of memory the state means what it meant, and the faults are as before.
+fn step_by_items<M: Matcher>(
     alloc: Global,
     matcher: &mut M,
     scratch: &mut Scratch<M::State>,
@@ -226,4 +229,42 @@ pub fn step_over<M: Matcher>(
     items.put_back(taken);
     install(alloc, state, token, &declared, change, items, faults, found)?;
     Ok(())
+}
+
+/// A step over a matcher. For want of memory the state means what it meant, and the faults are as before.
+pub fn step_over<M: Matcher>(
+    alloc: Global,
+    matcher: &mut M,
+    scratch: &mut Scratch<M::State>,
+    state: &mut RecoverState<M::State>,
+    token: &Token,
+    faults: &mut Faults,
+) -> Result<(), NoMemory>
+    requires states { AreStates (M.is_state matcher.old) (view_of state.old.levels) }
+    requires text { StateIsText state.old.events }
+    requires utf8 { IsUtf8 token.now.bytes }
+    requires kind { IsLexeme (lexeme_of token.now) }
+    requires place { run_back state.old.events.run ≤ token.now.from }
+    requires room { token.now.from + length token.now.bytes < 2 ^ 64 }
+    ensures later { M.later matcher.old matcher.new }
+    ensures states { AreStates (M.is_state matcher.new) (view_of state.new.levels) }
+    ensures text { StateIsText state.new.events }
+    ensures after { OnOk result (over (M.means matcher.new) state.new
+        ≡ (recover_rules (Some (M.language matcher.old))).after (over (M.means matcher.old) state.old) (lexeme_of token.now)) }
+    ensures faults { OnOk result (faults.new ≡ faults.old
+        ++ placed (token.now.from - run_back state.old.events.run)
+        ((recover_rules (Some (M.language matcher.old))).gives (over (M.means matcher.old) state.old) (lexeme_of token.now))) }
+    ensures unchanged { OnErr result (over (M.means matcher.new) state.new ≡ over (M.means matcher.old) state.old) }
+    ensures no_faults { OnErr result (faults.new ≡ faults.old) }
+{
+    // What an earlier token left is let go here, so that its memory serves for this one.
+    // There is nothing mostly, and then no call is made.
+    if !scratch.items.is_empty() {
+        scratch.items.clear();
+    }
+    if step_plain(alloc, matcher, &mut scratch.items, state, token)? {
+        tokens_give_text();
+        return Ok(());
+    }
+    step_by_items(alloc, matcher, scratch, state, token, faults)
 }

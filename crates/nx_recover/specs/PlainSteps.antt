@@ -1,0 +1,38 @@
+-- What is left behind a token of which one look tells what it gives, where the schema admits all of that.
+use Rattle.std.specs.Prelude.{◌≡◌, ℕ, List, [], Option, Some, None}
+use Rattle.nx_base.specs.declared.name.Name.{Name}
+use Rattle.nx_base.specs.declared.token.Token.{Token}
+use Rattle.nx_events.specs.Items.{items_of_token, state_behind}
+use Rattle.rng_core.specs.Patterns.{Language}
+use Rattle.rng_kept.specs.Content.{chars, leave}
+use Rattle.rng_kept.specs.Entering.{enter}
+use Rattle.rng_kept.specs.Merging.{answered}
+use Rattle.rng_kept.specs.Residuals.{Residual}
+use Rattle.rng_kept.specs.Tags.{tag_end}
+use Rattle.nx_recover.specs.Items.{form_along, found_along}
+use Rattle.nx_recover.specs.States.{AreStates, form, view_of}
+use Rattle.nx_recover.specs.declared.state.RecoverState.{RecoverState}
+
+abbrev pub then_answered : Option Residual → (Residual → Option Residual) → Option Residual
+then_answered None f = None
+then_answered (Some x) f = f x
+
+-- a run, if there is one, and then what follows it
+abbrev pub behind_run : Option (List ℕ) → (Residual → Option Residual) → Residual → Option Residual
+behind_run None f x = f x
+behind_run (Some text) f x = then_answered (answered (chars text x)) f
+
+-- the start of an element, and the end of its tag
+abbrev pub inside_of : Language → Name → Residual → Option Residual
+inside_of g n x = then_answered (answered (enter g.definitions n x)) (λ y. answered (tag_end y))
+
+-- the end of an element
+abbrev pub outside_of : Residual → Option Residual
+outside_of x = answered (leave x)
+
+-- a state t behind a token that is admitted as it is, from s on
+pub record IsAdmitted {S : Type 0} (P : S → Type 0) (f h : S → Residual) (g : Language) (s t : RecoverState S) (token : Token) : Type 0 where
+  pub states : AreStates P (view_of t.levels)
+  pub events : t.events ≡ state_behind s.events token
+  pub levels : form h (view_of t.levels) ≡ form_along g (form f (view_of s.levels)) (items_of_token s.events token)
+  pub faultless : found_along g (form f (view_of s.levels)) (items_of_token s.events token) ≡ []

@@ -1,0 +1,246 @@
+//! A step over a token of which one look tells what it gives, where the schema admits all of that: the levels change where they stand.
+//! Most tokens are such. Where something isn't admitted, nothing has changed, and the token is taken item by item (`step`).
+
+ghost use Rattle.std.specs.Prelude.{◌≡◌, ◌++◌, ◌∷◌, ◌+◌, ◌<◌, ◌≤◌, ◌^◌, [], true, false, length, IsUtf8, IfOk, IfSome, OnErr};
+ghost use Rattle.rng_live.specs.Calls.{Answers};
+ghost use Rattle.nx_base.specs.declared.token.Token.{Token};
+ghost use Rattle.nx_events.specs.PlainTokens.{IsPlainStart, IsPlainEnd};
+ghost use Rattle.nx_events.specs.Runs.{run_back};
+ghost use Rattle.nx_events.specs.Texts.{StateIsText};
+ghost use Rattle.nx_recover.specs.Aside.{without_innermost};
+ghost use Rattle.nx_recover.specs.PlainSteps.{behind_run, inside_of, outside_of, IsAdmitted};
+ghost use Rattle.nx_recover.specs.States.{AreStates, view_of};
+ghost use Rattle.nx_recover.specs.declared.levels.Open.TheVariants.{In};
+
+use crate::levels::Open;
+use crate::state::RecoverState;
+use crate::step::drop_above;
+use nx_base::memory::NoMemory;
+use nx_base::name::Name;
+use nx_base::sequence::Bytes;
+use nx_base::token::{Token, TokenKind};
+use nx_events::item::Items;
+use nx_events::plain_token::{
+    add_characters, begin_element, end_innermost, ended_run, is_plain_end, is_plain_text,
+    plain_start, unprefixed_name,
+};
+use rng_live::matcher::Matcher;
+use std::alloc::Global;
+
+// Behind the start of an element and the end of its tag.
+fn inside_of<M: Matcher>(
+    alloc: Global,
+    matcher: &mut M,
+    here: &M::State,
+    name: &Name,
+) -> Result<Option<M::State>, NoMemory>
+    requires { M.is_state matcher.old here.now }
+    ensures later { M.later matcher.old matcher.new }
+    ensures gives { IfOk result (Answers (M.is_state matcher.new) (M.means matcher.new)
+        (inside_of (M.language matcher.old) name.now (M.means matcher.old here.now))) }
+{
+    match matcher.enter(alloc, here, name)? {
+        Some(in_tag) => {
+            let inside = matcher.tag_end(alloc, &in_tag)?;
+            Ok(inside)
+        }
+        None => Ok(None),
+    }
+}
+
+// Behind the run in front of a start tag, if there is one, the start of its element and the end of the tag.
+fn behind_start<M: Matcher>(
+    alloc: Global,
+    matcher: &mut M,
+    here: &M::State,
+    run: &Option<Bytes>,
+    name: &Name,
+) -> Result<Option<M::State>, NoMemory>
+    requires here { M.is_state matcher.old here.now }
+    requires text { IfSome run.now IsUtf8 }
+    ensures later { M.later matcher.old matcher.new }
+    ensures gives { IfOk result (Answers (M.is_state matcher.new) (M.means matcher.new)
+        (behind_run run.now (inside_of (M.language matcher.old) name.now) (M.means matcher.old here.now))) }
+{
+    let Some(text) = run else {
+        let inside = inside_of(alloc, matcher, here, name)?;
+        return Ok(inside);
+    };
+    match matcher.chars(alloc, here, text)? {
+        Some(before) => {
+            let inside = inside_of(alloc, matcher, &before, name)?;
+            Ok(inside)
+        }
+        None => Ok(None),
+    }
+}
+
+// Behind the run in front of an end tag, if there is one, and the end of the element.
+fn behind_end<M: Matcher>(
+    alloc: Global,
+    matcher: &mut M,
+    here: &M::State,
+    run: &Option<Bytes>,
+) -> Result<Option<M::State>, NoMemory>
+    requires here { M.is_state matcher.old here.now }
+    requires text { IfSome run.now IsUtf8 }
+    ensures later { M.later matcher.old matcher.new }
+    ensures gives { IfOk result (Answers (M.is_state matcher.new) (M.means matcher.new)
+        (behind_run run.now outside_of (M.means matcher.old here.now))) }
+{
+    let Some(text) = run else {
+        let outside = matcher.leave(alloc, here)?;
+        return Ok(outside);
+    };
+    match matcher.chars(alloc, here, text)? {
+        Some(before) => {
+            let outside = matcher.leave(alloc, &before)?;
+            Ok(outside)
+        }
+        None => Ok(None),
+    }
+}
+
+// Keeps the memory of a run's string.
+fn keep_run(memory: &mut Items, run: Option<Bytes>)
+    ensures { memory.new ≡ memory.old }
+{
+    if let Some(string) = run {
+        memory.keep_string(string);
+    }
+}
+
+// Takes a start tag that is this plain name alone, and answers whether all that it gives is admitted. Where it isn't, the state is as
+// before.
+fn take_start<M: Matcher>(
+    alloc: Global,
+    matcher: &mut M,
+    memory: &mut Items,
+    state: &mut RecoverState<M::State>,
+    written: &[u8],
+) -> Result<bool, NoMemory>
+    requires states { AreStates (M.is_state matcher.old) (view_of state.old.levels) }
+    requires text { StateIsText state.old.events }
+    ensures later { M.later matcher.old matcher.new }
+    ensures taken { IfOk result (λ taken. taken ≡ true → (token : Token) → IsPlainStart state.old.events token written.now →
+        IsAdmitted (M.is_state matcher.new) (M.means matcher.old) (M.means matcher.new) (M.language matcher.old) state.old state.new token) }
+    ensures stays { IfOk result (λ taken. taken ≡ false → state.new ≡ state.old) }
+    ensures same_events { OnErr result (state.new.events ≡ state.old.events) }
+    ensures same_levels { OnErr result (view_of state.new.levels ≡ view_of state.old.levels) }
+    ensures memory { memory.new ≡ memory.old }
+{
+    let Some(here) = &state.levels.here else {
+        return Ok(false);
+    };
+    let run = ended_run(memory, &state.events)?;
+    let name = unprefixed_name(alloc, memory, &state.events, written)?;
+    let admitted = behind_start(alloc, matcher, here, &run, &name)?;
+    keep_run(memory, run);
+    let Some(inside) = admitted else {
+        memory.keep_memory(name);
+        return Ok(false);
+    };
+    state.levels.elements.reserve(1)?;
+    begin_element(&mut state.events, written)?;
+    state.levels.elements.push_reserved(Open::In(name));
+    state.levels.here = Some(inside);
+    Ok(true)
+}
+
+// The name of the innermost element, if it goes on in the frame around it.
+fn name_in_frame<S: Drop>(elements: &[Open<S>]) -> Option<&Name>
+    ensures { IfSome result (λ name. elements.now ≡ without_innermost elements.now ++ In name.now ∷ []) }
+{
+    let len = elements.len();
+    if len == 0 {
+        return None;
+    }
+    match &elements[len - 1] {
+        Open::In(name) => Some(name),
+        Open::Begins(_, _) => None,
+        Open::Lost(_) => None,
+    }
+}
+
+// Takes the end tag of the innermost element, and answers whether all that it gives is admitted. Where it isn't, the state is as
+// before.
+fn take_end<M: Matcher>(
+    alloc: Global,
+    matcher: &mut M,
+    memory: &mut Items,
+    state: &mut RecoverState<M::State>,
+) -> Result<bool, NoMemory>
+    requires states { AreStates (M.is_state matcher.old) (view_of state.old.levels) }
+    requires text { StateIsText state.old.events }
+    requires some { 0 < length state.old.events.elements }
+    ensures later { M.later matcher.old matcher.new }
+    ensures taken { IfOk result (λ taken. taken ≡ true → (token : Token) → IsPlainEnd state.old.events token →
+        IsAdmitted (M.is_state matcher.new) (M.means matcher.old) (M.means matcher.new) (M.language matcher.old) state.old state.new token) }
+    ensures stays { IfOk result (λ taken. taken ≡ false → state.new ≡ state.old) }
+    ensures same_events { OnErr result (state.new.events ≡ state.old.events) }
+    ensures same_levels { OnErr result (view_of state.new.levels ≡ view_of state.old.levels) }
+    ensures memory { memory.new ≡ memory.old }
+{
+    let Some(here) = &state.levels.here else {
+        return Ok(false);
+    };
+    // The name itself stays where it is.
+    let Some(_) = name_in_frame(state.levels.elements.as_slice()) else {
+        return Ok(false);
+    };
+    let run = ended_run(memory, &state.events)?;
+    let admitted = behind_end(alloc, matcher, here, &run)?;
+    keep_run(memory, run);
+    let Some(outside) = admitted else {
+        return Ok(false);
+    };
+    end_innermost(&mut state.events);
+    let around = state.levels.elements.len() - 1;
+    drop_above(&mut state.levels.elements, around, memory);
+    state.levels.here = Some(outside);
+    Ok(true)
+}
+
+/// Takes a token of which one look tells what it gives, and answers whether it is one, and all of that is admitted. Where it isn't, or there
+/// was no memory for it, the state is as before.
+pub fn step_plain<M: Matcher>(
+    alloc: Global,
+    matcher: &mut M,
+    memory: &mut Items,
+    state: &mut RecoverState<M::State>,
+    token: &Token,
+) -> Result<bool, NoMemory>
+    requires states { AreStates (M.is_state matcher.old) (view_of state.old.levels) }
+    requires text { StateIsText state.old.events }
+    requires place { run_back state.old.events.run ≤ token.now.from }
+    requires room { token.now.from + length token.now.bytes < 2 ^ 64 }
+    ensures later { M.later matcher.old matcher.new }
+    ensures taken { IfOk result (λ taken. taken ≡ true → IsAdmitted (M.is_state matcher.new) (M.means matcher.old) (M.means matcher.new)
+        (M.language matcher.old) state.old state.new token.now) }
+    ensures stays { IfOk result (λ taken. taken ≡ false → state.new ≡ state.old) }
+    ensures same_events { OnErr result (state.new.events ≡ state.old.events) }
+    ensures same_levels { OnErr result (view_of state.new.levels ≡ view_of state.old.levels) }
+    ensures memory { memory.new ≡ memory.old }
+{
+    match token.kind {
+        TokenKind::Start => match plain_start(&state.events, token) {
+            Some(written) => take_start(alloc, matcher, memory, state, written),
+            None => Ok(false),
+        },
+        TokenKind::End => {
+            if is_plain_end(&state.events, token) {
+                return take_end(alloc, matcher, memory, state);
+            }
+            Ok(false)
+        }
+        TokenKind::Text => {
+            if !is_plain_text(&state.events, token) {
+                return Ok(false);
+            }
+            // It gives nothing, so the levels stay.
+            add_characters(&mut state.events, token.bytes.as_slice())?;
+            Ok(true)
+        }
+        _ => Ok(false),
+    }
+}
