@@ -1,6 +1,8 @@
 -- The laws.
-use Rattle.std.specs.Prelude.{if◌then◌else◌, ◌≡◌, ◌&&◌, ℕ, Bool, true, false, List, Option, None, Some, slice_get, ◌↔◌}
+use Rattle.std.specs.Prelude.{if◌then◌else◌, ◌≡◌, ◌&&◌, ℕ, Bool, true, false, List, Option, None, Some, slice_get, ◌↔◌, IsTrue}
+use Rattle.nx_base.specs.declared.name.Name.{Name}
 use Rattle.nx_base.specs.Trees.{Attribute, Children}
+use Rattle.rng_core.specs.Names.{has_name}
 use Rattle.rng_core.specs.Patterns.{Pattern, Definition, not_allowed, choice, ref}
 use Rattle.rng_core.specs.Matching.{Matches}
 use Rattle.rng_core.specs.Soundness.{IsSoundGrammar}
@@ -9,7 +11,7 @@ use Rattle.rng_restrict.specs.Paths.{BreaksPath}
 use Rattle.rng_restrict.specs.Attributes.{BreaksAttributeOverlap}
 use Rattle.rng_kept.specs.Apart.{IsApart}
 use Rattle.rng_kept.specs.Live.{IsLive}
-use Rattle.rng_live.specs.Dead.{IsOfUtf8, ValuesAre, StringsAre, Lives, IsDead, IsDeadDefinition}
+use Rattle.rng_live.specs.Dead.{IsOfUtf8, ValuesAre, StringsAre, Lives, IsDead}
 use Rattle.rng_live.proofs.Fitting.{living, Fits, AllFit, AreDerived, AreClosed}
 use Rattle.rng_live.specs.Conditions.{is_marked}
 use Rattle.rng_live.specs.Living.{lives_with}
@@ -21,6 +23,10 @@ use Rattle.rng_live.proofs.Renumbered.{renamed, place, renumbered, is_kept, AreK
 -- the rounds end with marks that are derived and closed
 abbrev pub RoundsSettle : Type 0
 RoundsSettle = (named : ℕ → Bool) (g : List Definition) → AllFit named g → AreDerived named g (living g) × AreClosed g (living g)
+
+-- a definition is dead where its class has no name, or its content is dead
+abbrev pub IsDeadDefinition : List Definition → Definition → Type 0
+IsDeadDefinition g d = (n : Name) → IsTrue (has_name d.class n) → Lives g d.content → ⊥
 
 -- with marks that are derived and closed, the test is exact: it fails exactly for the dead
 abbrev pub MarksAreExact : Type 0

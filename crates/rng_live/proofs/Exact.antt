@@ -28,11 +28,11 @@ use Rattle.rng_kept.specs.SolidStrings.{has_words}
 use Rattle.rng_residual.proofs.Members.{solid}
 use Rattle.rng_residual.proofs.Cleaning.{own_text}
 use Rattle.rng_residual.proofs.Joining.{cat, cat_order, cat_shuffle, app, app_split}
-use Rattle.rng_live.specs.Dead.{IsOfUtf8, ValuesAre, no_values, one_value, StringsAre, no_strings, one_string, one_element, IsOfChars, Lives, IsDead, IsDeadDefinition}
+use Rattle.rng_live.specs.Dead.{IsOfUtf8, ValuesAre, no_values, one_value, StringsAre, no_strings, one_string, one_element, IsOfChars, Lives, IsDead}
 use Rattle.rng_live.proofs.Fitting.{Fits, fits_not_allowed, fits_empty, fits_text, fits_data, fits_value, fits_list, fits_attribute, fits_ref, fits_one_or_more, fits_choice, fits_group, fits_interleave, AllFit, AreDerived, AreClosed}
 use Rattle.rng_live.specs.Living.{has_some_name, has_some_attribute_name, has_string, lives_with, definition_lives_with}
 use Rattle.rng_live.specs.Conditions.{is_marked}
-use Rattle.rng_live.proofs.Claims.{MarksAreExact, DefinitionsAreExact}
+use Rattle.rng_live.proofs.Claims.{IsDeadDefinition, MarksAreExact, DefinitionsAreExact}
 use Rattle.rng_live.proofs.Texts.{words_are_text, values_left, values_right, strings_front, strings_back, strings_left, strings_right, values_joined, strings_joined, strings_weakly, nothing_of_chars, nothing_of_utf8}
 
 -- ---- names of classes

@@ -4,7 +4,6 @@ use Rattle.std.specs.Str.{is_utf8}
 use Rattle.nx_base.specs.declared.name.Name.{Name}
 use Rattle.nx_base.specs.Characters.{is_of_chars}
 use Rattle.nx_base.specs.Trees.{Attribute, Children, nil, string, element}
-use Rattle.rng_core.specs.Names.{has_name}
 use Rattle.rng_core.specs.Patterns.{Pattern, Definition}
 use Rattle.rng_core.specs.Matching.{Matches}
 
@@ -39,7 +38,3 @@ pub record Lives (g : List Definition) (p : Pattern) : Type 0 where
 -- it is dead where it matches none
 abbrev pub IsDead : List Definition → Pattern → Type 0
 IsDead g p = Lives g p → ⊥
-
--- a definition is dead where its class has no name, or its content is dead
-abbrev pub IsDeadDefinition : List Definition → Definition → Type 0
-IsDeadDefinition g d = (n : Name) → IsTrue (has_name d.class n) → Lives g d.content → ⊥

@@ -2,10 +2,10 @@
 
 use rng_core::grammar::{Def, Grammar, Pat};
 
-/// The most nodes that a path of a pattern may have to be pruned. The walks of pruning call themselves once for each node of a path
-/// and take at most 64 bytes of stack for it, so one megabyte would do for the 8,000 that simplification allows. The bound is for
-/// those who follow documents through what is left: their walks may take a kilobyte for a node, in two megabytes.
-pub const MOST_NODES_ON_A_PATH: usize = 2_000;
+/// The most nodes that a path of a pattern may have to be pruned: as many as simplification allows. The walks of pruning call themselves
+/// once for each node of a path and take at most 64 bytes of stack for it. Those who follow documents through what is left may take a
+/// kilobyte for a node, in the eight megabytes that a program's first thread has.
+pub const MOST_NODES_ON_A_PATH: usize = 8_000;
 
 /// Whether no path of the pattern has more nodes than `most`, judged in a stack that doesn't grow past this bound.
 fn is_within(pattern: &Pat, most: usize) -> bool {

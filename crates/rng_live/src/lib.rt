@@ -13,8 +13,8 @@
 //!   new numbers as the walk first meets them (`kept`).
 //!
 //! The walks call themselves once for each node of a path. So what calls itself holds references, numbers and boxes alone, and
-//! what holds a pattern or a condition is called for one node (`boxes`). A grammar with a path of more than 2,000 nodes, which
-//! simplification allows, is answered as want of memory (`depth`).
+//! what holds a pattern or a condition is called for one node (`boxes`). A grammar with a path of more than 8,000 nodes, which
+//! simplification refuses, is answered as want of memory (`depth`).
 //!
 //! Each of these is linear in the nodes of the grammar; the excepts of a type are compared with its values where these are
 //! few (`takes`).

@@ -72,8 +72,8 @@ fn left_definitions(
 ///
 /// `NothingValid` comes exactly where the start is dead, so that no document is valid. What is dead is found from below: each
 /// definition that is found to live wakes the patterns that refer to it, so that the steps are as many as the nodes of the
-/// grammar. The walks call themselves as deep as a pattern is: a grammar with a path of more than 2,000 nodes is
-/// answered as want of memory.
+/// grammar. The walks call themselves as deep as a pattern is: a grammar with a path of more than 8,000 nodes,
+/// which simplification refuses, is answered as want of memory.
 pub fn prune(alloc: Global, grammar: Grammar) -> Result<Schema, LiveFault>
     requires sound { IsSound grammar }
     requires checked { ChecksGrammar grammar (Ok tt) }
