@@ -1,5 +1,5 @@
--- Where nothing in front of a place has a fault, what it is offered is exactly what some list of further events completes to a valid
--- document.
+-- Where nothing in front of a place has a fault, the names and the end that it is offered are exactly those that some list of further
+-- events completes to a valid document.
 use Rattle.std.specs.Prelude.{◌↔◌, ℕ, ◌<◌, List, ◌++◌, Some, Contains, IsUtf8}
 use Rattle.nx_base.specs.Trees as trees
 use Rattle.nx_base.specs.declared.name.Name.{Name}

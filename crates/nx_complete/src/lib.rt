@@ -11,7 +11,7 @@
 //! behind `<doc id='a'><title/></` the end of `doc`, and behind `<doc ` the attribute `id`.
 //!
 //! `OffersOf` of nx_recover (specs/Offers.antt) is the definition, in words of lists of events that are kept. That in a text without faults
-//! the offers are exactly what can be completed to a valid document is the law `offers_are_exact`.
+//! the names and the end are exactly those that can be completed to a valid document is the law `offers_are_exact`.
 #![tactic(auto)]
 
 mod answers;

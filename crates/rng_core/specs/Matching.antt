@@ -42,7 +42,7 @@ pub data AreStrings : Children → Type 0 where
 
 -- an element's children as a content may see them: as they stand, without all blank strings, or, where there are
 -- none, as one empty string. The standard drops blank strings one by one; under its restrictions the trees that a
--- pattern matches are the same
+-- pattern matches are the same, of trees in which no two strings stand side by side, as the standard has them
 pub data Weakly : Children → Children → Type 0 where
   as_they_stand : {children : Children} → Weakly children children
   with_blanks_left_out : {children : Children} → Weakly children (without_blanks children)

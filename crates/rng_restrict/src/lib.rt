@@ -12,7 +12,8 @@
 //!   they name.
 //! - Classes are compared pair by pair: the square of the attributes of one element, where only those in choice with
 //!   one another aren't compared, and in each interleave those of the definitions that one side names with those that
-//!   the other names, however often it does, until one fault is known. Two classes of n and m names cost n times m.
+//!   the other names, however often it does, until one fault is known. Two classes of n and m names cost a sort of the
+//!   one and a look-up for each name of the other.
 #![tactic(auto)]
 
 mod attribute;
