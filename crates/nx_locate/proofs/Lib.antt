@@ -8,4 +8,5 @@ pub mod RuleTexts
 pub mod Spellings
 pub mod Stretches
 pub mod TreeRules
+pub mod Unambiguous
 pub mod Walks

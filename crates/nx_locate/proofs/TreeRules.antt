@@ -254,3 +254,22 @@ module _ (law : WellFormedIsDocument) (text : List ℕ) (all : List Item) (is_te
 
   pub has_other_root : list_any is_fault all ≡ false → begins_rules all ≡ false → HasNoRules text
   has_other_root h begins = let t = tree_of h in inr (t.0, t.1, sym (begins_tree t.0 all t.2) ∙ begins)
+
+-- ---- what a text says of rules
+
+-- its rules are those of its items
+pub rules_read : (text : List ℕ) (rules : List Rule) → HasRules text rules → rules ≡ rules_from 0 (items_of_text text)
+rules_read text rules h =
+    let all = items_of_text text in
+    h.are ∙ sym (all_rules h.tree all (clean all (flat h.tree) h.is_read.no_fault h.is_read.events))
+
+-- no text has rules and none
+pub rules_or_none : (text : List ℕ) (rules : List Rule) → HasRules text rules → HasNoRules text → ⊥
+rules_or_none text rules h (inl fault) = fault h.is_read.no_fault
+rules_or_none text rules h (inr other) =
+    let all = items_of_text text in
+    let here = begins_tree h.tree all (clean all (flat h.tree) h.is_read.no_fault h.is_read.events) in
+    let there = begins_tree other.0 all (clean all (flat other.0) other.1.no_fault other.1.events) in
+    let yes : same_name h.tree.name root_name ≡ true = h.root in
+    let no : same_name other.0.name root_name ≡ false = other.2 in
+    cc

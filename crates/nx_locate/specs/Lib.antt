@@ -5,6 +5,7 @@ pub mod RulesFiles
 pub mod DocumentElements
 pub mod Leading
 pub mod Locates
+pub mod Unambiguous
 -- ---- what private contracts and proofs cite
 pub mod Answering
 pub mod ElementsFound

@@ -16,10 +16,12 @@
 //! `d/docbook.rnc`.
 //!
 //! What `locate` answers stands in specs/Locates.antt. To believe it one reads that file and the five on which it stands: Rules,
-//! RulesFiles, DocumentElements, Leading and Patterns. All other files of specs/ say what the parts of the code do, for the proof.
+//! RulesFiles, DocumentElements, Leading and Patterns; that it is one answer says Unambiguous. All other files of specs/ say what the
+//! parts of the code do, for the proof.
 #![tactic(auto)]
 
 pub mod document_element;
+pub mod law;
 mod leading;
 mod load;
 pub mod locating;
