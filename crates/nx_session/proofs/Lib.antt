@@ -14,4 +14,5 @@ pub mod Replacing
 pub mod Sessions
 pub mod Tags
 pub mod Using
+pub mod Validity
 pub mod Views

@@ -12,6 +12,7 @@ pub mod Moving
 pub mod Premises
 pub mod Step
 pub mod Validating
+pub mod Validity
 pub mod Reading
 pub mod Schemas
 pub mod Viewing

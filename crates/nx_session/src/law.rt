@@ -4,6 +4,7 @@ ghost use Rattle.nx_session.specs.Done.{AllowedCommandsAreDone, AllowedLinesAreD
 ghost use Rattle.nx_session.specs.Faults.{TextsGiveText};
 ghost use Rattle.nx_session.specs.Marks.{OneEditTakesFew};
 ghost use Rattle.nx_session.specs.Step.{RefusalsLeaveTheDocument};
+ghost use Rattle.nx_session.specs.Validity.{NoErrorsIsValid};
 
 use nx_host::uri::joins_is_decided;
 use nx_script::read::lines_are_one_command;
@@ -36,6 +37,12 @@ pub fn allowed_lines_are_done()
     lines_are_one_command();
     allowed_commands_are_done();
 }
+
+/// Between two commands of a session, `errors` lists no fault exactly where the text is a well-formed document, and valid against the
+/// schema that is held, if one is; or there was no memory to list any.
+pub fn no_errors_is_valid()
+    ensures { NoErrorsIsValid }
+{}
 
 /// No command lowers the count of the files' faults.
 pub fn faults_are_counted()
