@@ -6,3 +6,4 @@ pub mod Turns
 pub mod Play
 pub mod Run
 pub mod Allowed
+pub mod Validity

@@ -2,8 +2,12 @@
 
 ghost use Rattle.nx_run.specs.Allowed.{AllowedRunsAreDone};
 ghost use Rattle.nx_run.specs.Run.{RunsPrintText};
+ghost use Rattle.nx_run.specs.Validity.{PrintedNoErrorsIsValid};
 
+use nx_base::edit::edited_is_utf8;
 use nx_host::uri::joins_is_decided;
+use nx_script::line::raw_lines_are_the_lines;
+use nx_script::read::lines_are_one_command;
 use nx_session::law::{allowed_commands_are_done, allowed_lines_are_done, faults_are_counted};
 
 /// What a run writes is UTF-8, unless it is stopped.
@@ -20,4 +24,14 @@ pub fn allowed_runs_are_done()
     allowed_commands_are_done();
     allowed_lines_are_done();
     joins_is_decided();
+}
+
+/// Where the play of a script comes to a line `errors`, what is printed for it is `errors: 0` exactly where the editor's text is a
+/// well-formed document, and valid against the schema that is held then, if one is; or there was no memory to list the faults.
+pub fn printed_no_errors_is_valid()
+    ensures { PrintedNoErrorsIsValid }
+{
+    edited_is_utf8();
+    raw_lines_are_the_lines();
+    lines_are_one_command();
 }

@@ -4,6 +4,7 @@ pub mod Carets
 pub mod Counting
 pub mod Edited
 pub mod Filing
+pub mod Fitness
 pub mod Holding
 pub mod Locating
 pub mod Marks
