@@ -2,7 +2,7 @@
 
 ghost use Rattle.std.specs.Prelude.{◌≡◌, ◌||◌, map, option_map, IfOk, if◌then◌else◌};
 ghost use Rattle.nx_script.specs.Replies.{ReplyIsText};
-ghost use Rattle.nx_session.specs.Editor.{files_state, world};
+ghost use Rattle.nx_session.specs.Editor.{files_state, new_editor, world};
 ghost use Rattle.nx_session.specs.Viewing.{ViewsAreText};
 ghost use Rattle.nx_words.specs.Call.{call_line};
 ghost use Rattle.nx_run.specs.Output.{out_state};
@@ -70,7 +70,11 @@ fn answer<F: Files, L: Ledger>(
     ensures views { ViewsAreText (map (λ b. state b) views.old.items) → ViewsAreText (map (λ b. state b) views.new.items) }
 {
     match turn.command(alloc) {
-        Ok(command) => session.apply(&command, files, views, steps),
+        Ok(command) => {
+            let reply = session.apply(&command, files, views, steps);
+            drop(command);
+            reply
+        }
         Err(ScriptFault::BadCommand) => Reply::Refused(Refusal::BadCommand),
         Err(ScriptFault::NoMemory) => Reply::Refused(Refusal::NoMemory),
     }
@@ -84,6 +88,49 @@ fn copied(alloc: Global, text: Option<&str>) -> Result<Option<Bytes>, NoMemory>
         Some(text) => Ok(Some(Bytes::from_vec(Vec::from_slice(alloc, text.as_bytes())?))),
         None => Ok(None),
     }
+}
+
+/// A new editor, which is given the URI text of rules, or none.
+fn begun(alloc: Global, rules: Option<&str>) -> Result<Session, NoMemory>
+    ensures { IfOk result (λ session. session.editor ≡ new_editor (option_map (λ text. text.now) rules.entry)) }
+{
+    let rules = copied(alloc, rules)?;
+    Session::new(alloc, rules)
+}
+
+/// Plays the turns of the script with a new editor, which the caller keeps: so no way out of the loop has an editor to drop.
+fn play_turns<F: Files, O: Out, L: Ledger>(
+    alloc: Global,
+    session: &mut Session,
+    call: &Call<'_>,
+    script: &str,
+    files: &mut F,
+    out: &mut O,
+    views: &mut Vec<Box<dyn View>>,
+    steps: &mut Steps<L>,
+) -> Status
+    requires { session.old.editor ≡ new_editor (call_line call.now).rules }
+    ensures { IsPlayOf (call_line call.now) script.now
+        (surroundings (files_state (F.told files.old) (F.faults files.old)) (map (λ b. state b) views.old.items) steps.old)
+        (surroundings (files_state (F.told files.new) (F.faults files.new)) (map (λ b. state b) views.new.items) steps.new)
+        (out_state (O.told out.old) (O.faults out.old)) (out_state (O.told out.new) (O.faults out.new)) result }
+{
+    let mut tally = Tally {
+        memory: false,
+        refusal: false,
+    };
+    let mut turns = Turns::new(call.schema, script);
+    while let Some((number, turn)) = turns.take_next() {
+        let reply = answer(alloc, session, turn, files, views, steps);
+        tally.note(&reply);
+        let written = write_reply(alloc, out, number, &reply);
+        drop(reply);
+        match written {
+            Ok(()) => {}
+            Err(fault) => return Status::from(fault),
+        }
+    }
+    tally.status()
 }
 
 /// Plays the script from a new editor, and writes the text of each reply. The schema that the words name is held before the first
@@ -102,26 +149,12 @@ pub fn play<F: Files, O: Out, L: Ledger>(
         (surroundings (files_state (F.told files.new) (F.faults files.new)) (map (λ b. state b) views.new.items) steps.new)
         (out_state (O.told out.old) (O.faults out.old)) (out_state (O.told out.new) (O.faults out.new)) result }
 {
-    let Ok(rules) = copied(alloc, call.rules) else {
-        return Status::Memory;
-    };
-    let Ok(mut session) = Session::new(alloc, rules) else {
-        return Status::Memory;
-    };
-    let mut tally = Tally {
-        memory: false,
-        refusal: false,
-    };
-    let mut turns = Turns::new(call.schema, script);
-    while let Some((number, turn)) = turns.take_next() {
-        let reply = answer(alloc, &mut session, turn, files, views, steps);
-        tally.note(&reply);
-        let written = write_reply(alloc, out, number, &reply);
-        drop(reply);
-        match written {
-            Ok(()) => {}
-            Err(fault) => return Status::from(fault),
+    match begun(alloc, call.rules) {
+        Ok(mut session) => {
+            let status = play_turns(alloc, &mut session, call, script, files, out, views, steps);
+            drop(session);
+            status
         }
+        Err(NoMemory) => Status::Memory,
     }
-    tally.status()
 }

@@ -1,6 +1,6 @@
 //! The editor between two commands: what it holds, and which of its parts carries out a command.
 
-ghost use Rattle.std.specs.Prelude.{◌≡◌, length, map, is_some, IfOk, None};
+ghost use Rattle.std.specs.Prelude.{◌≡◌, codes, length, map, is_some, IfOk, None};
 ghost use Rattle.nx_marks.specs.Starting.{started};
 ghost use Rattle.nx_script.specs.Commands.{HasUtf8Texts};
 ghost use Rattle.nx_script.specs.Replies.{reply_of, ReplyIsText};
@@ -92,6 +92,14 @@ impl Model for Session {
     ghost invariant = { λ s. IsKept s.text s.caret s.machine.matcher s.marks.kept };
 }
 
+/// The URI of a document that was opened from nowhere.
+fn new_document(alloc: Global) -> Result<DocumentUri, NoMemory>
+    ensures { IfOk result (λ uri. uri ≡ codes "file:///work/untitled.xml") }
+{
+    let printed = Vec::from_slice(alloc, UNTITLED.as_bytes())?;
+    Ok(DocumentUri::new(Bytes::from_vec(printed)))
+}
+
 impl Session {
     /// An editor of the empty text, which is given the URI text of the rules by which schemas are located, or none.
     pub fn new(alloc: Global, rules: Option<Bytes>) -> Result<Session, NoMemory>
@@ -100,20 +108,27 @@ impl Session {
         ensures right { IfOk result MarksAreRight }
         ensures held { IfOk result IsWellHeld }
     {
-        let untitled = Vec::from_slice(alloc, UNTITLED.as_bytes())?;
+        let document = new_document(alloc)?;
         let mut machine = Recover::new(None);
-        let marks = begun(alloc, &mut machine)?;
-        let session = Session {
-            alloc,
-            text: Text::new(alloc),
-            caret: 0,
-            document: DocumentUri::new(Bytes::from_vec(untitled)),
-            rules,
-            machine,
-            marks,
-        };
-        session.reads_right();
-        Ok(session)
+        match begun(alloc, &mut machine) {
+            Ok(marks) => {
+                let session = Session {
+                    alloc,
+                    text: Text::new(alloc),
+                    caret: 0,
+                    document,
+                    rules,
+                    machine,
+                    marks,
+                };
+                session.reads_right();
+                Ok(session)
+            }
+            Err(fault) => {
+                drop(machine);
+                Err(fault)
+            }
+        }
     }
 
     /// How many bytes the text has.

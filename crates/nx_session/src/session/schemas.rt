@@ -34,6 +34,7 @@ use rng_restrict::fault::RestrictFault;
 use rng_simplify::fault::SchemaFault;
 use rng_simplify::simplify::simplify;
 use std::alloc::Global;
+use std::mem;
 
 /// Why a schema is refused that the files don't define.
 fn undefined(fault: SchemaFault) -> Refusal
@@ -157,9 +158,16 @@ impl Session {
     {
         let _len = self.text.len();
         let mut machine = Recover::new(matcher);
-        let marks = begun(self.alloc, &mut machine)?;
-        self.machine = machine;
-        self.marks = marks;
-        Ok(())
+        match begun(self.alloc, &mut machine) {
+            Ok(marks) => {
+                drop(mem::replace(&mut self.machine, machine));
+                drop(mem::replace(&mut self.marks, marks));
+                Ok(())
+            }
+            Err(fault) => {
+                drop(machine);
+                Err(fault)
+            }
+        }
     }
 }

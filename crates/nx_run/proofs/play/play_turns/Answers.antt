@@ -1,12 +1,12 @@
-use Rattle.std.proofs.Common.{ap, length, arith}
+use Rattle.std.proofs.Common.{ap, length, arith, refl}
 use Rattle.nx_script.specs.Printing.{reply_text}
 use Rattle.nx_words.specs.Call.{call_line}
 use Rattle.nx_run.specs.Output.{out_state}
 use Rattle.nx_run.proofs.Playing.{play-begun, play-more, play-done, play-stopped, refused-part, play-refused, done-whole, done-stays}
-use Rattle.nx_run.proofs.play.play.Goals as goal
+use Rattle.nx_run.proofs.play.play_turns.Goals as goal
 
 pub loop-number-init : goal.loop-number-init
-loop-number-init g c = play-begun (call_line c.args.call.now) _ _ _ _ _ _ _ c.in-Ok.ensures c.in-Ok-new.ensures.editor c.new-turns.ensures.turns c.new-turns.ensures.number
+loop-number-init g c = play-begun (call_line c.args.call.now) _ _ _ _ _ _ _ refl c.requires c.new-turns.ensures.turns c.new-turns.ensures.number
 
 pub returns-in-Err : goal.returns-in-Err
 returns-in-Err g c =

@@ -5,7 +5,7 @@ use Rattle.nx_run.specs.Output.{out_state}
 use Rattle.nx_run.specs.Surroundings.{surroundings}
 use Rattle.nx_run.specs.Turns.{turns_left, next_number}
 use Rattle.nx_run.proofs.Playing.{IsPlaying}
-use Rattle.nx_run.proofs.play.play.Given as goal
+use Rattle.nx_run.proofs.play.play_turns.Given as goal
 
 abbrev pub invariant-loop-number : goal.invariant-loop-number
 invariant-loop-number g l =
