@@ -4,3 +4,5 @@ pub mod IfOk
 pub mod Growing
 pub mod Opening
 pub mod Untold
+mod Named
+mod Kept

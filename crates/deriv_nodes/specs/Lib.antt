@@ -6,3 +6,5 @@ pub mod Reading
 pub mod Seen
 pub mod Opened
 pub mod Telling
+pub mod Wanted
+pub mod Kept

@@ -1,14 +1,16 @@
 //! What an element's name opens: the definitions whose elements may begin here, with what is left behind the element.
 
-ghost use Rattle.std.specs.Prelude.{◌≡◌, List, ◌==◌, ◌<◌, ◌≤◌, length, IfOk, map, slice_get};
+ghost use Rattle.std.specs.Prelude.{◌≡◌, List, [], ◌∷◌, ◌==◌, ◌<◌, ◌≤◌, length, IfOk, IfSome, map, filter, slice_get};
 ghost use Rattle.std.specs.List.{list_any, position_or_len};
 ghost use Rattle.rng_core.specs.Meaning.{definition_of};
-ghost use Rattle.rng_core.specs.Patterns.{Pattern};
+ghost use Rattle.rng_core.specs.Patterns.{Pattern, empty};
 ghost use Rattle.rng_kept.specs.SmallPatterns.{star as star_of};
 ghost use Rattle.rng_kept.specs.Openings as s;
 ghost use Rattle.rng_kept.specs.Entering as entering;
+ghost use Rattle.deriv_nodes.specs.Kept.{IsKept};
 ghost use Rattle.deriv_nodes.specs.Numbers.{at, Later, IsAt};
 ghost use Rattle.deriv_nodes.specs.Opened.{openings_at, AreNodes, AreOpened, rest_of, placed};
+ghost use Rattle.deriv_nodes.specs.Wanted.{is_named, opens_by, reference_opens};
 
 use crate::node::Node;
 use crate::nodes::Nodes;
@@ -37,6 +39,15 @@ pub enum Place {
     InSecond,
 }
 
+/// Which openings are asked for.
+#[derive(Clone, Copy)]
+pub enum Wanted<'a> {
+    /// Those of all definitions.
+    Any,
+    /// Those of the definitions that have the name.
+    Named(&'a [Def], &'a Name),
+}
+
 /// The place of the opening of a number, or how many openings there are.
 fn place_of(number: u32, opened: &[Open]) -> usize
     ensures place { result ≡ position_or_len (λ one. number == one.number) opened.now }
@@ -50,6 +61,31 @@ fn some_has(number: u32, opened: &[Open]) -> bool
     ensures { result ≡ list_any (λ one. number == one.number) opened.now }
 {
     opened.iter().any(|one| number == one.number)
+}
+
+/// Whether there is a definition of the number, and it has the name.
+fn is_of(defs: &[Def], name: &Name, number: u32) -> bool
+    ensures { result ≡ is_named (map definition_of defs.now) name.now number }
+{
+    match defs.get(number as usize) {
+        Some(def) => def.class.has(name),
+        None => false,
+    }
+}
+
+/// Those of the openings whose definitions have the name.
+fn named(alloc: Global, defs: &[Def], name: &Name, opened: &[Open]) -> Result<Vec<Open>, NoMemory>
+    ensures { IfOk result (λ made. made.items ≡ filter (λ one. is_named (map definition_of defs.now) name.now one.number) opened.now) }
+{
+    let mut made = Vec::new(alloc);
+    let mut left = opened;
+    while let Some((one, rest)) = left.split_first() {
+        if is_of(defs, name, one.number) {
+            made.push(*one)?;
+        }
+        left = rest;
+    }
+    Ok(made)
 }
 
 impl Nodes {
@@ -215,7 +251,111 @@ impl Nodes {
         self.joined(first, second.as_slice())
     }
 
-    /// The definitions that a name opens, each number once.
+    /// The opening of a definition, whatever its names.
+    fn sole_opening(&mut self, alloc: Global, number: u32) -> Result<Vec<Open>, NoMemory>
+        ensures later { Later self.old self.new }
+        ensures made { IfOk result (λ made. AreOpened self.new (s.opening number empty ∷ []) made.items) }
+    {
+        let mut made = Vec::new(alloc);
+        let rest = self.empty()?;
+        made.push(Open { number, rest })?;
+        Ok(made)
+    }
+
+    /// What a reference opens.
+    fn reference_opens(
+        &mut self,
+        alloc: Global,
+        wanted: Wanted<'_>,
+        number: u32,
+    ) -> Result<Vec<Open>, NoMemory>
+        ensures later { Later self.old self.new }
+        ensures made { IfOk result (λ made. AreOpened self.new (reference_opens wanted.entry number) made.items) }
+    {
+        match wanted {
+            Wanted::Any => self.sole_opening(alloc, number),
+            Wanted::Named(defs, name) => self.definition_opens(alloc, defs, name, number),
+        }
+    }
+
+    /// The openings that are asked for, each number once.
+    fn opened(&mut self, alloc: Global, wanted: Wanted<'_>, p: usize) -> Result<Vec<Open>, NoMemory>
+        requires { p < length self.old }
+        ensures later { Later self.old self.new }
+        ensures made { IfOk result (λ made. AreOpened self.new
+            (opens_by (reference_opens wanted.entry) (at self.old p)) made.items) }
+    {
+        match self.node(p) {
+            Node::NotAllowed => Ok(Vec::new(alloc)),
+            Node::Empty => Ok(Vec::new(alloc)),
+            Node::Text => Ok(Vec::new(alloc)),
+            Node::Typed(_, _) => Ok(Vec::new(alloc)),
+            Node::Value(_, _) => Ok(Vec::new(alloc)),
+            Node::List(_) => Ok(Vec::new(alloc)),
+            Node::Attribute(_, _) => Ok(Vec::new(alloc)),
+            Node::Ref(number) => self.reference_opens(alloc, wanted, number),
+            Node::OneOrMore(body) => {
+                let opened = self.opened(alloc, wanted, body)?;
+                self.of_many(alloc, opened.as_slice(), body)
+            }
+            Node::Choice(a, b) => {
+                let first = self.opened(alloc, wanted, a)?;
+                let second = self.opened(alloc, wanted, b)?;
+                self.of_choice(first, second)
+            }
+            Node::Group(a, b) => {
+                let first = self.opened(alloc, wanted, a)?;
+                let first = self.all_placed(alloc, Place::InGroup, first.as_slice(), b)?;
+                if !self.nullable(a) {
+                    return Ok(first);
+                }
+                let second = self.opened(alloc, wanted, b)?;
+                self.of_choice(first, second)
+            }
+            Node::Interleave(a, b) => {
+                let first = self.opened(alloc, wanted, a)?;
+                let second = self.opened(alloc, wanted, b)?;
+                self.of_interleave(alloc, first.as_slice(), a, b, second.as_slice())
+            }
+        }
+    }
+
+    /// Whether an interleave stands in the node outside of attributes: then each opening leaves a whole that was nowhere before.
+    fn has_interleave(&self, p: usize) -> bool
+        requires { p < length self.now }
+    {
+        match self.node(p) {
+            Node::Interleave(_, _) => true,
+            Node::OneOrMore(body) => self.has_interleave(body),
+            Node::Choice(a, b) => self.has_interleave(a) || self.has_interleave(b),
+            Node::Group(a, b) => self.has_interleave(a) || self.has_interleave(b),
+            Node::NotAllowed => false,
+            Node::Empty => false,
+            Node::Text => false,
+            Node::Typed(_, _) => false,
+            Node::Value(_, _) => false,
+            Node::List(_) => false,
+            Node::Attribute(_, _) => false,
+            Node::Ref(_) => false,
+        }
+    }
+
+    /// The openings of a node by whatever name, if they are kept.
+    fn kept_openings(&self, p: usize) -> Option<&[Open]>
+        ensures { IfSome result (λ opened. IsKept self.now p opened.now) }
+    {
+        self.firsts.of(p)
+    }
+
+    /// Whether those of a node are to be kept: there is room, and they are made of few nodes.
+    fn are_to_be_kept(&self, p: usize) -> bool
+        requires { p < length self.now }
+    {
+        !self.firsts.are_many() && !self.has_interleave(p)
+    }
+
+    /// The definitions that a name opens, each number once. What opens by whatever name is kept: states differ by what lies around
+    /// them, and many of them ask the same node.
     pub fn opens(
         &mut self,
         alloc: Global,
@@ -228,39 +368,16 @@ impl Nodes {
         ensures made { IfOk result (λ made. AreOpened self.new
             (s.opens (map definition_of defs.now) name.now (at self.old p)) made.items) }
     {
-        match self.node(p) {
-            Node::NotAllowed => Ok(Vec::new(alloc)),
-            Node::Empty => Ok(Vec::new(alloc)),
-            Node::Text => Ok(Vec::new(alloc)),
-            Node::Typed(_, _) => Ok(Vec::new(alloc)),
-            Node::Value(_, _) => Ok(Vec::new(alloc)),
-            Node::List(_) => Ok(Vec::new(alloc)),
-            Node::Attribute(_, _) => Ok(Vec::new(alloc)),
-            Node::Ref(number) => self.definition_opens(alloc, defs, name, number),
-            Node::OneOrMore(body) => {
-                let opened = self.opens(alloc, defs, name, body)?;
-                self.of_many(alloc, opened.as_slice(), body)
-            }
-            Node::Choice(a, b) => {
-                let first = self.opens(alloc, defs, name, a)?;
-                let second = self.opens(alloc, defs, name, b)?;
-                self.of_choice(first, second)
-            }
-            Node::Group(a, b) => {
-                let first = self.opens(alloc, defs, name, a)?;
-                let first = self.all_placed(alloc, Place::InGroup, first.as_slice(), b)?;
-                if !self.nullable(a) {
-                    return Ok(first);
-                }
-                let second = self.opens(alloc, defs, name, b)?;
-                self.of_choice(first, second)
-            }
-            Node::Interleave(a, b) => {
-                let first = self.opens(alloc, defs, name, a)?;
-                let second = self.opens(alloc, defs, name, b)?;
-                self.of_interleave(alloc, first.as_slice(), a, b, second.as_slice())
-            }
+        if let Some(opened) = self.kept_openings(p) {
+            return named(alloc, defs, name, opened);
         }
+        if !self.are_to_be_kept(p) {
+            return self.opened(alloc, Wanted::Named(defs, name), p);
+        }
+        let opened = self.opened(alloc, Wanted::Any, p)?;
+        let found = named(alloc, defs, name, opened.as_slice())?;
+        self.firsts.keep(p, opened)?;
+        Ok(found)
     }
 
     /// What is left by the opening of a number; notAllowed where there is none.

@@ -5,7 +5,7 @@ use Rattle.deriv_nodes.proofs.nodes.Nodes.node.Goals as goal
 
 pub node_of-requires-clause-below : goal.node_of-requires-clause-below
 node_of-requires-clause-below c =
-    read_below c.self.inside.leaves.keys c.self.inside.shapes.keys c.args.p c.in-Some.shape.now c.self.invariant.ordered
+    read_below c.self.inside.leaves.keys c.self.inside.shapes.keys c.args.p c.in-Some.shape.now c.self.invariant.table.ordered
     (sym c.in-Some.ensures.key)
 
 pub unreachable-requires : goal.unreachable-requires
@@ -16,5 +16,5 @@ unreachable-requires c =
 pub returns-clause-is : goal.returns-clause-is
 returns-clause-is c =
     read_at c.self.inside.leaves.keys c.self.inside.shapes.keys c.args.self.now c.args.p c.in-Some.shape.now c.self.view_is
-    c.self.invariant.ordered (sym c.in-Some.ensures.key)
+    c.self.invariant.table.ordered (sym c.in-Some.ensures.key)
     ∙ c.node_of.ensures.whole c.args.self.now
