@@ -200,9 +200,12 @@ impl States {
                 outer,
                 ..
             } => {
-                let strict = self.opens(alloc, defs, name, strict)?;
-                let loose = self.opens(alloc, defs, name, loose)?;
-                self.tags_inside(defs, strict.as_slice(), loose.as_slice(), outer)
+                let opened = self.opens(alloc, defs, name, strict)?;
+                if strict == loose {
+                    return self.tags_inside(defs, opened.as_slice(), opened.as_slice(), outer);
+                }
+                let more = self.opens(alloc, defs, name, loose)?;
+                self.tags_inside(defs, opened.as_slice(), more.as_slice(), outer)
             }
         }
     }
@@ -253,9 +256,12 @@ impl States {
                 outer,
                 ..
             } => {
-                let strict = self.skip_opens(alloc, defs, name, strict)?;
-                let loose = self.skip_opens(alloc, defs, name, loose)?;
-                self.tags_inside(defs, strict.as_slice(), loose.as_slice(), outer)
+                let opened = self.skip_opens(alloc, defs, name, strict)?;
+                if strict == loose {
+                    return self.tags_inside(defs, opened.as_slice(), opened.as_slice(), outer);
+                }
+                let more = self.skip_opens(alloc, defs, name, loose)?;
+                self.tags_inside(defs, opened.as_slice(), more.as_slice(), outer)
             }
         }
     }
