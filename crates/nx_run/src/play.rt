@@ -70,11 +70,7 @@ fn answer<F: Files, L: Ledger>(
     ensures views { ViewsAreText (map (λ b. state b) views.old.items) → ViewsAreText (map (λ b. state b) views.new.items) }
 {
     match turn.command(alloc) {
-        Ok(command) => {
-            let reply = session.apply(&command, files, views, steps);
-            drop(command);
-            reply
-        }
+        Ok(command) => session.apply(&command, files, views, steps),
         Err(ScriptFault::BadCommand) => Reply::Refused(Refusal::BadCommand),
         Err(ScriptFault::NoMemory) => Reply::Refused(Refusal::NoMemory),
     }

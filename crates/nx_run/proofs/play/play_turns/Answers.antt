@@ -26,8 +26,8 @@ loop-number-preserved g c =
     let w = c.write_reply-written in
     play-more _ _ _ _ _ _ (out_state (o.told c.loop-number.out) (o.faults c.loop-number.out)) (out_state (o.told w.new.out) (o.faults w.new.out)) _ _ _ _ _ _ _ _ _ _ _ _ c.loop-number.invariant
     c.in-Some.ensures.0 c.in-Some.ensures.2 c.answer-reply.ensures.step c.answer-reply.ensures.text c.answer-reply.ensures.views
-    (rw c.in-Some.ensures.1 at (done-whole w.result c.in-Ok-written.field-0 (o.told c.loop-number.out) (o.told w.new.out) (reply_text c.in-Some.number c.answer-reply.result) c.in-Ok-written.is w.ensures.written))
-    (done-stays w.result c.in-Ok-written.field-0 (o.faults c.loop-number.out) (o.faults w.new.out) c.in-Ok-written.is w.ensures.faults) c.note.ensures.memory c.note.ensures.refusal
+    (rw c.in-Some.ensures.1 at (done-whole w.result c.in-Ok.field-0 (o.told c.loop-number.out) (o.told w.new.out) (reply_text c.in-Some.number c.answer-reply.result) c.in-Ok.is w.ensures.written))
+    (done-stays w.result c.in-Ok.field-0 (o.faults c.loop-number.out) (o.faults w.new.out) c.in-Ok.is w.ensures.faults) c.note.ensures.memory c.note.ensures.refusal
 
 pub loop-number-smaller : goal.loop-number-smaller
 loop-number-smaller g c =
@@ -35,4 +35,4 @@ loop-number-smaller g c =
     omega (arith, fewer)
 
 pub returns : goal.returns
-returns g c = play-done _ _ _ _ _ _ _ _ _ _ _ _ c.loop-number.invariant c.in_default-take_next.ensures c.status.ensures
+returns g c = play-done _ _ _ _ _ _ _ _ _ _ _ _ c.loop-number.invariant c.in_default.ensures c.status.ensures
