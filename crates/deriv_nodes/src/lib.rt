@@ -4,12 +4,12 @@
 //! its parts. To a contract it is the list of the nodes' patterns, and a node's number is its pattern's place. Each call that makes
 //! nodes leaves those that were there where they stood, and gives the number of the pattern of rng_kept's function with the same
 //! meaning; nothing of matching is proved here. A pattern of a schema becomes nodes once (`importing`), and no type, text or name
-//! class is copied after that. What opens at a node by whatever name is kept (`firsts`) and asked again with each name.
+//! class is copied after that. What opens at a node by whatever name is kept where that is little (`kept_openings`), and asked again with each name.
 #![tactic(auto)]
 
 pub mod attributes;
-pub mod firsts;
 pub mod importing;
+pub mod kept_openings;
 pub mod leaf;
 pub mod node;
 pub mod nodes;

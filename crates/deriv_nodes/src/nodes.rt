@@ -9,7 +9,7 @@ ghost use Rattle.deriv_nodes.specs.Numbers.{at, AreSingle, IsAt, Later};
 ghost use Rattle.deriv_nodes.specs.Reading.{IsData, IsInner, IsNames, class_in, whole_of};
 ghost use Rattle.deriv_nodes.specs.Seen.{HasLeafInOrder, HasPartsBelow, pattern_in};
 
-use crate::firsts::Firsts;
+use crate::kept_openings::KeptOpenings;
 use crate::leaf::Leaf;
 use crate::node::Node;
 use crate::shape::Shape;
@@ -22,12 +22,12 @@ use std::alloc::Global;
 use std::marker::Model;
 
 /// Nodes, each put together of nodes before it. To a contract they are the list of their patterns, in which none stands twice: a
-/// node's number is its pattern's place. None is taken out. What opens at nodes is kept beside them, and no contract speaks of it.
+/// node's number is its pattern's place. None is taken out. What opens at nodes is kept beside them, and no public contract speaks of it.
 #[derive(Drop)]
 pub struct Nodes {
     leaves: IndexSet<Leaf>,
     shapes: IndexSet<Shape>,
-    pub(crate) firsts: Firsts,
+    pub(crate) kept: KeptOpenings,
 }
 
 impl Model for Nodes {
@@ -35,7 +35,7 @@ impl Model for Nodes {
     ghost use Rattle.std.specs.Coded.{coded_list};
     ghost use Rattle.rng_core.specs.Patterns.{Pattern};
     ghost use Rattle.deriv_nodes.specs.Codes.{pattern_code};
-    ghost use Rattle.deriv_nodes.specs.Kept.{IsWhole};
+    ghost use Rattle.deriv_nodes.specs.Kept.{IsTableWithKept};
     ghost use Rattle.deriv_nodes.specs.Reading.{patterns_of};
 
     ghost Value = { List Pattern };
@@ -44,7 +44,7 @@ impl Model for Nodes {
 
     ghost view = { λ n. patterns_of n.leaves.keys n.shapes.keys };
 
-    ghost invariant = { λ n. IsWhole n.leaves.keys n.shapes.keys n.firsts.kept.items };
+    ghost invariant = { λ n. IsTableWithKept n.leaves.keys n.shapes.keys n.kept.entries.items };
 }
 
 impl Nodes {
@@ -56,7 +56,7 @@ impl Nodes {
         Nodes {
             leaves: IndexSet::new(alloc),
             shapes: IndexSet::new(alloc),
-            firsts: Firsts::new(alloc),
+            kept: KeptOpenings::new(alloc),
         }
     }
 

@@ -48,6 +48,9 @@ pub enum Wanted<'a> {
     Named(&'a [Def], &'a Name),
 }
 
+/// How many groups and repetitions may lie around an opening that is kept, as in `(a | b)*, c*`.
+const MOST_AROUND: usize = 4;
+
 /// The place of the opening of a number, or how many openings there are.
 fn place_of(number: u32, opened: &[Open]) -> usize
     ensures place { result ≡ position_or_len (λ one. number == one.number) opened.now }
@@ -64,7 +67,7 @@ fn some_has(number: u32, opened: &[Open]) -> bool
 }
 
 /// Whether there is a definition of the number, and it has the name.
-fn is_of(defs: &[Def], name: &Name, number: u32) -> bool
+fn is_named(defs: &[Def], name: &Name, number: u32) -> bool
     ensures { result ≡ is_named (map definition_of defs.now) name.now number }
 {
     match defs.get(number as usize) {
@@ -80,7 +83,7 @@ fn named(alloc: Global, defs: &[Def], name: &Name, opened: &[Open]) -> Result<Ve
     let mut made = Vec::new(alloc);
     let mut left = opened;
     while let Some((one, rest)) = left.split_first() {
-        if is_of(defs, name, one.number) {
+        if is_named(defs, name, one.number) {
             made.push(*one)?;
         }
         left = rest;
@@ -320,23 +323,28 @@ impl Nodes {
         }
     }
 
-    /// Whether an interleave stands in the node outside of attributes: then each opening leaves a whole that was nowhere before.
-    fn has_interleave(&self, p: usize) -> bool
+    /// Whether the openings of a node leave few wholes: none stands in an interleave, and none in more than a few groups and
+    /// repetitions, this many of which lie around it. Else each opening would make many nodes of its own.
+    fn leave_few(&self, p: usize, around: usize) -> bool
         requires { p < length self.now }
     {
         match self.node(p) {
-            Node::Interleave(_, _) => true,
-            Node::OneOrMore(body) => self.has_interleave(body),
-            Node::Choice(a, b) => self.has_interleave(a) || self.has_interleave(b),
-            Node::Group(a, b) => self.has_interleave(a) || self.has_interleave(b),
-            Node::NotAllowed => false,
-            Node::Empty => false,
-            Node::Text => false,
-            Node::Typed(_, _) => false,
-            Node::Value(_, _) => false,
-            Node::List(_) => false,
-            Node::Attribute(_, _) => false,
-            Node::Ref(_) => false,
+            Node::Interleave(_, _) => false,
+            Node::OneOrMore(body) => around < MOST_AROUND && self.leave_few(body, around + 1),
+            Node::Choice(a, b) => self.leave_few(a, around) && self.leave_few(b, around),
+            Node::Group(a, b) => {
+                around < MOST_AROUND
+                    && self.leave_few(a, around + 1)
+                    && (!self.nullable(a) || self.leave_few(b, around))
+            }
+            Node::NotAllowed => true,
+            Node::Empty => true,
+            Node::Text => true,
+            Node::Typed(_, _) => true,
+            Node::Value(_, _) => true,
+            Node::List(_) => true,
+            Node::Attribute(_, _) => true,
+            Node::Ref(_) => true,
         }
     }
 
@@ -344,14 +352,22 @@ impl Nodes {
     fn kept_openings(&self, p: usize) -> Option<&[Open]>
         ensures { IfSome result (λ opened. IsKept self.now p opened.now) }
     {
-        self.firsts.of(p)
+        self.kept.of(p)
     }
 
-    /// Whether those of a node are to be kept: there is room, and they are made of few nodes.
-    fn are_to_be_kept(&self, p: usize) -> bool
-        requires { p < length self.now }
+    /// Whether those of a node are to be kept: there is room, and they leave few nodes.
+    fn are_to_be_kept(&mut self, p: usize) -> bool
+        requires { p < length self.old }
+        ensures { self.new ≡ self.old }
     {
-        !self.firsts.are_many() && !self.has_interleave(p)
+        if self.kept.are_many() || self.kept.is_passed_over(p) {
+            return false;
+        }
+        if self.leave_few(p, 0) {
+            return true;
+        }
+        self.kept.pass_over(p);
+        false
     }
 
     /// The definitions that a name opens, each number once. What opens by whatever name is kept: states differ by what lies around
@@ -376,7 +392,7 @@ impl Nodes {
         }
         let opened = self.opened(alloc, Wanted::Any, p)?;
         let found = named(alloc, defs, name, opened.as_slice())?;
-        self.firsts.keep(p, opened)?;
+        self.kept.keep(p, opened)?;
         Ok(found)
     }
 

@@ -5,5 +5,5 @@ use Rattle.deriv_nodes.proofs.nodes.Nodes.kept_openings.Goals as goal
 
 pub returns : goal.returns
 returns c =
-    let P : List Pattern → Type 0 = λ ps. AreKept ps c.self.inside.firsts.kept.items in
+    let P : List Pattern → Type 0 = λ ps. AreKept ps c.self.inside.kept.entries.items in
     c.of.ensures c.args.self.now (subst P c.self.view_is c.self.invariant.kept)

@@ -19,7 +19,7 @@ invariant_of-self c =
         single_leaves = c.self.invariant.table.single_leaves;
         leaves_in_order = c.self.invariant.table.leaves_in_order;
       };
-      kept = kept_later _ c.args.self.now (patterns_of inside.leaves.keys c.keep.new.set.keys) inside.firsts.kept.items c.self.view_is
+      kept = kept_later _ c.args.self.now (patterns_of inside.leaves.keys c.keep.new.set.keys) inside.kept.entries.items c.self.view_is
           (put_later inside.leaves.keys inside.shapes.keys c.keep.new.set.keys c.args.self.now c.args.shape c.self.view_is c.keep.ensures.kept)
           c.self.invariant.kept;
     }

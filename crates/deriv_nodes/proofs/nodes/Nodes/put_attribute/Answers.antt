@@ -17,7 +17,7 @@ invariant_of-self c =
     record {
       table = table_kept inside.leaves.keys leaves inside.shapes.keys leaf c.self.invariant.table c.keep.ensures.kept c.keep.ensures.single
           (names_in_order (pattern_of c.args.leaf) c.requires.names);
-      kept = kept_later _ c.args.self.now (patterns_of leaves inside.shapes.keys) inside.firsts.kept.items c.self.view_is
+      kept = kept_later _ c.args.self.now (patterns_of leaves inside.shapes.keys) inside.kept.entries.items c.self.view_is
           (leaf_later inside.leaves.keys leaves inside.shapes.keys leaf c.args.self.now c.self.view_is c.self.invariant.table.ordered
           c.keep.ensures.kept) c.self.invariant.kept;
     }
@@ -44,7 +44,7 @@ invariant_of-self-2 c =
     record {
       table = table_put leaves inside.shapes.keys c.keep-2.new.set.keys (shape.Attribute c.in_ok-leaf.leaf c.args.body) table
           (subst IsNames (sym is) c.requires.names, below) c.keep-2.ensures.kept c.keep-2.ensures.single;
-      kept = kept_later _ c.args.self.now (patterns_of leaves c.keep-2.new.set.keys) inside.firsts.kept.items c.self.view_is
+      kept = kept_later _ c.args.self.now (patterns_of leaves c.keep-2.new.set.keys) inside.kept.entries.items c.self.view_is
           (put_later leaves inside.shapes.keys c.keep-2.new.set.keys c.args.self.now (shape.Attribute c.in_ok-leaf.leaf c.args.body) before c.keep-2.ensures.kept)
           c.self.invariant.kept;
     }
