@@ -1,4 +1,4 @@
--- What locating rules give is one thing, and where they give something no refusal holds.
+-- What locating rules give is one thing at most, and where a schema or none is located no refusal holds that has a cause in them.
 use Rattle.std.specs.Prelude.{◌≡◌, ◌⊎◌, ℕ, List, Option, Some, Result, Ok, Err}
 use Rattle.nx_base.specs.declared.locate_fault.LocateFault.{LocateFault}
 use Rattle.nx_base.specs.declared.locate_fault.LocateFault.TheVariants.{Failed, NoMemory}

@@ -25,7 +25,7 @@ use Rattle.nx_session.proofs.Validity.{errors_exact}
 use Rattle.nx_run.specs.Play.{TurnStep, Plays}
 use Rattle.nx_run.specs.Surroundings.{begun_in}
 use Rattle.nx_run.specs.Turns.{Turn, hold, line, turns_of}
-use Rattle.nx_run.specs.Validity.{PrintedNoErrorsIsValid}
+use Rattle.nx_run.specs.Validity.{PlayedNoErrorsIsValid}
 use Rattle.nx_run.proofs.InsertedTexts.{inserted_text, stripped_text, lines_are_text}
 
 -- ---- what is printed
@@ -119,8 +119,8 @@ module _ (edited_utf8 : EditedIsUtf8) where
   plays_fit old [] (answer ∷ answers) new text fit h = absurd h
   plays_fit old (turn ∷ turns) [] new text fit h = absurd h
 
-pub printed_no_errors_is_valid : EditedIsUtf8 → RawLinesAreTheLines → LinesAreOneCommand → PrintedNoErrorsIsValid
-printed_no_errors_is_valid edited_utf8 raw one asked script old text now answer number h is =
+pub played_no_errors_is_valid : EditedIsUtf8 → RawLinesAreTheLines → LinesAreOneCommand → PlayedNoErrorsIsValid
+played_no_errors_is_valid edited_utf8 raw one asked script old text now answer number h is =
     let P : List Turn → Type 0 = λ turns. AllByRecursion TurnIsText turns in
     let texts : AllByRecursion TurnIsText h.front = front_text h.front (line text ∷ h.behind) (subst P h.turns (turns_text raw asked.schema script h.is_text)) in
     let fit : IsFit now.editor = plays_fit edited_utf8 (begun_in asked.rules old) h.front h.answers now texts (new_fit asked.rules) h.played in

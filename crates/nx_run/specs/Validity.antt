@@ -1,4 +1,4 @@
--- What it says of a text that a run prints `errors: 0` for it.
+-- What it says of a text that a played line `errors` has the reply `errors: 0`.
 use Rattle.std.specs.Prelude.{◌≡◌, ◌⊎◌, ◌↔◌, ℕ, List, ◌∷◌, ◌++◌, codes, IsUtf8}
 use Rattle.nx_script.specs.Grammar.{IsLine}
 use Rattle.nx_script.specs.Printing.{reply_text}
@@ -24,9 +24,10 @@ pub record PlaysLine (asked : CommandLine) (script : List ℕ) (old : Surroundin
   pub next : World
   pub step : TurnStep now (line text) answer next
 
--- where that line is `errors`, what is printed for it is `errors: 0` exactly where the editor's text is a well-formed document, and
--- valid against the schema that is held then, if one is; or there was no memory to list the faults
-abbrev pub PrintedNoErrorsIsValid : Type 0
-PrintedNoErrorsIsValid = (asked : CommandLine) (script : List ℕ) (old : Surroundings) (text : List ℕ) (now : World) (answer : Reply) (number : ℕ) →
+-- where that line is `errors`, the text of its reply is `errors: 0` exactly where the editor's text is a well-formed document, and
+-- valid against the schema that is held then, if one is; unless there was no memory to read the line or to list the faults, and that
+-- is the reply
+abbrev pub PlayedNoErrorsIsValid : Type 0
+PlayedNoErrorsIsValid = (asked : CommandLine) (script : List ℕ) (old : Surroundings) (text : List ℕ) (now : World) (answer : Reply) (number : ℕ) →
     PlaysLine asked script old text now answer → IsLine text Errors →
     ((reply_text number answer ≡ codes "errors: 0\n") ↔ IsDocumentFor (schema_of now.editor) now.editor.text) ⊎ (answer ≡ Refused NoMemory)

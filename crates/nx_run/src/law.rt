@@ -2,7 +2,7 @@
 
 ghost use Rattle.nx_run.specs.Allowed.{AllowedRunsAreDone};
 ghost use Rattle.nx_run.specs.Run.{RunsPrintText};
-ghost use Rattle.nx_run.specs.Validity.{PrintedNoErrorsIsValid};
+ghost use Rattle.nx_run.specs.Validity.{PlayedNoErrorsIsValid};
 
 use nx_base::edit::edited_is_utf8;
 use nx_host::uri::joins_is_decided;
@@ -26,10 +26,11 @@ pub fn allowed_runs_are_done()
     joins_is_decided();
 }
 
-/// Where the play of a script comes to a line `errors`, what is printed for it is `errors: 0` exactly where the editor's text is a
-/// well-formed document, and valid against the schema that is held then, if one is; or there was no memory to list the faults.
-pub fn printed_no_errors_is_valid()
-    ensures { PrintedNoErrorsIsValid }
+/// Where the play of a script comes to a line `errors`, the text of its reply is `errors: 0` exactly where the editor's text is a
+/// well-formed document, and valid against the schema that is held then, if one is; unless there was no memory to read the line or to
+/// list the faults, and that is the reply.
+pub fn played_no_errors_is_valid()
+    ensures { PlayedNoErrorsIsValid }
 {
     edited_is_utf8();
     raw_lines_are_the_lines();

@@ -87,14 +87,15 @@ fn copied(alloc: Global, text: Option<&str>) -> Result<Option<Bytes>, NoMemory>
 }
 
 /// A new editor, which is given the URI text of rules, or none.
-fn begun(alloc: Global, rules: Option<&str>) -> Result<Session, NoMemory>
+fn new_session(alloc: Global, rules: Option<&str>) -> Result<Session, NoMemory>
     ensures { IfOk result (λ session. session.editor ≡ new_editor (option_map (λ text. text.now) rules.entry)) }
 {
     let rules = copied(alloc, rules)?;
     Session::new(alloc, rules)
 }
 
-/// Plays the turns of the script with a new editor, which the caller keeps: so no way out of the loop has an editor to drop.
+/// Plays the turns of the script with a new editor. The caller keeps it, since each way out holds the drops of all that is owned here,
+/// and those of an editor are many.
 fn play_turns<F: Files, O: Out, L: Ledger>(
     alloc: Global,
     session: &mut Session,
@@ -145,7 +146,7 @@ pub fn play<F: Files, O: Out, L: Ledger>(
         (surroundings (files_state (F.told files.new) (F.faults files.new)) (map (λ b. state b) views.new.items) steps.new)
         (out_state (O.told out.old) (O.faults out.old)) (out_state (O.told out.new) (O.faults out.new)) result }
 {
-    match begun(alloc, call.rules) {
+    match new_session(alloc, call.rules) {
         Ok(mut session) => {
             let status = play_turns(alloc, &mut session, call, script, files, out, views, steps);
             drop(session);

@@ -20,8 +20,8 @@ abbrev pub IsDocumentFor : Option Language → List ℕ → Type 0
 IsDocumentFor None text = (tree : Tree) × Document (tokens_of text) tree
 IsDocumentFor (Some schema) text = IsValidDocument schema text
 
--- between two commands, which is where the marks are right and what is held is held well, `errors` is answered by a list without a
--- fault exactly where the text is such a document; or there was no memory to answer it
+-- between two commands, where the marks are right, the caret stands at a place and a schema that is held is live and sound, `errors`
+-- is answered by a list without a fault exactly where the text is such a document; unless there was no memory, and that is the answer
 abbrev pub NoErrorsIsValid : Type 0
 NoErrorsIsValid = (session : SessionState) (files : FilesState) (views : List ViewState) (steps : ℕ) (reply : Reply) (new : World) →
     MarksAreRight session → IsWellHeld session → Step (world session.editor files views steps) command.Errors reply new →

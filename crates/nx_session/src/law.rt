@@ -39,7 +39,7 @@ pub fn allowed_lines_are_done()
 }
 
 /// Between two commands of a session, `errors` lists no fault exactly where the text is a well-formed document, and valid against the
-/// schema that is held, if one is; or there was no memory to list any.
+/// schema that is held, if one is; unless there was no memory to list any, and that is the reply.
 pub fn no_errors_is_valid()
     ensures { NoErrorsIsValid }
 {}

@@ -92,8 +92,8 @@ impl Model for Session {
     ghost invariant = { λ s. IsKept s.text s.caret s.machine.matcher s.marks.kept };
 }
 
-/// The URI of a document that was opened from nowhere.
-fn new_document(alloc: Global) -> Result<DocumentUri, NoMemory>
+/// `UNTITLED`, as the URI of a document.
+fn untitled_uri(alloc: Global) -> Result<DocumentUri, NoMemory>
     ensures { IfOk result (λ uri. uri ≡ codes "file:///work/untitled.xml") }
 {
     let printed = Vec::from_slice(alloc, UNTITLED.as_bytes())?;
@@ -108,7 +108,7 @@ impl Session {
         ensures right { IfOk result MarksAreRight }
         ensures held { IfOk result IsWellHeld }
     {
-        let document = new_document(alloc)?;
+        let document = untitled_uri(alloc)?;
         let mut machine = Recover::new(None);
         match begun(alloc, &mut machine) {
             Ok(marks) => {
@@ -125,6 +125,7 @@ impl Session {
                 Ok(session)
             }
             Err(fault) => {
+                // By a call: where a value goes out of scope, each path to its end holds the drops of all its parts.
                 drop(machine);
                 Err(fault)
             }

@@ -158,6 +158,7 @@ impl Session {
     {
         let _len = self.text.len();
         let mut machine = Recover::new(matcher);
+        // Old and new ones are dropped by calls: else each path would hold the drops of all their parts.
         match begun(self.alloc, &mut machine) {
             Ok(marks) => {
                 drop(mem::replace(&mut self.machine, machine));

@@ -1,7 +1,7 @@
 use Rattle.std.proofs.Common.{◌∙◌, codes, refl, sym, subst}
 use Rattle.std.specs.Str.{IsAscii}
 use Rattle.nx_session.proofs.Locating.{plain_ascii}
-use Rattle.nx_session.proofs.session.new_document.Goals as goal
+use Rattle.nx_session.proofs.session.untitled_uri.Goals as goal
 
 -- the URI of a document that was opened from nowhere is ASCII
 pub new-requires : goal.new-requires
