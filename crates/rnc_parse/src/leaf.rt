@@ -3,8 +3,8 @@
 ghost use Rattle.std.specs.Prelude.{◌≡◌, IfOk};
 ghost use Rattle.rnc_parse.specs.Looking.{scope_in};
 ghost use Rattle.rnc_parse.specs.Views.{pattern_of};
-ghost use Rattle.rnc_parse.specs.Reading.{Finds};
-ghost use Rattle.rnc_parse.specs.ReadingPatterns.{repeats, marked_at, leaf_at, leaf_by_word, typed_at};
+ghost use Rattle.rnc_parse.specs.Reading.{Finds, first};
+ghost use Rattle.rnc_parse.specs.ReadingPatterns.{repeats, repeat_of, marked_by, marked_at, leaf_at, leaf_by_word, typed_at};
 
 use crate::annotation::follow;
 use crate::cursor::Cursor;
@@ -30,6 +30,26 @@ fn repeated(alloc: Global, repeat: Repeat, body: Pattern) -> Result<Pattern, NoM
     }
 }
 
+/// A primary, behind which what follows it was read, with the mark behind it, if there is one.
+fn with_mark(alloc: Global, primary: Pattern, cursor: &mut Cursor<'_>) -> Result<Pattern, Stop>
+    ensures { Finds pattern_of cursor.new result (marked_by (pattern_of primary) cursor.old (repeat_of (first cursor.old))) }
+{
+    match repeat_of(cursor.first()) {
+        None => Ok(primary),
+        Some(repeat) => {
+            cursor.advance();
+            match follow(alloc, cursor) {
+                Ok(()) => Ok(repeated(alloc, repeat, primary)?),
+                Err(stop) => {
+                    // The checker unfolds a drop that no call makes.
+                    drop(primary);
+                    Err(stop)
+                }
+            }
+        }
+    }
+}
+
 /// A primary with what follows it and the mark behind it, if there is one.
 #[tactic(auto, unfolding(crate::specs::ReadingPatterns::marked_at))]
 pub(crate) fn marked(
@@ -39,13 +59,12 @@ pub(crate) fn marked(
 ) -> Result<Pattern, Stop>
     ensures { Finds pattern_of cursor.new result (marked_at (pattern_of primary) cursor.old) }
 {
-    follow(alloc, cursor)?;
-    match repeat_of(cursor.first()) {
-        None => Ok(primary),
-        Some(repeat) => {
-            cursor.advance();
-            follow(alloc, cursor)?;
-            Ok(repeated(alloc, repeat, primary)?)
+    match follow(alloc, cursor) {
+        Ok(()) => with_mark(alloc, primary, cursor),
+        Err(stop) => {
+            // The checker unfolds a drop that no call makes.
+            drop(primary);
+            Err(stop)
         }
     }
 }

@@ -2,15 +2,21 @@
 //!
 //! The functions here call one another, and go deeper only through a bracket: `left` is how many may still be opened.
 //! Whatever brackets don't bound is read by a loop.
+//!
+//! What is left of a pattern where reading stops is dropped by a call, since the checker unfolds each drop that no call makes.
 
-ghost use Rattle.std.specs.Prelude.{◌≡◌, Some, option_map, OnOk};
-ghost use Rattle.rnc_lex.specs.declared.token.Symbol.TheVariants.{LeftBrace, RightBrace};
+ghost use Rattle.std.specs.Prelude.{◌≡◌, IfOk, if◌then◌else◌, [], Some, option_map, OnOk};
+ghost use Rattle.rnc_lex.specs.declared.token.Symbol.TheVariants.{LeftBrace, RightBrace, Minus};
 ghost use Rattle.rnc_parse.specs.Looking.{scope_in};
-ghost use Rattle.rnc_parse.specs.Views.{pattern_of, item_of, items_in, replacement_of, replacements_in};
-ghost use Rattle.rnc_parse.specs.Written.{grammar, div, include, div_anew};
-ghost use Rattle.rnc_parse.specs.Reading.{Finds, first, behind};
+ghost use Rattle.rnc_parse.specs.Views.{class_of, pattern_of, item_of, items_in, replacement_of, replacements_in};
+ghost use Rattle.rnc_parse.specs.Written.{element, attribute, typed, typed_but, grammar, div, include, div_anew};
+ghost use Rattle.rnc_parse.specs.Reading.{Finds, read, ◌>>=◌ as and_then, first, behind, stands};
+ghost use Rattle.rnc_parse.specs.ReadingAnnotations.{follow_at};
+ghost use Rattle.rnc_parse.specs.ReadingClasses.{class_at};
+ghost use Rattle.rnc_parse.specs.declared.surface.Namespace.TheVariants.{Uri};
 ghost use Rattle.rnc_parse.specs.ReadingPatterns.{defined_of, combine_of, begins_annotation, add_item, add_replacement, joined_all};
-ghost use Rattle.rnc_parse.specs.ReadingPatterns.{inside_at, between, pattern_within, data_at, behind_primary_at, joined_by, particle_at};
+ghost use Rattle.rnc_parse.specs.ReadingPatterns.{inside_at, between, pattern_within, data_at, behind_primary_at, joined_by};
+ghost use Rattle.rnc_parse.specs.ReadingPatterns.{named_at, opened_primary_at, particle_at};
 ghost use Rattle.rnc_parse.specs.ReadingPatterns.{primary_at, items_within, item_at, definition_at, include_at, replacements_within};
 ghost use Rattle.rnc_parse.specs.ReadingPatterns.{replacement_at};
 
@@ -21,10 +27,14 @@ use crate::part::{begins_data, params};
 use crate::reader::Reader;
 use crate::sign::{Sign, sign_of, sign_symbol};
 use crate::stop::Stop;
-use crate::surface::{Combine, Defined, FileReference, Item, Namespace, Pattern, Replacement};
+use crate::surface::{
+    Combine, Defined, FileReference, Item, NameClass, Namespace, Params, Pattern, Replacement,
+    TypeName,
+};
 use nx_base::memory::NoMemory;
 use nx_base::sequence::{Bytes, TryCopy};
 use rnc_lex::token::{Keyword, Lexeme, Symbol};
+use std::alloc::Global;
 
 /// What a definition defines.
 fn defined(cursor: &mut Cursor<'_>) -> Result<Defined, Stop>
@@ -136,6 +146,51 @@ fn div_anew_of(replacements: Vec<Replacement>) -> Replacement
     Replacement::Div(replacements)
 }
 
+/// A datatype without what a pattern takes away.
+fn data_except(
+    alloc: Global,
+    name: TypeName,
+    params: Params,
+    except: Pattern,
+) -> Result<Pattern, NoMemory>
+    ensures { IfOk result (λ p. pattern_of p ≡ typed_but name params (pattern_of except)) }
+{
+    match boxed(alloc, except) {
+        Ok(except) => Ok(Pattern::DataExcept(name, params, except)),
+        Err(no_memory) => {
+            drop((name, params));
+            Err(no_memory)
+        }
+    }
+}
+
+/// A datatype without what the pattern takes away, and what follows it.
+fn behind_except(
+    alloc: Global,
+    name: TypeName,
+    params: Params,
+    except: Pattern,
+    cursor: &mut Cursor<'_>,
+) -> Result<Pattern, Stop>
+    ensures { Finds pattern_of cursor.new result
+        (and_then (follow_at cursor.old) (λ _ rest. read (typed_but name params (pattern_of except)) rest)) }
+{
+    match follow(alloc, cursor) {
+        Ok(()) => Ok(data_except(alloc, name, params, except)?),
+        Err(stop) => {
+            drop((name, params, except));
+            Err(stop)
+        }
+    }
+}
+
+/// The pattern in a box.
+fn boxed(alloc: Global, pattern: Pattern) -> Result<Box<Pattern>, NoMemory>
+    ensures { IfOk result (λ boxed. boxed.value ≡ pattern) }
+{
+    Ok(Box::new(alloc, pattern)?)
+}
+
 impl Reader {
     /// A pattern.
     #[tactic(auto, unfolding(crate::specs::ReadingPatterns::pattern_within))]
@@ -153,22 +208,61 @@ impl Reader {
     }
 
     /// A pattern that begins with a type and no literal.
-    #[tactic(auto, unfolding(crate::specs::ReadingPatterns::data_at, crate::specs::ReadingPatterns::opened_primary_at))]
+    #[tactic(auto, unfolding(crate::specs::ReadingPatterns::data_at))]
     #[cycle(pattern)]
     fn data(&self, left: usize, cursor: &mut Cursor<'_>) -> Result<Pattern, Stop>
         ensures { Finds pattern_of cursor.new result
             (data_at (scope_in self.now.look_ups) left (inside_at (scope_in self.now.look_ups) left) cursor.old) }
     {
         let name = self.type_name(cursor)?;
-        let params = params(self.alloc, cursor)?;
+        match params(self.alloc, cursor) {
+            Ok(params) => self.behind_type(name, params, left, cursor),
+            Err(stop) => {
+                drop(name);
+                Err(stop)
+            }
+        }
+    }
+
+    /// A pattern behind its type and params.
+    #[cycle(pattern)]
+    fn behind_type(
+        &self,
+        name: TypeName,
+        params: Params,
+        left: usize,
+        cursor: &mut Cursor<'_>,
+    ) -> Result<Pattern, Stop>
+        ensures { Finds pattern_of cursor.new result
+            (if stands Minus cursor.old
+            then and_then
+            (opened_primary_at (scope_in self.now.look_ups) left (inside_at (scope_in self.now.look_ups) left) (behind cursor.old))
+            (λ p followed. and_then (follow_at followed) (λ _ rest. read (typed_but name params p) rest))
+            else behind_primary_at (scope_in self.now.look_ups) left (inside_at (scope_in self.now.look_ups) left)
+            (typed name params) cursor.old) }
+    {
         if !cursor.stands(Symbol::Minus) {
             return self.behind_primary(Pattern::Data(name, params), left, cursor);
         }
         cursor.advance();
+        match self.opened_primary(left, cursor) {
+            Ok(except) => behind_except(self.alloc, name, params, except, cursor),
+            Err(stop) => {
+                drop((name, params));
+                Err(stop)
+            }
+        }
+    }
+
+    /// A primary with a group before it.
+    #[tactic(auto, unfolding(crate::specs::ReadingPatterns::opened_primary_at))]
+    #[cycle(pattern)]
+    fn opened_primary(&self, left: usize, cursor: &mut Cursor<'_>) -> Result<Pattern, Stop>
+        ensures { Finds pattern_of cursor.new result
+            (opened_primary_at (scope_in self.now.look_ups) left (inside_at (scope_in self.now.look_ups) left) cursor.old) }
+    {
         opening(self.alloc, cursor)?;
-        let except = self.primary(left, cursor)?;
-        follow(self.alloc, cursor)?;
-        Ok(Pattern::DataExcept(name, params, Box::new(self.alloc, except)?))
+        self.primary(left, cursor)
     }
 
     /// A pattern behind its first primary.
@@ -215,14 +309,13 @@ impl Reader {
     }
 
     /// A particle.
-    #[tactic(auto, unfolding(crate::specs::ReadingPatterns::particle_at, crate::specs::ReadingPatterns::opened_primary_at))]
+    #[tactic(auto, unfolding(crate::specs::ReadingPatterns::particle_at))]
     #[cycle(pattern)]
     fn particle(&self, left: usize, cursor: &mut Cursor<'_>) -> Result<Pattern, Stop>
         ensures { Finds pattern_of cursor.new result
             (particle_at (scope_in self.now.look_ups) left (inside_at (scope_in self.now.look_ups) left) cursor.old) }
     {
-        opening(self.alloc, cursor)?;
-        let primary = self.primary(left, cursor)?;
+        let primary = self.opened_primary(left, cursor)?;
         marked(self.alloc, primary, cursor)
     }
 
@@ -236,27 +329,19 @@ impl Reader {
         match cursor.first() {
             Some(Lexeme::Keyword(Keyword::Element)) => {
                 cursor.advance();
-                let unprefixed = self.look_ups.unprefixed()?;
-                let class = self.class(&unprefixed, left, cursor)?;
-                let content = self.enclosed(Symbol::LeftBrace, Symbol::RightBrace, left, cursor)?;
-                Ok(Pattern::Element(class, Box::new(self.alloc, content)?))
+                self.element(left, cursor)
             }
             Some(Lexeme::Keyword(Keyword::Attribute)) => {
                 cursor.advance();
-                let unprefixed = Namespace::Uri(Bytes::new(self.alloc));
-                let class = self.class(&unprefixed, left, cursor)?;
-                let value = self.enclosed(Symbol::LeftBrace, Symbol::RightBrace, left, cursor)?;
-                Ok(Pattern::Attribute(class, Box::new(self.alloc, value)?))
+                self.attribute(left, cursor)
             }
             Some(Lexeme::Keyword(Keyword::List)) => {
                 cursor.advance();
-                let body = self.enclosed(Symbol::LeftBrace, Symbol::RightBrace, left, cursor)?;
-                Ok(Pattern::List(Box::new(self.alloc, body)?))
+                Ok(Pattern::List(self.boxed_body(left, cursor)?))
             }
             Some(Lexeme::Keyword(Keyword::Mixed)) => {
                 cursor.advance();
-                let body = self.enclosed(Symbol::LeftBrace, Symbol::RightBrace, left, cursor)?;
-                Ok(Pattern::Mixed(Box::new(self.alloc, body)?))
+                Ok(Pattern::Mixed(self.boxed_body(left, cursor)?))
             }
             Some(Lexeme::Keyword(Keyword::Grammar)) => {
                 cursor.advance();
@@ -272,6 +357,71 @@ impl Reader {
             }
             _ => self.leaf(cursor),
         }
+    }
+
+    /// The class of an element.
+    fn element_class(&self, left: usize, cursor: &mut Cursor<'_>) -> Result<NameClass, Stop>
+        ensures { Finds class_of cursor.new result
+            (class_at (scope_in self.now.look_ups) (scope_in self.now.look_ups).unprefixed left cursor.old) }
+    {
+        let unprefixed = self.look_ups.unprefixed()?;
+        let class = self.class(&unprefixed, left, cursor);
+        drop(unprefixed);
+        class
+    }
+
+    /// The class of an attribute.
+    fn attribute_class(&self, left: usize, cursor: &mut Cursor<'_>) -> Result<NameClass, Stop>
+        ensures { Finds class_of cursor.new result (class_at (scope_in self.now.look_ups) (Uri []) left cursor.old) }
+    {
+        let unprefixed = Namespace::Uri(Bytes::new(self.alloc));
+        let class = self.class(&unprefixed, left, cursor);
+        drop(unprefixed);
+        class
+    }
+
+    /// An element, behind its word.
+    #[cycle(pattern)]
+    fn element(&self, left: usize, cursor: &mut Cursor<'_>) -> Result<Pattern, Stop>
+        ensures { Finds pattern_of cursor.new result
+            (named_at (scope_in self.now.look_ups) left (inside_at (scope_in self.now.look_ups) left)
+            (scope_in self.now.look_ups).unprefixed element cursor.old) }
+    {
+        let class = self.element_class(left, cursor)?;
+        match self.boxed_body(left, cursor) {
+            Ok(content) => Ok(Pattern::Element(class, content)),
+            Err(stop) => {
+                drop(class);
+                Err(stop)
+            }
+        }
+    }
+
+    /// An attribute, behind its word.
+    #[cycle(pattern)]
+    fn attribute(&self, left: usize, cursor: &mut Cursor<'_>) -> Result<Pattern, Stop>
+        ensures { Finds pattern_of cursor.new result
+            (named_at (scope_in self.now.look_ups) left (inside_at (scope_in self.now.look_ups) left)
+            (Uri []) attribute cursor.old) }
+    {
+        let class = self.attribute_class(left, cursor)?;
+        match self.boxed_body(left, cursor) {
+            Ok(value) => Ok(Pattern::Attribute(class, value)),
+            Err(stop) => {
+                drop(class);
+                Err(stop)
+            }
+        }
+    }
+
+    /// A pattern in braces.
+    #[cycle(pattern)]
+    fn boxed_body(&self, left: usize, cursor: &mut Cursor<'_>) -> Result<Box<Pattern>, Stop>
+        ensures { Finds (λ body. pattern_of body.value) cursor.new result
+            (between LeftBrace RightBrace (inside_at (scope_in self.now.look_ups) left).pattern cursor.old) }
+    {
+        let body = self.enclosed(Symbol::LeftBrace, Symbol::RightBrace, left, cursor)?;
+        Ok(Box::new(self.alloc, body)?)
     }
 
     /// A pattern between two brackets.
@@ -292,8 +442,13 @@ impl Reader {
             return Err(Stop::Syntax);
         }
         let body = self.pattern(left - 1, cursor)?;
-        cursor.expect(closing)?;
-        Ok(body)
+        match cursor.expect(closing) {
+            Ok(()) => Ok(body),
+            Err(stop) => {
+                drop(body);
+                Err(stop)
+            }
+        }
     }
 
     /// Items in braces.

@@ -6,34 +6,34 @@ use Rattle.rnc_parse.proofs.PatternLoops.{Keeps, particles_loop, items_loop, rep
 use Rattle.rnc_parse.proofs.reader.Reader.+pattern.Given as goal
 
 abbrev pub decreases-items : goal.decreases-items
-decreases-items l = l.left * 16 + 12
+decreases-items l = l.left * 16 + 13
 
 abbrev pub decreases-replacements : goal.decreases-replacements
-decreases-replacements l = l.left * 16 + 12
+decreases-replacements l = l.left * 16 + 13
 
 abbrev pub decreases-item : goal.decreases-item
-decreases-item l = l.left * 16 + 11
+decreases-item l = l.left * 16 + 12
 
 abbrev pub decreases-replacement : goal.decreases-replacement
-decreases-replacement l = l.left * 16 + 11
+decreases-replacement l = l.left * 16 + 12
 
 abbrev pub decreases-include : goal.decreases-include
-decreases-include l = l.left * 16 + 10
+decreases-include l = l.left * 16 + 11
 
 abbrev pub decreases-definition : goal.decreases-definition
-decreases-definition l = l.left * 16 + 9
+decreases-definition l = l.left * 16 + 11
 
 abbrev pub decreases-pattern : goal.decreases-pattern
-decreases-pattern l = l.left * 16 + 8
+decreases-pattern l = l.left * 16 + 10
 
 abbrev pub decreases-data : goal.decreases-data
-decreases-data l = l.left * 16 + 7
+decreases-data l = l.left * 16 + 9
 
 abbrev pub decreases-behind_primary : goal.decreases-behind_primary
-decreases-behind_primary l = l.left * 16 + 6
+decreases-behind_primary l = l.left * 16 + 7
 
 abbrev pub decreases-particles : goal.decreases-particles
-decreases-particles l = l.left * 16 + 5
+decreases-particles l = l.left * 16 + 6
 
 abbrev pub decreases-primary : goal.decreases-primary
 decreases-primary l = l.left * 16 + 3
@@ -66,4 +66,19 @@ abbrev pub decreases-replacements-replacements : goal.decreases-replacements-rep
 decreases-replacements-replacements l = length l.cursor
 
 abbrev pub decreases-particle : goal.decreases-particle
-decreases-particle l = l.left * 16 + 4
+decreases-particle l = l.left * 16 + 5
+
+abbrev pub decreases-behind_type : goal.decreases-behind_type
+decreases-behind_type l = l.left * 16 + 8
+
+abbrev pub decreases-opened_primary : goal.decreases-opened_primary
+decreases-opened_primary l = l.left * 16 + 4
+
+abbrev pub decreases-element : goal.decreases-element
+decreases-element l = l.left * 16 + 2
+
+abbrev pub decreases-attribute : goal.decreases-attribute
+decreases-attribute l = l.left * 16 + 2
+
+abbrev pub decreases-boxed_body : goal.decreases-boxed_body
+decreases-boxed_body l = l.left * 16 + 1
