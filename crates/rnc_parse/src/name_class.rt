@@ -1,4 +1,6 @@
 //! Name classes.
+//!
+//! What is left of a class where reading stops is dropped by a call, since the checker unfolds each drop that no call makes.
 
 ghost use Rattle.std.specs.Prelude.{◌≡◌, option_copied};
 ghost use Rattle.rnc_parse.specs.Looking.{scope_in};
@@ -87,8 +89,16 @@ impl Reader {
     {
         let class = self.wildcard(cursor)?;
         cursor.advance();
-        let except = self.annotated_class(unprefixed, left, cursor)?;
-        Ok(NameClass::Except(Box::new(self.alloc, class)?, Box::new(self.alloc, except)?))
+        match self.annotated_class(unprefixed, left, cursor) {
+            Ok(except) => Ok(NameClass::Except(
+                Box::new(self.alloc, class)?,
+                Box::new(self.alloc, except)?,
+            )),
+            Err(stop) => {
+                drop(class);
+                Err(stop)
+            }
+        }
     }
 
     /// Classes with `|` between them.
@@ -150,8 +160,13 @@ impl Reader {
     {
         opening(self.alloc, cursor)?;
         let class = self.one_class(unprefixed, left, cursor)?;
-        follow(self.alloc, cursor)?;
-        Ok(class)
+        match follow(self.alloc, cursor) {
+            Ok(()) => Ok(class),
+            Err(stop) => {
+                drop(class);
+                Err(stop)
+            }
+        }
     }
 
     /// One class.
@@ -207,7 +222,12 @@ impl Reader {
             return Err(Stop::Syntax);
         }
         let class = self.class(unprefixed, left - 1, cursor)?;
-        cursor.expect(Symbol::RightParenthesis)?;
-        Ok(class)
+        match cursor.expect(Symbol::RightParenthesis) {
+            Ok(()) => Ok(class),
+            Err(stop) => {
+                drop(class);
+                Err(stop)
+            }
+        }
     }
 }
