@@ -1,6 +1,6 @@
 //! Files fetched and read: the first one, and all that are reached from it, depth first in the order of the references.
 
-ghost use Rattle.std.specs.Prelude.{◌≡◌, ◌∷◌, List, ℕ, reverse, Err, IfOk, IsUtf8};
+ghost use Rattle.std.specs.Prelude.{◌≡◌, ◌∷◌, ◌++◌, [], List, ℕ, reverse, Err, IfOk, IsUtf8};
 ghost use Rattle.std.specs.List.{list_any};
 ghost use Rattle.std.specs.Str.{bytes_eq};
 ghost use Rattle.rng_simplify.specs.declared.load.Link.{Link as TheLink};
@@ -188,20 +188,40 @@ impl Loader {
         ensures map { F.told files.new ≡ F.told files.old }
     {
         let surface = file_at(self.alloc, &uri, files)?;
-        self.add(uri, inherited, surface)?;
+        self.add(uri, Loaded { inherited, surface })?;
         Ok(())
     }
 
     /// Adds a file that was read.
-    fn add(&mut self, uri: Bytes, inherited: Bytes, surface: Surface) -> Result<(), NoMemory>
+    fn add(&mut self, uri: Bytes, file: Loaded) -> Result<(), NoMemory>
         requires { AreOpened self.old.opened (reverse self.old.chain.items) }
         ensures known { IfOk result (λ _. AreOpened self.new.opened (reverse self.new.chain.items)) }
-        ensures added { IfOk result (λ _. IsAdded uri inherited surface
+        ensures added { IfOk result (λ _. IsAdded uri file.inherited file.surface
             self.old.chain.items self.new.chain.items self.old.loaded.items self.new.loaded.items) }
     {
-        let waiting = mentions_of(self.alloc, &inherited, &surface)?;
+        match self.lead_on(uri, &file) {
+            Ok(()) => {
+                self.loaded.push(file)?;
+                Ok(())
+            }
+            // The checker unfolds a drop that no call makes, down to each part of the file.
+            Err(fault) => {
+                drop(file);
+                Err(fault)
+            }
+        }
+    }
+
+    /// Leads the chain on to this file, of which nothing that it mentions is read yet.
+    fn lead_on(&mut self, uri: Bytes, file: &Loaded) -> Result<(), NoMemory>
+        requires { AreOpened self.old.opened (reverse self.old.chain.items) }
+        ensures known { IfOk result (λ _. AreOpened self.new.opened (reverse self.new.chain.items)) }
+        ensures added { IfOk result (λ _. IsAdded uri file.now.inherited file.now.surface
+            self.old.chain.items self.new.chain.items self.old.loaded.items (self.old.loaded.items ++ file.now ∷ [])) }
+        ensures loaded { self.new.loaded ≡ self.old.loaded }
+    {
+        let waiting = mentions_of(self.alloc, &file.inherited, &file.surface)?;
         self.opened.add_named(&uri, ())?;
-        self.loaded.push(Loaded { inherited, surface })?;
         self.chain.push(Link { uri, waiting })?;
         Ok(())
     }
