@@ -3,7 +3,7 @@
 ghost use Rattle.std.specs.Prelude.{◌≡◌, map, option_map, IfOk, true};
 ghost use Rattle.clap.specs.Matches.{found_of};
 ghost use Rattle.clap.specs.Walk.{rows_of};
-ghost use Rattle.clap.specs.Simple.{matches_of};
+ghost use Rattle.clap.specs.Simple.{app_of, matches_of};
 ghost use Rattle.clap.specs.Takes.{takes};
 ghost use Rattle.nx_words.specs.Clap.{nxml};
 ghost use Rattle.nx_words.specs.Words.{command_line};
@@ -48,14 +48,7 @@ fn match_words<'a>(alloc: Global, words: &'a [&'a str]) -> Result<ArgMatches<'a>
     requires { takes nxml (map (λ word. word.now) words.now) ≡ true }
     ensures { IfOk result (λ m. rows_of (found_of m) ≡ matches_of nxml (map (λ word. word.now) words.entry.now)) }
 {
-    let schema = Arg::new(alloc, "schema").long("schema");
-    let rules = Arg::new(alloc, "rules").long("rules");
-    let script = Arg::new(alloc, "script").required(true);
-    let command = Command::new(alloc, "nxml")
-        .no_binary_name(true)
-        .arg(schema)?
-        .arg(rules)?
-        .arg(script)?;
+    let command = command(alloc)?;
     match command.try_get_matches_from(words) {
         Ok(matches) => Ok(matches),
         Err(error) => match error.kind() {
@@ -63,4 +56,16 @@ fn match_words<'a>(alloc: Global, words: &'a [&'a str]) -> Result<ArgMatches<'a>
             _ => unreachable!(),
         },
     }
+}
+
+/// The program's command for clap.
+fn command<'a>(alloc: Global) -> Result<Command<'a>, NoMemory>
+    ensures { IfOk result (λ command. app_of command ≡ nxml) }
+{
+    let command = Command::new(alloc, "nxml")
+        .no_binary_name(true)
+        .arg(Arg::new(alloc, "schema").long("schema"))?
+        .arg(Arg::new(alloc, "rules").long("rules"))?
+        .arg(Arg::new(alloc, "script").required(true))?;
+    Ok(command)
 }

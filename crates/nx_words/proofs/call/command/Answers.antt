@@ -1,0 +1,15 @@
+use Rattle.std.proofs.Common.{rules, ap, ap₂, true, ◌≡◌, ◌∙◌}
+use Rattle.clap.specs.Walk.{rule_of}
+use Rattle.clap.specs.Simple.{app_of_fields, with_rule, on_top}
+use Rattle.nx_words.specs.Clap.{nxml, schema_rule, rules_rule, script_rule}
+use Rattle.nx_words.proofs.call.command.Goals as goal
+
+pub returns : goal.returns
+unfolding nxml
+returns c =
+    let schema_is : rule_of c.long.result ≡ schema_rule = search rules in
+    let rules_is : rule_of c.long-2.result ≡ rules_rule = search rules in
+    let script_is : rule_of c.required.result ≡ script_rule = search rules in
+    let start_is = ap app_of_fields c.no_binary_name.ensures ∙ ap (on_top (λ top. record top { no_binary_name = true })) c.new.ensures.app in
+    c.in_ok-command.ensures.shape (search rules) ∙ ap₂ with_rule (c.in_ok-arg-2.ensures.shape (search rules) ∙ ap₂ with_rule
+    (c.in_ok-arg.ensures.shape (search rules) ∙ ap₂ with_rule start_is schema_is) rules_is) script_is
