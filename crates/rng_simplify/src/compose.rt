@@ -26,7 +26,8 @@ use crate::stop::Stop;
 use nx_base::cause::Cause;
 use nx_base::sequence::Bytes;
 use rnc_parse::surface::{
-    Combine, Defined, Item, NameClass as WrittenClass, Pattern, Replacement, Surface,
+    Combine, Defined, Item, NameClass as WrittenClass, Params, Pattern, Replacement, Surface,
+    TypeName,
 };
 use std::alloc::Global;
 
@@ -85,6 +86,7 @@ fn fault_of(stop: Stop) -> SchemaFault
     }
 }
 
+// A value that a refusal leaves over is dropped by a call: a drop that no call makes, the checker unfolds down to each part.
 impl Composer {
     /// A further node, by its number.
     fn node(&mut self, node: Node) -> Result<NodeNumber, Stop>
@@ -230,26 +232,21 @@ impl Composer {
                 let body = self.pattern(inherited, Box::into_inner(body))?;
                 self.node(Node::List(body))
             }
-            Pattern::Mixed(body) => {
-                let text = self.node(Node::Text)?;
-                let body = self.pattern(inherited, Box::into_inner(body))?;
-                self.node(Node::Joined(Sign::Interleave, text, body))
-            }
+            Pattern::Mixed(body) => self.mixed(inherited, Box::into_inner(body)),
             Pattern::Ref(name) => self.node(Node::Ref(name)),
             Pattern::ParentRef(name) => self.node(Node::ParentRef(name)),
             Pattern::Empty => self.node(Node::Empty),
             Pattern::Text => self.node(Node::Text),
             Pattern::NotAllowed => self.node(Node::NotAllowed),
             Pattern::Value(name, text) => self.node(Node::Value(name, text)),
-            Pattern::Data(name, params) => {
-                let except = self.node(Node::NotAllowed)?;
-                self.node(Node::Typed(name, params, except))
-            }
+            Pattern::Data(name, params) => self.data(name, params),
             Pattern::DataExcept(name, params, except) => {
-                let except = self.pattern(inherited, Box::into_inner(except))?;
-                self.node(Node::Typed(name, params, except))
+                self.data_except(inherited, Box::into_inner(except), name, params)
             }
-            Pattern::External(_) => self.mentioned(),
+            Pattern::External(reference) => {
+                drop(reference);
+                self.mentioned()
+            }
             Pattern::Grammar(items) => self.grammar(inherited, items),
             Pattern::Optional(body) => {
                 let body = self.pattern(inherited, Box::into_inner(body))?;
@@ -280,9 +277,16 @@ impl Composer {
         ensures { Makes (stock_of self.new) (λ i. i)
             (make inherited.now (written.element (written_class_of class) (pattern_of content)) (stock_of self.old)) result }
     {
-        let class = class_in(self.alloc, inherited, class)?;
-        let content = self.pattern(inherited, content)?;
-        self.node(Node::Element(class, content))
+        match self.pattern(inherited, content) {
+            Ok(content) => {
+                let class = class_in(self.alloc, inherited, class)?;
+                self.node(Node::Element(class, content))
+            }
+            Err(stop) => {
+                drop(class);
+                Err(stop)
+            }
+        }
     }
 
     #[cycle(compose)]
@@ -295,9 +299,71 @@ impl Composer {
         ensures { Makes (stock_of self.new) (λ i. i)
             (make inherited.now (written.attribute (written_class_of class) (pattern_of value)) (stock_of self.old)) result }
     {
-        let class = class_in(self.alloc, inherited, class)?;
-        let value = self.pattern(inherited, value)?;
-        self.node(Node::Attribute(class, value))
+        match self.pattern(inherited, value) {
+            Ok(value) => {
+                let class = class_in(self.alloc, inherited, class)?;
+                self.node(Node::Attribute(class, value))
+            }
+            Err(stop) => {
+                drop(class);
+                Err(stop)
+            }
+        }
+    }
+
+    /// The pattern with text anywhere.
+    #[cycle(compose)]
+    fn mixed(&mut self, inherited: &Bytes, body: Pattern) -> Result<NodeNumber, Stop>
+        ensures { Makes (stock_of self.new) (λ i. i)
+            (make inherited.now (written.mixed (pattern_of body)) (stock_of self.old)) result }
+    {
+        match self.node(Node::Text) {
+            Ok(text) => {
+                let body = self.pattern(inherited, body)?;
+                self.node(Node::Joined(Sign::Interleave, text, body))
+            }
+            Err(stop) => {
+                drop(body);
+                Err(stop)
+            }
+        }
+    }
+
+    /// A datatype with its params, from which nothing is taken away.
+    fn data(&mut self, name: TypeName, params: Params) -> Result<NodeNumber, Stop>
+        ensures { Makes (stock_of self.new) (λ i. i)
+            (make [] (written.typed name params) (stock_of self.old)) result }
+    {
+        match self.node(Node::NotAllowed) {
+            Ok(nothing) => self.node(Node::Typed(name, params, nothing)),
+            Err(stop) => {
+                drop(name);
+                drop(params);
+                Err(stop)
+            }
+        }
+    }
+
+    /// A datatype with its params, without what the pattern takes away.
+    #[cycle(compose)]
+    fn data_except(
+        &mut self,
+        inherited: &Bytes,
+        except: Pattern,
+        name: TypeName,
+        params: Params,
+    ) -> Result<NodeNumber, Stop>
+        ensures { Makes (stock_of self.new) (λ i. i)
+            (make inherited.now (written.typed_but name params (pattern_of except)) (stock_of self.old)) result }
+    {
+        match self.pattern(inherited, except) {
+            Ok(except) => self.node(Node::Typed(name, params, except)),
+            Err(stop) => {
+                drop(name);
+                drop(params);
+                Err(stop)
+            }
+        }
     }
 
     /// The choice of the pattern and nothing at all.

@@ -21,8 +21,8 @@ pattern-returns-in-Group t c =
     let seen : make_row c.args.inherited.now sign.Group c.in-Group.patterns.items (stock_of c.args.self.now) ≡ make c.args.inherited.now (pattern_of c.args.pattern) (stock_of c.args.self.now) = group_seen c.args.inherited.now c.in-Group.patterns (stock_of c.args.self.now) ∙ ap (λ p. make c.args.inherited.now (pattern_of p) (stock_of c.args.self.now)) (sym c.in-Group.is) in
     subst (λ outcome. Makes (stock_of c.joined-in-Group.new.self) (λ i. i) outcome c.joined-in-Group.result) seen c.joined-in-Group.ensures
 
-pub pattern-returns : goal.pattern-returns
-pattern-returns t c =
+pub pattern-returns-in-Interleave : goal.pattern-returns-in-Interleave
+pattern-returns-in-Interleave t c =
     let seen : make_row c.args.inherited.now sign.Interleave c.in-Interleave.patterns.items (stock_of c.args.self.now) ≡ make c.args.inherited.now (pattern_of c.args.pattern) (stock_of c.args.self.now) = interleave_seen c.args.inherited.now c.in-Interleave.patterns (stock_of c.args.self.now) ∙ ap (λ p. make c.args.inherited.now (pattern_of p) (stock_of c.args.self.now)) (sym c.in-Interleave.is) in
     subst (λ outcome. Makes (stock_of c.joined-in-Interleave.new.self) (λ i. i) outcome c.joined-in-Interleave.result) seen c.joined-in-Interleave.ensures
 
