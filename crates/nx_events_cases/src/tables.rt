@@ -1,7 +1,7 @@
 //! Texts by their tokens, and what they give.
 
 /// The faults of texts.
-pub(crate) const FAULTS: [(&str, &str); 40] = [
+pub(crate) const FAULTS: [(&str, &str); 46] = [
     ("s<a>|s<b>|e</a>", "6-10 MissingEnd b;"),
     (
         "s<a>|s<b>|s<c>|e</a>",
@@ -96,10 +96,35 @@ pub(crate) const FAULTS: [(&str, &str); 40] = [
         "m<a xmlns:p='u' xmlns:p='v' xmlns:xmlns='u'/>",
         "15-26 DuplicateAttribute xmlns:p;27-42 BadBinding xmlns:xmlns;",
     ),
+    // Names of 15, 16 and 17 bytes.
+    (
+        "s<abcdefghijklmno>|s<abcdefghijklmnop>|s<abcdefghijklmnopq>|tT",
+        "55-55 UnclosedElement abcdefghijklmnopq;55-55 UnclosedElement abcdefghijklmnop;55-55 UnclosedElement abcdefghijklmno;",
+    ),
+    (
+        "s<abcdefghijklmnop>|s<abcdefghijklmnopq>|e</abcdefghijklmnop>",
+        "37-56 MissingEnd abcdefghijklmnopq;",
+    ),
+    (
+        "s<a>|s<b>|e</b>|s<abcdefghijklmnopq>|e</abcdefghijklmnopq>|s<c>|e</a>",
+        "52-56 MissingEnd c;",
+    ),
+    (
+        "m<a abcdefghijklmno='' abcdefghijklmnop='' abcdefghijklmnopq='' abcdefghijklmnopq=''/>",
+        "63-83 DuplicateAttribute abcdefghijklmnopq;",
+    ),
+    (
+        "m<a xmlns:abcdefghijklmnopq=''/>",
+        "3-29 BadBinding xmlns:abcdefghijklmnopq;",
+    ),
+    (
+        "m<abcdefghijklmnopq:a/>",
+        "0-22 UndeclaredPrefix abcdefghijklmnopq;",
+    ),
 ];
 
 /// All items of texts.
-pub(crate) const EVENTS: [(&str, &str); 5] = [
+pub(crate) const EVENTS: [(&str, &str); 6] = [
     (
         "s<p:a xmlns:p='u' x='1' p:x=\"a &lt; b\tc\">|ta&#65;\r\nb|c<!---->|d<![CDATA[&\r]]>|e</p:a>",
         "0-40 Enter {u}a;20-21 Att {}x=1;28-38 Att {u}x=a < b c;0-40 TagEnd;40-70 Chars aA\nb&\n;70-76 Leave;",
@@ -120,6 +145,10 @@ pub(crate) const EVENTS: [(&str, &str); 5] = [
         "s<a>|tx|s<b q:c='&d;' xmlns:q=''>|e</a>|s<c>",
         "0-3 Enter {}a;0-3 TagEnd;3-4 Chars x;12-15 BadReference ;17-27 BadBinding xmlns:q;4-28 Enter {}b;7-16 UndeclaredPrefix q;4-28 TagEnd;28-32 MissingEnd b;28-32 Leave;28-32 Leave;32-35 SecondRoot c;32-35 EnterLost;32-35 TagEnd;35-35 UnclosedElement c;35-35 Leave;",
     ),
+    (
+        "m<abcdefghijklmnopq:a xmlns:abcdefghijklmnopq='u' abcdefghijklmnopq:b=''/>",
+        "0-73 Enter {u}a;70-70 Att {u}b=;0-73 TagEnd;0-73 Leave;",
+    ),
 ];
 
 /// How many elements are open behind tokens, whether a run is pending, and its string.
@@ -138,14 +167,26 @@ pub(crate) const STATES: [(&str, &str); 11] = [
 ];
 
 /// Tokens behind which the same is known, and others.
-pub(crate) const SAME: [(&str, &str); 4] = [
+pub(crate) const SAME: [(&str, &str); 7] = [
     ("s<a>", "s<a >"),
     ("s<a>|tx|s<b>", "s<a>|s<b>"),
     ("s<a>|tx", "s<a >|tx"),
     ("c<!---->", "p<?a?>"),
+    (
+        "s<a>|s<b>",
+        "s<a>|s<abcdefghijklmnopq>|e</abcdefghijklmnopq>|s<b>",
+    ),
+    (
+        "s<a>|s<abcdefghijklmnopq>|e</abcdefghijklmnopq>|s<b>",
+        "s<a>|s<b>",
+    ),
+    (
+        "s<abcdefghijklmnop>|s<abcdefghijklmnopq>",
+        "s<abcdefghijklmnop >|s<abcdefghijklmnopq >",
+    ),
 ];
 
-pub(crate) const OTHER: [(&str, &str); 8] = [
+pub(crate) const OTHER: [(&str, &str); 11] = [
     ("s<a>", "s<b>"),
     ("s<a>", "s<a>|tx"),
     ("s<a>|tx", "s<a>|ty"),
@@ -154,10 +195,13 @@ pub(crate) const OTHER: [(&str, &str); 8] = [
     ("s<a>", "s<a xmlns:p='u'>"),
     ("", "c<!---->"),
     ("c<!---->", "D<!DOCTYPE a>"),
+    ("s<abcdefghijklmnop>", "s<abcdefghijklmnopq>"),
+    ("s<abcdefghijklmnop>", "s<abcdefghijklmnoq>"),
+    ("s<abcdefghijklmnopq>", "s<abcdefghijklmnopr>"),
 ];
 
 /// What is being written at the end of a tag's text behind tokens, and what the tag says so far. Places are those of the tag.
-pub(crate) const PREFIXES: [(&str, &str, &str); 67] = [
+pub(crate) const PREFIXES: [(&str, &str, &str); 69] = [
     ("", "<", "element"),
     ("", "<1", "element"),
     ("", "<-", "element"),
@@ -261,4 +305,10 @@ pub(crate) const PREFIXES: [(&str, &str, &str); 67] = [
     ("", "<!-- ", "elsewhere"),
     ("", "<![CDATA[", "elsewhere"),
     ("", "<?x", "elsewhere"),
+    ("s<abcdefghijklmnopq>", "</", "end abcdefghijklmnopq"),
+    (
+        "",
+        "<a abcdefghijklmnopq='",
+        "value {}abcdefghijklmnopq 0-3 Enter {}a;",
+    ),
 ];

@@ -166,7 +166,7 @@ pub(crate) const ROWS: [Row; 27] = [
 ];
 
 /// The documents beside a script, of which two are no text, and schemas.
-const DOCUMENTS: [(&str, &[u8]); 25] = [
+const DOCUMENTS: [(&str, &[u8]); 27] = [
     ("file:///work/b.xml", b"a\xE2\x82A"),
     ("file:///work/c.xml", b"a\xE2\x82"),
     ("file:///work/d.xml", b"<d/>\n"),
@@ -228,6 +228,11 @@ const DOCUMENTS: [(&str, &[u8]); 25] = [
         "file:///work/d/book.xml",
         b"<!DOCTYPE book SYSTEM \"book.dtd\" [ <!-- it's > --> ]>\n<book/>\n",
     ),
+    (
+        "file:///work/l.rnc",
+        b"element abcdefghijklmnopq { element b { empty }* }",
+    ),
+    ("file:///work/long.rnc", LONG_NAMES),
 ];
 
 const LOOPING_RULES: &[u8] =
@@ -241,11 +246,16 @@ const RULES: &[u8] = b"<locatingRules xmlns=\"http://thaiopensource.com/ns/locat
 <typeId id=\"DocBook\" uri=\"docbook.rnc\"/>\n\
 </locatingRules>";
 
+/// Names of 15, 16 and 17 bytes, and a longer value.
+const LONG_NAMES: &[u8] =
+    b"element abcdefghijklmno { element abcdefghijklmnop { element abcdefghijklmnopq { \
+attribute abcdefghijklmnopq { \"on\" | \"a longer value\" }, element b { empty } }+ }+ }";
+
 const SECTIONS: &[u8] =
     b"start = element doc { attribute id { xsd:NCName }, element title { text }, element para { (text | element em { text })* }* }";
 
 /// Scripts that hold documents against those schemas, what they print and how they end.
-pub(crate) const VALIDATED: [(&str, &str, Status); 25] = [
+pub(crate) const VALIDATED: [(&str, &str, Status); 28] = [
     (
         "schema \"s1.rnc\"\nerrors\n",
         "errors: 1\n0-0 NoRoot\n",
@@ -369,6 +379,24 @@ pub(crate) const VALIDATED: [(&str, &str, Status); 25] = [
     (
         "schema auto\nschema \"m.rnc\"\ninsert 0 \"<doc id='a'><title/></doc>\"\nerrors\n",
         "schema none\nerrors: 0\n",
+        Status::Done,
+    ),
+    (
+        "schema \"long.rnc\"\ninsert 0 \"<abcdefghijklmno><abcdefghijklmnop><abcdefghijklmnopq abcdefghijklmnopq='a longer value'><b/>\
+</abcdefghijklmnopq><abcdefghijklmnopq abcdefghijklmnopq='on'><b/></abcdefghijklmnopq></abcdefghijklmnop></abcdefghijklmno>\"\nerrors\n",
+        "errors: 0\n",
+        Status::Done,
+    ),
+    (
+        "schema \"long.rnc\"\ninsert 0 \"<abcdefghijklmno><abcdefghijklmnop><abcdefghijklmnopq abcdefghijklmnopq='on'>\
+</abcdefghijklmnopq></abcdefghijklmnop></abcdefghijklmno>\"\nerrors\n",
+        "errors: 1\n77-97 Incomplete abcdefghijklmnopq\n",
+        Status::Done,
+    ),
+    (
+        "schema \"long.rnc\"\ninsert 0 \"<abcdefghijklmno><abcdefghijklmnopq abcdefghijklmnopq='on'>\
+</abcdefghijklmnopq></abcdefghijklmno>\"\nerrors\n",
+        "errors: 3\n17-59 NotAllowed abcdefghijklmnopq\n59-79 Incomplete abcdefghijklmnopq\n79-97 Incomplete abcdefghijklmno\n",
         Status::Done,
     ),
 ];
@@ -634,7 +662,7 @@ fn carets_and_views_are_walked(rt: HostRuntime) {
 }
 
 /// Scripts that edit what was read, and how many tokens are read again: by hand, marks stand behind each sixteenth tag.
-pub(crate) const MARKED: [(&str, &str); 4] = [
+pub(crate) const MARKED: [(&str, &str); 6] = [
     (
         "make 7 20000\nschema \"s1.rnc\"\nerrors\ninsert 32 \"x\"\nerrors\nstats\n",
         "errors: 0\nerrors: 0\ntaken 27\n",
@@ -654,6 +682,18 @@ pub(crate) const MARKED: [(&str, &str); 4] = [
          <b/><b/><b/><b/><b/><b/><b/><b/><b/><b/><b/><b/><b/><b/><b/><b/><b/><b/><b/><b/>xyz\"\nerrors\n\
          insert 71 \"<!--x-->\"\nerrors\nstats\n",
         "errors: 2\n163-166 TextNotAllowed\n166-166 UnclosedElement a\nerrors: 2\n171-174 TextNotAllowed\n174-174 UnclosedElement a\ntaken 17\n",
+    ),
+    (
+        "schema \"l.rnc\"\ninsert 0 \"<abcdefghijklmnopq><b/><b/><b/><b/><b/><b/><b/><b/><b/><b/><b/><b/><b/><b/><b/><b/><b/><b/><b/><b/>\
+         <b/><b/><b/><b/><b/><b/><b/><b/><b/><b/><b/><b/><b/><b/><b/><b/><b/><b/><b/><b/></abcdefghijklmnopq>\"\nerrors\nstats\n\
+         insert 87 \"<!--x-->\"\nerrors\nstats\n",
+        "errors: 0\ntaken 42\nerrors: 0\ntaken 17\n",
+    ),
+    (
+        "insert 0 \"<abcdefghijklmnopq><b/><b/><b/><b/><b/><b/><b/><b/><b/><b/><b/><b/><b/><b/><b/><b/><b/><b/><b/><b/>\
+         <b/><b/><b/><b/><b/><b/><b/><b/><b/><b/><b/><b/><b/><b/><b/><b/><b/><b/><b/><b/></abcdefghijklmnopq>\"\nerrors\n\
+         delete 17 18\nerrors\nstats\n",
+        "errors: 0\nerrors: 2\n178-198 ExtraEnd abcdefghijklmnopq\n198-198 UnclosedElement abcdefghijklmnop\ntaken 42\n",
     ),
 ];
 
