@@ -104,7 +104,8 @@ impl KeptOpenings {
 
     /// Keeps the openings of a node; NoMemory where there is none for them, and then they may be asked anew.
     pub(crate) fn keep(&mut self, p: usize, opened: Vec<Open>) -> Result<(), NoMemory>
-        ensures { (nodes : List Pattern) → AreKept nodes self.old.entries.items → IsKept nodes p opened.items → AreKept nodes self.new.entries.items }
+        ensures { (nodes : List Pattern) → AreKept nodes self.old.entries.items → IsKept nodes p opened.items
+            → AreKept nodes self.new.entries.items }
     {
         let place = self.next_place();
         self.put_place(p, place)?;
