@@ -43,6 +43,6 @@ pub fn take_items<M: Matcher>(
         &mut found,
     )?;
     make_room(&mut state.levels, &change)?;
-    put(&mut state.levels, &mut change, &mut Items::new(alloc));
+    put(&mut state.levels, &mut change);
     Ok(())
 }

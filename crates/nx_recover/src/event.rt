@@ -8,6 +8,7 @@ ghost use Rattle.nx_recover.specs.Aside.{IsInnermost, IsOneLess, Pushed, Takes};
 ghost use Rattle.nx_recover.specs.Table as t;
 
 use crate::levels::{Begun, Change, Ended, Levels, Open, Turn};
+use crate::open_name::OpenName;
 use crate::row;
 use nx_base::memory::NoMemory;
 use nx_base::name::Name;
@@ -115,7 +116,8 @@ fn take_enter<M: Matcher>(
     // Most are admitted. What begins is large, so for these it isn't handed through the rows.
     match row::enter_admitted(alloc, matcher, here(levels, change), name)? {
         Some(state) => {
-            change.above.push(Open::In(take_name(alloc, name)))?;
+            let kept = OpenName::take(alloc, name)?;
+            change.above.push(Open::In(kept))?;
             change.here = Some(Some(state));
             Ok(None)
         }

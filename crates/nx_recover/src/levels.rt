@@ -7,7 +7,7 @@
 //! What stands for a frame is the type `S`: the state of a matcher in the code, its meaning in the rules of the machine, and the
 //! frame itself, with its moves, in the definition.
 
-use nx_base::name::Name;
+use crate::open_name::OpenName;
 use nx_events::flaw::Flaw;
 use std::alloc::Global;
 
@@ -15,9 +15,9 @@ use std::alloc::Global;
 #[derive(Drop)]
 pub enum Open<S> {
     /// One of the frame in which it stands, which goes on in it and behind it.
-    In(Name),
+    In(OpenName),
     /// The first of a frame of its own, and the frame that goes on behind it: none in a lost element.
-    Begins(Name, Option<S>),
+    Begins(OpenName, Option<S>),
     /// One of which nothing is known, and the frame that goes on behind it.
     Lost(Option<S>),
 }

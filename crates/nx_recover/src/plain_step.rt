@@ -13,8 +13,8 @@ ghost use Rattle.nx_recover.specs.States.{AreStates, view_of};
 ghost use Rattle.nx_recover.specs.declared.levels.Open.TheVariants.{In};
 
 use crate::levels::Open;
+use crate::open_name::OpenName;
 use crate::state::RecoverState;
-use crate::step::drop_above;
 use nx_base::memory::NoMemory;
 use nx_base::name::Name;
 use nx_base::sequence::Bytes;
@@ -133,22 +133,24 @@ fn take_start<M: Matcher>(
         return Ok(false);
     };
     let run = ended_run(memory, &state.events)?;
-    let name = unprefixed_name(alloc, memory, &state.events, written)?;
+    let mut name = unprefixed_name(alloc, memory, &state.events, written)?;
     let admitted = behind_start(alloc, matcher, here, &run, &name)?;
     keep_run(memory, run);
     let Some(inside) = admitted else {
         memory.keep_memory(name);
         return Ok(false);
     };
+    let kept = OpenName::take(alloc, &mut name)?;
+    memory.keep_memory(name);
     state.levels.elements.reserve(1)?;
     begin_element(&mut state.events, written)?;
-    state.levels.elements.push_reserved(Open::In(name));
+    state.levels.elements.push_reserved(Open::In(kept));
     state.levels.here = Some(inside);
     Ok(true)
 }
 
 // The name of the innermost element, if it goes on in the frame around it.
-fn name_in_frame<S: Drop>(elements: &[Open<S>]) -> Option<&Name>
+fn name_in_frame<S: Drop>(elements: &[Open<S>]) -> Option<&OpenName>
     ensures { IfSome result (λ name. elements.now ≡ without_innermost elements.now ++ In name.now ∷ []) }
 {
     let len = elements.len();
@@ -196,7 +198,7 @@ fn take_end<M: Matcher>(
     };
     end_innermost(&mut state.events);
     let around = state.levels.elements.len() - 1;
-    drop_above(&mut state.levels.elements, around, memory);
+    state.levels.elements.truncate(around);
     state.levels.here = Some(outside);
     Ok(true)
 }

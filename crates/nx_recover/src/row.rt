@@ -15,6 +15,7 @@ ghost use Rattle.nx_recover.specs.Table as t;
 
 use crate::detail::names_text;
 use crate::levels::{Begun, Ended, Open, Turn};
+use crate::open_name::OpenName;
 use nx_base::fault::Kind;
 use nx_base::memory::NoMemory;
 use nx_base::name::Name;
@@ -107,7 +108,7 @@ fn enter_other<M: Matcher>(
             let flaw = named(alloc, Kind::NotAllowed, &name)?;
             Ok(Begun {
                 here: Some(state),
-                element: Open::Begins(name, Some(around)),
+                element: Open::Begins(OpenName::of(alloc, name)?, Some(around)),
                 flaw,
             })
         }
@@ -141,7 +142,7 @@ fn enter_awaited<M: Matcher>(
             let flaw = named(alloc, Kind::NotYet, &name)?;
             Ok(Begun {
                 here: Some(state),
-                element: Open::In(name),
+                element: Open::In(OpenName::of(alloc, name)?),
                 flaw,
             })
         }
@@ -162,7 +163,7 @@ fn enter_lost<M: Matcher>(
     match enter_known(alloc, matcher, &name)? {
         Some(state) => Ok(Begun {
             here: Some(state),
-            element: Open::Begins(name, None),
+            element: Open::Begins(OpenName::of(alloc, name)?, None),
             flaw: None,
         }),
         None => Ok(Begun {
@@ -209,13 +210,22 @@ pub fn enter_refused<M: Matcher>(
     }
 }
 
+// That an element ends whose content isn't complete.
+fn incomplete_flaw(alloc: Global, name: &OpenName) -> Result<Option<Flaw>, NoMemory>
+    ensures { IfOk result (λ found. found ≡ flaw Kind.Incomplete (name_text name.now)) }
+{
+    let name = name.to_name()?;
+    let flaw = named(alloc, Kind::Incomplete, &name)?;
+    Ok(flaw)
+}
+
 // Where an element of this name ends in a frame.
 #[tactic(auto, unfolding(crate::specs::Table::left))]
 fn leave<M: Matcher>(
     alloc: Global,
     matcher: &mut M,
     here: &M::State,
-    name: &Name,
+    name: &OpenName,
 ) -> Result<Turn<M::State>, NoMemory>
     requires { M.is_state matcher.old here.now }
     ensures later { M.later matcher.old matcher.new }
@@ -228,7 +238,7 @@ fn leave<M: Matcher>(
             flaw: None,
         });
     }
-    let flaw = named(alloc, Kind::Incomplete, name)?;
+    let flaw = incomplete_flaw(alloc, name)?;
     Ok(Turn {
         next: Some(matcher.leave_skip(alloc, here)?),
         flaw,
@@ -240,7 +250,7 @@ fn leave_here<M: Matcher>(
     alloc: Global,
     matcher: &mut M,
     here: &Option<M::State>,
-    name: &Name,
+    name: &OpenName,
 ) -> Result<Turn<M::State>, NoMemory>
     requires { IfSome here.now (M.is_state matcher.old) }
     ensures later { M.later matcher.old matcher.new }
@@ -262,7 +272,7 @@ fn incomplete<M: Matcher>(
     alloc: Global,
     matcher: &mut M,
     here: &M::State,
-    name: &Name,
+    name: &OpenName,
 ) -> Result<Option<Flaw>, NoMemory>
     requires { M.is_state matcher.old here.now }
     ensures later { M.later matcher.old matcher.new }
@@ -270,7 +280,7 @@ fn incomplete<M: Matcher>(
 {
     match matcher.leave(alloc, here)? {
         Some(_) => Ok(None),
-        None => named(alloc, Kind::Incomplete, name),
+        None => incomplete_flaw(alloc, name),
     }
 }
 
@@ -279,7 +289,7 @@ fn incomplete_here<M: Matcher>(
     alloc: Global,
     matcher: &mut M,
     here: &Option<M::State>,
-    name: &Name,
+    name: &OpenName,
 ) -> Result<Option<Flaw>, NoMemory>
     requires { IfSome here.now (M.is_state matcher.old) }
     ensures later { M.later matcher.old matcher.new }

@@ -18,7 +18,6 @@ use crate::plain_step::step_plain;
 use crate::state::RecoverState;
 use nx_base::fault::Faults;
 use nx_base::memory::NoMemory;
-use nx_base::name::Name;
 use nx_base::token::Token;
 use nx_events::item::Items;
 use nx_events::law::tokens_give_text;
@@ -106,42 +105,12 @@ fn move_onto<S: Drop>(elements: &mut Vec<Open<S>>, above: &mut Vec<Open<S>>)
     let _ = elements.append(above);
 }
 
-// The name of an element, if it has one.
-fn name_of<S: Drop>(element: Open<S>) -> Option<Name> {
-    match element {
-        Open::In(name) => Some(name),
-        Open::Begins(name, _) => Some(name),
-        Open::Lost(_) => None,
-    }
-}
-
-/// Drops the elements above so many. The list of items keeps memory of what is taken off.
-pub fn drop_above<S: Drop>(elements: &mut Vec<Open<S>>, kept: usize, items: &mut Items)
-    ensures elements { elements.new.items ≡ take kept elements.old.items }
-    ensures len { vec_len elements.new ≤ vec_len elements.old }
-    ensures room { vec_capacity elements.new ≡ vec_capacity elements.old }
-    ensures items { items.new ≡ items.old }
-{
-    if elements.len() <= kept {
-        return;
-    }
-    // Mostly it is one, and the memory of its name serves for the next.
-    if let Some(element) = elements.pop() {
-        if let Some(name) = name_of(element) {
-            items.keep_memory(name);
-        }
-    }
-    elements.truncate(kept);
-}
-
-/// The changed levels, in room that there is. What is new is taken out of the change. The list of items keeps memory of what is taken
-/// off.
-pub fn put<S: Drop>(levels: &mut Levels<S>, change: &mut Change<S>, items: &mut Items)
+/// The changed levels, in room that there is. What is new is taken out of the change.
+pub fn put<S: Drop>(levels: &mut Levels<S>, change: &mut Change<S>)
     requires { HasRoom levels.old change.old }
     ensures view { view_of levels.new ≡ changed levels.old change.old }
-    ensures items { items.new ≡ items.old }
 {
-    drop_above(&mut levels.elements, change.kept, items);
+    levels.elements.truncate(change.kept);
     move_onto(&mut levels.elements, &mut change.above);
     if let Some(here) = change.here.take() {
         levels.here = here;
@@ -155,7 +124,6 @@ fn install<S: Drop>(
     token: &Token,
     declared: &Declared,
     change: &mut Change<S>,
-    items: &mut Items,
     faults: &mut Faults,
     more: &mut Faults,
 ) -> Result<(), NoMemory>
@@ -172,7 +140,7 @@ fn install<S: Drop>(
 {
     make_room(&mut state.levels, change)?;
     pass_with(alloc, &mut state.events, token, declared, faults, more)?;
-    put(&mut state.levels, change, items);
+    put(&mut state.levels, change);
     Ok(())
 }
 
@@ -227,7 +195,7 @@ fn step_by_items<M: Matcher>(
     drop_left(found);
     take_items(alloc, matcher, &state.levels, change, &mut taken, found)?;
     items.put_back(taken);
-    install(alloc, state, token, &declared, change, items, faults, found)?;
+    install(alloc, state, token, &declared, change, faults, found)?;
     Ok(())
 }
 

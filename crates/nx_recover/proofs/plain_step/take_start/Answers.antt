@@ -8,4 +8,4 @@ returns-clause-taken g c = λ _.
     let name = c.in_ok-name.name in
     start_passes g.met.M.Matcher.laws c.behind_start.ensures.later c.args.state.now _ c.args.written.now name c.in_ok-run.run' c.in-Some.here c.in-Some-admitted.inside
     c.in_ok-admitted.admitted c.requires.states c.in-Some.is c.in_ok-run.ensures.string c.in_ok-name.ensures.name c.in_ok-admitted.ensures.gives c.in-Some-admitted.is
-    c.in_ok-begin_element.ensures.ok refl (c.push_reserved.ensures.items ∙ ap (λ xs. xs ++ In name ∷ []) c.in_ok-reserve.ensures.items)
+    c.in_ok-begin_element.ensures.ok refl (rw c.in_ok-kept.ensures at c.push_reserved.ensures.items ∙ ap (λ xs. xs ++ In name ∷ []) c.in_ok-reserve.ensures.items)

@@ -1,0 +1,73 @@
+//! Names of open elements.
+
+ghost use Rattle.std.specs.Prelude.{◌≡◌, IfOk};
+
+use crate::written_name::WrittenName;
+use nx_base::equal::Equal;
+use nx_base::memory::NoMemory;
+use nx_base::name::Name;
+use nx_base::sequence::{Bytes, Sequence, TryCopy};
+use std::alloc::Global;
+use std::marker::Model;
+use std::mem;
+
+/// The name of an open element. Its local part stands in the value itself where it is short: states are kept by the ten thousand, and
+/// each is a copy of another. To a contract it is the name.
+#[derive(Drop)]
+pub struct OpenName {
+    ns: Bytes,
+    local: WrittenName,
+}
+
+impl Model for OpenName {
+    ghost use Rattle.nx_base.specs.declared.name.Name.{Name};
+
+    ghost Value = { Name };
+
+    ghost view = { λ name. record { ns = name.ns; local = name.local } };
+}
+
+impl OpenName {
+    /// This name. Its namespace is taken out of it, and the memory of its local part stays there.
+    pub(crate) fn take(alloc: Global, name: &mut Name) -> Result<OpenName, NoMemory>
+        ensures { IfOk result (λ taken. taken ≡ name.old) }
+    {
+        let local = WrittenName::of(alloc, name.local.as_slice())?;
+        let ns = mem::replace(&mut name.ns, Sequence::new(alloc));
+        Ok(OpenName { ns, local })
+    }
+
+    /// This name.
+    pub(crate) fn of(alloc: Global, name: Name) -> Result<OpenName, NoMemory>
+        ensures { IfOk result (λ it. it ≡ name) }
+    {
+        let mut name = name;
+        let taken = OpenName::take(alloc, &mut name)?;
+        Ok(taken)
+    }
+
+    /// The same name.
+    pub(crate) fn to_name(&self) -> Result<Name, NoMemory>
+        ensures { IfOk result (λ name. name ≡ self.now) }
+    {
+        Ok(Name {
+            ns: self.ns.copy()?,
+            local: self.local.to_bytes()?,
+        })
+    }
+}
+
+impl TryCopy for OpenName {
+    fn copy(&self) -> Result<OpenName, NoMemory> {
+        Ok(OpenName {
+            ns: self.ns.copy()?,
+            local: self.local.copy()?,
+        })
+    }
+}
+
+impl Equal for OpenName {
+    fn equals(&self, other: &OpenName) -> bool {
+        self.ns.equals(&other.ns) && self.local.equals(&other.local)
+    }
+}
