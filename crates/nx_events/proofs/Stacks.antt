@@ -66,6 +66,13 @@ module _ {T : Type 0} (f : T → List ℕ) where
       a ∙ ap (λ k. one_name_more k inner name) l ∙ ap (λ ns. one_name_more (length items) ns name) i ∙ ap (one_name_more (length items) (behind_those f items)) n
       ∙ sym (behind_more items x) ∙ ap (behind_those f) (sym e)
 
+  -- a copy of few things has none
+  pub few_copied : (self items new : List T) (inner : List (List ℕ)) (len : ℕ) → items ≡ self → new ≡ items → len ≡ length self → len ≤ 32 → inner ≡ [] →
+      inner ≡ behind_those f new
+  few_copied self items new inner len v e l h i =
+      let same : length new ≡ length self = ap length (e ∙ v) in
+      i ∙ sym (ap (map f) (none_after 32 new (omega (arith, same, l, h))))
+
   popped_names : (items rest : List T) (x : T) (inner after : List (List ℕ)) (len : ℕ) → inner ≡ behind_those f items → len ≡ length rest →
       items ≡ rest ++ x ∷ [] → after ≡ one_name_less len inner → after ≡ behind_those f rest
   popped_names items rest x inner after len i l e a =

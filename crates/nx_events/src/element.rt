@@ -20,7 +20,6 @@ use crate::tag_names::TagNames;
 use nx_base::fault::{Kind, Span};
 use nx_base::memory::NoMemory;
 use nx_base::name::Name;
-use nx_base::sequence::TryCopy;
 use std::alloc::Global;
 
 // What is wrong, with a copy of these bytes as its detail.
@@ -141,10 +140,11 @@ fn keep_new(
     }
 }
 
-// The name of an attribute by its prefix.
+// The name of an attribute by its prefix. Its local part is put in this memory.
 #[tactic(auto, unfolding(crate::specs::Elements::attribute_declared))]
 fn attribute_declared(
     alloc: Global,
+    memory: Vec<u8>,
     outer: &Bindings,
     own: &Bindings,
     written: &[u8],
@@ -156,23 +156,27 @@ fn attribute_declared(
         return Ok(resolved);
     };
     let uri = attribute_uri(outer, own, parts.prefix);
-    let declared = declared_or_flaw(alloc, Vec::new(alloc), uri, parts.local, written)?;
+    let declared = declared_or_flaw(alloc, memory, uri, parts.local, written)?;
     Ok(declared)
 }
 
+// The name of an attribute that is no declaration. Its local part is put in memory that the list keeps.
 #[tactic(auto, unfolding(crate::specs::Elements::declared_if_attribute))]
 fn declared_if_attribute(
     alloc: Global,
+    items: &mut Items,
     outer: &Bindings,
     own: &Bindings,
     it: &Attribute,
 ) -> Result<Option<Resolved>, NoMemory>
-    ensures { IfOk result (λ resolved. resolved ≡ declared_if_attribute (outer.now ++ own.now) it.now) }
+    ensures resolved { IfOk result (λ resolved. resolved ≡ declared_if_attribute (outer.now ++ own.now) it.now) }
+    ensures same { items.new ≡ items.old }
 {
     if is_declaration(it.name.as_slice()) {
         return Ok(None);
     }
-    let resolved = attribute_declared(alloc, outer, own, it.name.as_slice())?;
+    let memory = items.name_memory();
+    let resolved = attribute_declared(alloc, memory, outer, own, it.name.as_slice())?;
     Ok(Some(resolved))
 }
 
@@ -183,7 +187,8 @@ fn push_resolved(items: &mut Items, it: &Attribute, resolved: Resolved) -> Resul
     match resolved {
         Resolved::Flawed(flaw) => push_flaw(items, it.span, flaw)?,
         Resolved::Named(name) => {
-            items.push(Item::Event(Event::Att(name, it.string.copy()?), it.value))?;
+            let value = items.copied_value(it.string.as_slice())?;
+            items.push(Item::Event(Event::Att(name, value), it.value))?;
         }
     }
     Ok(())
@@ -225,7 +230,7 @@ pub(crate) fn push_attributes(
 {
     let mut kept = TagNames::new(alloc);
     for it in attributes {
-        let declared = declared_if_attribute(alloc, outer, own, it)?;
+        let declared = declared_if_attribute(alloc, items, outer, own, it)?;
         push_attribute(alloc, items, &mut kept, it, declared)?;
     }
     Ok(kept)
@@ -256,7 +261,7 @@ pub(crate) fn new_name(
     if is_declaration(written) {
         return Ok(None);
     }
-    let declared = attribute_declared(alloc, outer, own, written)?;
+    let declared = attribute_declared(alloc, Vec::new(alloc), outer, own, written)?;
     let resolved = keep_new(alloc, kept, declared, written)?;
     Ok(name_resolved(resolved))
 }

@@ -44,7 +44,7 @@ pub struct Items {
     items: Vec<Item>,
     /// That of a run's string.
     string: Vec<u8>,
-    /// That of names.
+    /// That of names and of the values of attributes.
     names: Vec<Vec<u8>>,
 }
 
@@ -137,7 +137,7 @@ impl Items {
         self.items.drain(from..to);
     }
 
-    /// Drops all items. The list keeps its room, and the memory of a run's string.
+    /// Drops all items. The list keeps its room, and memory of what was among them.
     pub fn clear(&mut self)
         ensures { self.new ≡ [] }
     {
@@ -146,18 +146,17 @@ impl Items {
         }
     }
 
-    // Drops an item, but for the memory of a run's string. Most items hold no other: with a case for each kind no call is made to drop
-    // them.
+    // Drops an item, but for the memory of a run's string and of names.
     fn let_go(&mut self, item: Item)
         ensures { self.new ≡ self.old }
     {
         match item {
             Item::Event(event, _) => match event {
                 Event::Chars(string) => self.keep_string(string),
-                Event::Enter(name) => drop(name),
+                Event::Enter(name) => self.keep_memory(name),
                 Event::Att(name, value) => {
-                    drop(name);
-                    drop(value);
+                    self.keep_memory(name);
+                    self.keep_bytes(value);
                 }
                 Event::EnterLost => {}
                 Event::TagEnd => {}
@@ -194,10 +193,17 @@ impl Items {
     pub fn keep_memory(&mut self, name: Name)
         ensures { self.new ≡ self.old }
     {
+        self.keep_bytes(name.local);
+    }
+
+    // Keeps the memory of a name or a value that is over.
+    fn keep_bytes(&mut self, bytes: Bytes)
+        ensures { self.new ≡ self.old }
+    {
         // More end than begin where parts of a text are read again and again.
         if self.names.len() < NAMES_KEPT {
             // Where it can't be kept it is let go.
-            let _ = self.names.push(name.local.into_vec());
+            let _ = self.names.push(bytes.into_vec());
         }
     }
 
@@ -216,6 +222,16 @@ impl Items {
             Some(memory) => memory,
             None => Vec::new(*self.items.allocator()),
         }
+    }
+
+    /// A copy of an attribute's value, in memory for a name.
+    pub(crate) fn copied_value(&mut self, value: &[u8]) -> Result<Bytes, NoMemory>
+        ensures copied { IfOk result (λ copied. copied ≡ value.now) }
+        ensures same { self.new ≡ self.old }
+    {
+        let memory = self.name_memory();
+        let copied = copy_in(memory, value)?;
+        Ok(copied)
     }
 
     /// A copy of a string, in the memory that is kept.

@@ -29,7 +29,7 @@ mod reference;
 mod tag;
 mod token_fault;
 mod utf8;
-mod written_name;
+pub mod written_name;
 
 // folding tokens: events, scope, nesting, runs, and the machine that they make
 pub mod bare;

@@ -93,7 +93,7 @@ fn declare(
 {
     match flaw_if(came, it) {
         Some(kind) => {
-            let detail = it.name.copy()?;
+            let detail = it.name.to_bytes()?;
             push_flaw(items, it.span, Flaw { kind, detail })?;
         }
         None => {

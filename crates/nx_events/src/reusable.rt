@@ -5,6 +5,7 @@ ghost use Rattle.std.specs.Prelude.{◌≡◌, ◌-◌, ◌++◌, ◌∷◌, [],
 use crate::state::OpenElement;
 use crate::written_name::WrittenName;
 use nx_base::memory::NoMemory;
+use nx_base::sequence::{TryCopy, copy_each};
 use std::alloc::Global;
 use std::marker::Model;
 
@@ -81,6 +82,17 @@ impl<T: Drop> Reusable<T> {
         if self.len > 0 {
             self.len -= 1;
         }
+    }
+}
+
+// What was taken off stays behind.
+impl<T: TryCopy + Drop> TryCopy for Reusable<T> {
+    fn copy(&self) -> Result<Self, NoMemory> {
+        let items = copy_each(*self.items.allocator(), self.as_slice())?;
+        Ok(Reusable {
+            items,
+            len: self.len,
+        })
     }
 }
 

@@ -233,6 +233,14 @@ impl<T: Named + TryCopy + Drop> Stack<T> {
 impl<T: Named + TryCopy + Drop> TryCopy for Stack<T> {
     // States are kept by the ten thousand, so a copy takes no more room than it needs.
     fn copy(&self) -> Result<Self, NoMemory> {
+        // Where all are looked through, as in most lists, no name is kept beside them.
+        if self.len() <= LOOKED_THROUGH {
+            return Ok(Stack {
+                alloc: self.alloc,
+                items: self.items.copy()?,
+                inner: InnerNames::new(),
+            });
+        }
         let mut copied = Stack::with_room(self.alloc, self.len())?;
         copied.append(self.items.as_slice())?;
         Ok(copied)

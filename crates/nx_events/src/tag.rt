@@ -10,6 +10,7 @@ use crate::front::{byte_place, is_between, name_end, quote_place};
 use crate::piece::string_of;
 use crate::qname::is_plain_name;
 use crate::reading::Reading;
+use crate::written_name::WrittenName;
 use nx_base::fault::Span;
 use nx_base::memory::NoMemory;
 use nx_base::sequence::Bytes;
@@ -19,7 +20,7 @@ use std::alloc::Global;
 #[derive(Drop)]
 pub struct Attribute {
     /// The name as it is written.
-    pub name: Bytes,
+    pub name: WrittenName,
     /// The value's string: line ends and references read, white space made spaces.
     pub string: Bytes,
     /// From the name through the closing quote.
@@ -124,7 +125,7 @@ fn attribute_at(
     let from = extent.quote + 1;
     let to = from + extent.value;
     Ok(Attribute {
-        name: copy_of(alloc, written_name(bytes))?,
+        name: WrittenName::of(alloc, written_name(bytes))?,
         string: string_of(alloc, Reading::Value, &bytes[from..to])?,
         span: Span {
             from: at,
