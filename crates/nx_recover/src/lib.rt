@@ -29,4 +29,3 @@ mod row;
 pub mod state;
 mod step;
 mod whole;
-mod written_name;

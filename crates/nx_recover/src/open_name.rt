@@ -2,11 +2,11 @@
 
 ghost use Rattle.std.specs.Prelude.{◌≡◌, IfOk};
 
-use crate::written_name::WrittenName;
 use nx_base::equal::Equal;
 use nx_base::memory::NoMemory;
 use nx_base::name::Name;
 use nx_base::sequence::{Bytes, Sequence, TryCopy};
+use nx_events::written_name::WrittenName;
 use std::alloc::Global;
 use std::marker::Model;
 use std::mem;
