@@ -38,6 +38,9 @@ pub enum Item {
 /// Of so many names the memory is kept at most.
 const NAMES_KEPT: usize = 64;
 
+/// How long a name or a value may be, in bytes, whose memory is kept.
+const LONGEST_KEPT: usize = 4096;
+
 /// A list of items, and memory of what was among them, in which the next ones are put. To a contract it is the list.
 #[derive(Drop)]
 pub struct Items {
@@ -154,9 +157,10 @@ impl Items {
             Item::Event(event, _) => match event {
                 Event::Chars(string) => self.keep_string(string),
                 Event::Enter(name) => self.keep_memory(name),
+                // The next attribute asks for the name's memory first.
                 Event::Att(name, value) => {
-                    self.keep_memory(name);
                     self.keep_bytes(value);
+                    self.keep_memory(name);
                 }
                 Event::EnterLost => {}
                 Event::TagEnd => {}
@@ -200,8 +204,9 @@ impl Items {
     fn keep_bytes(&mut self, bytes: Bytes)
         ensures { self.new ≡ self.old }
     {
-        // More end than begin where parts of a text are read again and again.
-        if self.names.len() < NAMES_KEPT {
+        // More end than begin where parts of a text are read again and again; and long values are rare.
+        let is_worth_it = 0 < bytes.len() && bytes.len() <= LONGEST_KEPT;
+        if is_worth_it && self.names.len() < NAMES_KEPT {
             // Where it can't be kept it is let go.
             let _ = self.names.push(bytes.into_vec());
         }
