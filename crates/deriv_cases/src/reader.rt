@@ -150,12 +150,12 @@ fn moved<M: Matcher>(
         Move::SkipTo(name) => matcher.enter_skip(alloc, state, &name_of(alloc, name)?),
         Move::Attribute(name, value) => {
             let name = name_of(alloc, name)?;
-            matcher.attribute(alloc, state, &name, &text_of(alloc, value)?)
+            matcher.attribute(alloc, state, &name, text_of(alloc, value)?.as_slice())
         }
         Move::AnyValue(name) => matcher.attribute_any(alloc, state, &name_of(alloc, name)?),
         Move::TagEnd => matcher.tag_end(alloc, state),
         Move::MissingAttributes => Ok(Some(matcher.tag_end_missing(alloc, state)?)),
-        Move::Chars(text) => matcher.chars(alloc, state, &text_of(alloc, text)?),
+        Move::Chars(text) => matcher.chars(alloc, state, text_of(alloc, text)?.as_slice()),
         Move::AnyString => matcher.chars_any(alloc, state),
         Move::Leave => matcher.leave(alloc, state),
         Move::MissingContent => Ok(Some(matcher.leave_skip(alloc, state)?)),

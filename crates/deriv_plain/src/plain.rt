@@ -29,7 +29,7 @@ use deriv_pattern::law::{left_is_in_order, sound_are_in_order};
 use deriv_pattern::small::is_not_allowed;
 use nx_base::memory::NoMemory;
 use nx_base::name::{Name, Names};
-use nx_base::sequence::{Bytes, Sequence};
+use nx_base::sequence::Sequence;
 use rng_core::building::choice_of;
 use rng_core::grammar::{Def, Pat};
 use rng_live::matcher::Matcher;
@@ -131,24 +131,24 @@ fn behind_attribute(
     alloc: Global,
     ways: &Ways,
     name: &Name,
-    value: &Bytes,
+    value: &[u8],
 ) -> Result<Option<Ways>, NoMemory>
     requires { IsState ways.now }
     ensures { IfOk result (Answers IsState residual_of
         (merging.answered (tags.attribute_of name.now value.now (residual_of ways.now)))) }
 {
-    match str::from_utf8(value.as_slice()) {
+    match str::from_utf8(value) {
         Ok(value) => answer(alloc, &Step::Attribute(name, value), ways),
         Err(_) => Err(NoMemory),
     }
 }
 
 /// Behind a string. One that is no text isn't given.
-fn behind_chars(alloc: Global, ways: &Ways, text: &Bytes) -> Result<Option<Ways>, NoMemory>
+fn behind_chars(alloc: Global, ways: &Ways, text: &[u8]) -> Result<Option<Ways>, NoMemory>
     requires { IsState ways.now }
     ensures { IfOk result (Answers IsState residual_of (merging.answered (content.chars text.now (residual_of ways.now)))) }
 {
-    match str::from_utf8(text.as_slice()) {
+    match str::from_utf8(text) {
         Ok(text) => answer(alloc, &Step::Chars(text), ways),
         Err(_) => Err(NoMemory),
     }
@@ -253,7 +253,7 @@ impl Matcher for Plain {
         alloc: Global,
         s: &Ways,
         name: &Name,
-        value: &Bytes,
+        value: &[u8],
     ) -> Result<Option<Ways>, NoMemory> {
         behind_attribute(alloc, s, name, value)
     }
@@ -279,7 +279,7 @@ impl Matcher for Plain {
         required_names(alloc, s.as_slice())
     }
 
-    fn chars(&mut self, alloc: Global, s: &Ways, text: &Bytes) -> Result<Option<Ways>, NoMemory> {
+    fn chars(&mut self, alloc: Global, s: &Ways, text: &[u8]) -> Result<Option<Ways>, NoMemory> {
         behind_chars(alloc, s, text)
     }
 

@@ -20,7 +20,6 @@ use deriv_states::states::States;
 use deriv_states::step::Step;
 use nx_base::memory::NoMemory;
 use nx_base::name::{Name, Names};
-use nx_base::sequence::Bytes;
 use rng_live::matcher::Matcher;
 use rng_live::schema::Schema;
 use std::alloc::Global;
@@ -131,7 +130,7 @@ impl Matcher for Pool {
         alloc: Global,
         s: &PoolState,
         name: &Name,
-        value: &Bytes,
+        value: &[u8],
     ) -> Result<Option<PoolState>, NoMemory> {
         let defs = self.schema.grammar().defs.as_slice();
         match recalled_attribute(&self.states, &self.memory, defs, *s, name, value) {
@@ -177,7 +176,7 @@ impl Matcher for Pool {
         &mut self,
         alloc: Global,
         s: &PoolState,
-        text: &Bytes,
+        text: &[u8],
     ) -> Result<Option<PoolState>, NoMemory> {
         let defs = self.schema.grammar().defs.as_slice();
         match recalled_chars(&self.states, &self.memory, defs, *s, text) {

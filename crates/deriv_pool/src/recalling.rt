@@ -23,7 +23,6 @@ use deriv_states::states::States;
 use deriv_states::step::Step;
 use nx_base::memory::NoMemory;
 use nx_base::name::Name;
-use nx_base::sequence::Bytes;
 use rng_core::grammar::Def;
 use std::alloc::Global;
 
@@ -126,14 +125,14 @@ pub(crate) fn recalled_chars(
     memory: &Memory,
     defs: &[Def],
     state: PoolState,
-    text: &Bytes,
+    text: &[u8],
 ) -> Option<Option<PoolState>>
     requires state { IsState states.now state }
     requires right { ∥ AreAnswers (map definition_of defs.now) states.now memory.now ∥₁ }
     ensures { IfSome result (Answers (IsState states.now) (means_in states.now)
         (merging.answered (content.chars text.now (means_in states.now state)))) }
 {
-    if is_blank(text.as_slice()) {
+    if is_blank(text) {
         return recalled(states, memory, defs, Asked::Blank(state.number));
     }
     recalled(states, memory, defs, Asked::Solid(state.number))
@@ -146,7 +145,7 @@ pub(crate) fn recalled_attribute(
     defs: &[Def],
     state: PoolState,
     name: &Name,
-    value: &Bytes,
+    value: &[u8],
 ) -> Option<Option<PoolState>>
     requires state { IsState states.now state }
     requires right { ∥ AreAnswers (map definition_of defs.now) states.now memory.now ∥₁ }
@@ -154,7 +153,7 @@ pub(crate) fn recalled_attribute(
         (merging.answered (tags.attribute_of name.now value.now (means_in states.now state)))) }
 {
     let (ns, local) = memory.number_of_name(name)?;
-    if is_blank(value.as_slice()) {
+    if is_blank(value) {
         return recalled(
             states,
             memory,
@@ -294,7 +293,7 @@ pub(crate) fn read_chars(
     memory: &mut Memory,
     defs: &[Def],
     state: PoolState,
-    text: &Bytes,
+    text: &[u8],
 ) -> Result<Option<PoolState>, NoMemory>
     requires state { IsState states.old state }
     requires right { ∥ AreAnswers (map definition_of defs.now) states.old memory.old ∥₁ }
@@ -308,7 +307,7 @@ pub(crate) fn read_chars(
         return behind_chars(alloc, states, state, text);
     }
     let number = state.number;
-    if is_blank(text.as_slice()) {
+    if is_blank(text) {
         let (call, step) = (Asked::Blank(number), Step::Chars(""));
         return noted_answer(alloc, states, memory, defs, call, &step, state);
     }
@@ -324,7 +323,7 @@ pub(crate) fn read_attribute(
     defs: &[Def],
     state: PoolState,
     name: &Name,
-    value: &Bytes,
+    value: &[u8],
 ) -> Result<Option<PoolState>, NoMemory>
     requires state { IsState states.old state }
     requires right { ∥ AreAnswers (map definition_of defs.now) states.old memory.old ∥₁ }
@@ -339,7 +338,7 @@ pub(crate) fn read_attribute(
     }
     let (ns, local) = memory.keep_name(alloc, name)?;
     let number = state.number;
-    if is_blank(value.as_slice()) {
+    if is_blank(value) {
         let call = Asked::BlankValue(number, ns, local);
         let step = Step::Attribute(name, "");
         return noted_answer(alloc, states, memory, defs, call, &step, state);

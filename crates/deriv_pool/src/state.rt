@@ -19,7 +19,6 @@ use deriv_states::states::States;
 use deriv_states::step::Step;
 use nx_base::memory::NoMemory;
 use nx_base::name::Name;
-use nx_base::sequence::Bytes;
 use rng_core::grammar::Def;
 use std::alloc::Global;
 
@@ -111,14 +110,14 @@ pub(crate) fn behind_attribute(
     states: &mut States,
     state: PoolState,
     name: &Name,
-    value: &Bytes,
+    value: &[u8],
 ) -> Result<Option<PoolState>, NoMemory>
     requires { IsState states.old state }
     ensures later { LaterPlaces states.old states.new }
     ensures gives { IfOk result (Answers (IsState states.new) (means_in states.new)
         (merging.answered (tags.attribute_of name.now value.now (means_in states.old state)))) }
 {
-    match str::from_utf8(value.as_slice()) {
+    match str::from_utf8(value) {
         Ok(value) => answer(alloc, states, &Step::Attribute(name, value), state),
         Err(_) => Err(NoMemory),
     }
@@ -129,14 +128,14 @@ pub(crate) fn behind_chars(
     alloc: Global,
     states: &mut States,
     state: PoolState,
-    text: &Bytes,
+    text: &[u8],
 ) -> Result<Option<PoolState>, NoMemory>
     requires { IsState states.old state }
     ensures later { LaterPlaces states.old states.new }
     ensures gives { IfOk result (Answers (IsState states.new) (means_in states.new)
         (merging.answered (content.chars text.now (means_in states.old state)))) }
 {
-    match str::from_utf8(text.as_slice()) {
+    match str::from_utf8(text) {
         Ok(text) => answer(alloc, states, &Step::Chars(text), state),
         Err(_) => Err(NoMemory),
     }

@@ -29,13 +29,13 @@ fn takes_value<M: Matcher>(
     matcher: &mut M,
     here: &M::State,
     name: &Name,
-    text: &Bytes,
+    text: &[u8],
 ) -> Result<bool, NoMemory>
     requires { M.is_state matcher.old here.now }
     ensures later { M.later matcher.old matcher.new }
     ensures takes { IfOk result (λ b. b ≡ takes_value name.now (M.means matcher.old here.now) text.now) }
 {
-    if is_text(text.as_slice()) {
+    if is_text(text) {
         let had = matcher.attribute(alloc, here, name, text)?;
         Ok(had.is_some())
     } else {
@@ -57,7 +57,7 @@ fn push_value<M: Matcher>(
     ensures offers { OnOk result (offers.new.items ≡ offers.old.items
         ++ values_passed (takes_value name.now (M.means matcher.old here.now)) (text.now ∷ [])) }
 {
-    if takes_value(alloc, matcher, here, name, text)? {
+    if takes_value(alloc, matcher, here, name, text.as_slice())? {
         let text = text.copy()?;
         offers.push(Offer::Value(text))?;
     }

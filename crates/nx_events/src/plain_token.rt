@@ -2,7 +2,7 @@
 //! characters that stand for themselves. Most tokens are such. They give no fault and declare nothing, so who asks for faults alone
 //! passes them at once, and who asks for events needs no list of them.
 
-ghost use Rattle.std.specs.Prelude.{◌≡◌, ◌+◌, ◌<◌, ◌≤◌, ◌^◌, [], true, false, length, IfOk, IfSome, OnOk, OnErr};
+ghost use Rattle.std.specs.Prelude.{◌≡◌, ◌+◌, ◌<◌, ◌≤◌, ◌^◌, [], true, false, length, IfOk, IfSome, OnOk, OnErr, option_copied};
 ghost use Rattle.nx_base.specs.declared.token.TokenKind.TheVariants as kinds;
 ghost use Rattle.nx_events.specs.Among.{faults_among};
 ghost use Rattle.nx_events.specs.Items.{items_of_token, state_behind};
@@ -21,7 +21,6 @@ use crate::tag::{end_name, plain_tag_name};
 use crate::{element, plain};
 use nx_base::memory::NoMemory;
 use nx_base::name::Name;
-use nx_base::sequence::Bytes;
 use nx_base::token::{Token, TokenKind};
 use std::alloc::Global;
 
@@ -53,21 +52,15 @@ pub fn is_plain_text(state: &EventState, token: &Token) -> bool
     plain::are_plain(Reading::Text, token.bytes.as_slice())
 }
 
-/// The string of the run that a tag ends, if there is one. It is put in memory that the list keeps; NoMemory where that is wanting.
-pub fn ended_run(memory: &mut Items, state: &EventState) -> Result<Option<Bytes>, NoMemory>
-    ensures string { IfOk result (λ string. string ≡ run_string state.now.run) }
-    ensures memory { memory.new ≡ memory.old }
+/// The string of the run that a tag ends, if there is one.
+pub fn ended_run(state: &EventState) -> Option<&[u8]>
+    ensures { option_copied result ≡ run_string state.now.run }
 {
-    match state.run.get() {
-        None => Ok(None),
-        Some(run) => {
-            if run.string.is_empty() {
-                return Ok(None);
-            }
-            let string = memory.copied(run.string.as_slice())?;
-            Ok(Some(string))
-        }
+    let run = state.run.get()?;
+    if run.string.is_empty() {
+        return None;
     }
+    Some(run.string.as_slice())
 }
 
 /// The name of an element that is written without a prefix (Namespaces in XML 1.0, 6.2). It is put in memory that the list keeps; NoMemory

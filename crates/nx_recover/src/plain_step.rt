@@ -1,7 +1,7 @@
 //! A step over a token of which one look tells what it gives, where the schema admits all of that: the levels change where they stand.
 //! Most tokens are such. Where something isn't admitted, nothing has changed, and the token is taken item by item (`step`).
 
-ghost use Rattle.std.specs.Prelude.{◌≡◌, ◌++◌, ◌∷◌, ◌+◌, ◌<◌, ◌≤◌, ◌^◌, [], true, false, length, IsUtf8, IfOk, IfSome, OnErr};
+ghost use Rattle.std.specs.Prelude.{◌≡◌, ◌++◌, ◌∷◌, ◌+◌, ◌<◌, ◌≤◌, ◌^◌, [], true, false, length, IsUtf8, IfOk, IfSome, OnErr, option_copied};
 ghost use Rattle.rng_live.specs.Calls.{Answers};
 ghost use Rattle.nx_base.specs.declared.token.Token.{Token};
 ghost use Rattle.nx_events.specs.PlainTokens.{IsPlainStart, IsPlainEnd};
@@ -17,7 +17,6 @@ use crate::open_name::OpenName;
 use crate::state::RecoverState;
 use nx_base::memory::NoMemory;
 use nx_base::name::Name;
-use nx_base::sequence::Bytes;
 use nx_base::token::{Token, TokenKind};
 use nx_events::item::Items;
 use nx_events::plain_token::{
@@ -53,14 +52,14 @@ fn behind_start<M: Matcher>(
     alloc: Global,
     matcher: &mut M,
     here: &M::State,
-    run: &Option<Bytes>,
+    run: Option<&[u8]>,
     name: &Name,
 ) -> Result<Option<M::State>, NoMemory>
     requires here { M.is_state matcher.old here.now }
-    requires text { IfSome run.now IsUtf8 }
+    requires text { IfSome (option_copied run) IsUtf8 }
     ensures later { M.later matcher.old matcher.new }
     ensures gives { IfOk result (Answers (M.is_state matcher.new) (M.means matcher.new)
-        (behind_run run.now (inside_of (M.language matcher.old) name.now) (M.means matcher.old here.now))) }
+        (behind_run (option_copied run.entry) (inside_of (M.language matcher.old) name.now) (M.means matcher.old here.now))) }
 {
     let Some(text) = run else {
         let inside = inside_of(alloc, matcher, here, name)?;
@@ -80,13 +79,13 @@ fn behind_end<M: Matcher>(
     alloc: Global,
     matcher: &mut M,
     here: &M::State,
-    run: &Option<Bytes>,
+    run: Option<&[u8]>,
 ) -> Result<Option<M::State>, NoMemory>
     requires here { M.is_state matcher.old here.now }
-    requires text { IfSome run.now IsUtf8 }
+    requires text { IfSome (option_copied run) IsUtf8 }
     ensures later { M.later matcher.old matcher.new }
     ensures gives { IfOk result (Answers (M.is_state matcher.new) (M.means matcher.new)
-        (behind_run run.now outside_of (M.means matcher.old here.now))) }
+        (behind_run (option_copied run.entry) outside_of (M.means matcher.old here.now))) }
 {
     let Some(text) = run else {
         let outside = matcher.leave(alloc, here)?;
@@ -98,15 +97,6 @@ fn behind_end<M: Matcher>(
             Ok(outside)
         }
         None => Ok(None),
-    }
-}
-
-// Keeps the memory of a run's string.
-fn keep_run(memory: &mut Items, run: Option<Bytes>)
-    ensures { memory.new ≡ memory.old }
-{
-    if let Some(string) = run {
-        memory.keep_string(string);
     }
 }
 
@@ -132,10 +122,9 @@ fn take_start<M: Matcher>(
     let Some(here) = &state.levels.here else {
         return Ok(false);
     };
-    let run = ended_run(memory, &state.events)?;
+    let run = ended_run(&state.events);
     let mut name = unprefixed_name(alloc, memory, &state.events, written)?;
-    let admitted = behind_start(alloc, matcher, here, &run, &name)?;
-    keep_run(memory, run);
+    let admitted = behind_start(alloc, matcher, here, run, &name)?;
     let Some(inside) = admitted else {
         memory.keep_memory(name);
         return Ok(false);
@@ -169,7 +158,6 @@ fn name_in_frame<S: Drop>(elements: &[Open<S>]) -> Option<&OpenName>
 fn take_end<M: Matcher>(
     alloc: Global,
     matcher: &mut M,
-    memory: &mut Items,
     state: &mut RecoverState<M::State>,
 ) -> Result<bool, NoMemory>
     requires states { AreStates (M.is_state matcher.old) (view_of state.old.levels) }
@@ -181,7 +169,6 @@ fn take_end<M: Matcher>(
     ensures stays { IfOk result (λ taken. taken ≡ false → state.new ≡ state.old) }
     ensures same_events { OnErr result (state.new.events ≡ state.old.events) }
     ensures same_levels { OnErr result (view_of state.new.levels ≡ view_of state.old.levels) }
-    ensures memory { memory.new ≡ memory.old }
 {
     let Some(here) = &state.levels.here else {
         return Ok(false);
@@ -190,9 +177,8 @@ fn take_end<M: Matcher>(
     let Some(_) = name_in_frame(state.levels.elements.as_slice()) else {
         return Ok(false);
     };
-    let run = ended_run(memory, &state.events)?;
-    let admitted = behind_end(alloc, matcher, here, &run)?;
-    keep_run(memory, run);
+    let run = ended_run(&state.events);
+    let admitted = behind_end(alloc, matcher, here, run)?;
     let Some(outside) = admitted else {
         return Ok(false);
     };
@@ -231,7 +217,7 @@ pub fn step_plain<M: Matcher>(
         },
         TokenKind::End => {
             if is_plain_end(&state.events, token) {
-                return take_end(alloc, matcher, memory, state);
+                return take_end(alloc, matcher, state);
             }
             Ok(false)
         }

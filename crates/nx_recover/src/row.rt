@@ -20,7 +20,7 @@ use nx_base::fault::Kind;
 use nx_base::memory::NoMemory;
 use nx_base::name::Name;
 use nx_base::printed_name::name_text;
-use nx_base::sequence::{Bytes, Sequence, TryCopy};
+use nx_base::sequence::{Sequence, TryCopy};
 use nx_events::flaw::Flaw;
 use nx_events::item::Event;
 use rng_live::matcher::Matcher;
@@ -387,7 +387,7 @@ fn chars<M: Matcher>(
     alloc: Global,
     matcher: &mut M,
     here: &M::State,
-    text: &Bytes,
+    text: &[u8],
 ) -> Result<Turn<M::State>, NoMemory>
     requires here { M.is_state matcher.old here.now }
     requires text { IsUtf8 text.now }
@@ -427,7 +427,7 @@ fn attribute<M: Matcher>(
     matcher: &mut M,
     here: &M::State,
     name: &Name,
-    value: &Bytes,
+    value: &[u8],
 ) -> Result<Turn<M::State>, NoMemory>
     requires here { M.is_state matcher.old here.now }
     requires text { IsUtf8 value.now }
@@ -472,9 +472,9 @@ pub fn pass<M: Matcher>(
         });
     };
     match event {
-        Event::Att(name, value) => attribute(alloc, matcher, state, name, value),
+        Event::Att(name, value) => attribute(alloc, matcher, state, name, value.as_slice()),
         Event::TagEnd => end_tag(alloc, matcher, state),
-        Event::Chars(text) => chars(alloc, matcher, state, text),
+        Event::Chars(text) => chars(alloc, matcher, state, text.as_slice()),
         Event::Enter(_) => Ok(Turn {
             next: None,
             flaw: None,

@@ -17,7 +17,6 @@ ghost use Rattle.rng_live.specs.Schemas.{schema_language};
 use crate::schema::Schema;
 use nx_base::memory::NoMemory;
 use nx_base::name::{Name, Names};
-use nx_base::sequence::Bytes;
 use std::alloc::Global;
 
 /// Follows events through a schema.
@@ -97,7 +96,7 @@ pub trait Matcher: Drop {
         alloc: Global,
         s: &Self::State,
         name: &Name,
-        value: &Bytes,
+        value: &[u8],
     ) -> Result<Option<Self::State>, NoMemory>
         requires state { is_state self.old s.now }
         requires text { IsUtf8 value.now }
@@ -144,7 +143,7 @@ pub trait Matcher: Drop {
         &mut self,
         alloc: Global,
         s: &Self::State,
-        text: &Bytes,
+        text: &[u8],
     ) -> Result<Option<Self::State>, NoMemory>
         requires state { is_state self.old s.now }
         requires text { IsUtf8 text.now }

@@ -62,7 +62,7 @@ returns-then-is_blank-clause-gives c =
     let P : Residual → Type 0 = λ y. IfOk c.noted_answer.result (Answers (IsState new) (means_in new) (answered y)) in
     let R : Name → Type 0 = λ n. P (attribute_of n a_blank x) in
     of_value c.args.name.now c.args.value.now a_blank x P
-    (sym (rw c.as_slice.ensures at c.is_blank.ensures) ∙ c.if-is_blank.true) (sym c.tells_values_of.ensures ∙ c.if-tells_values_of.false)
+    (sym c.is_blank.ensures ∙ c.if-is_blank.true) (sym c.tells_values_of.ensures ∙ c.if-tells_values_of.false)
     (subst R (name_is c.keep_name.new.self.texts c.args.name.now (c.in_ok-ns.ns, c.in_ok-ns.local) c.in_ok-ns.ensures.made) c.noted_answer.ensures.gives)
 
 pub returns-clause-gives : goal.returns-clause-gives
@@ -72,5 +72,5 @@ returns-clause-gives c =
     let P : Residual → Type 0 = λ y. IfOk c.noted_answer-2.result (Answers (IsState new) (means_in new) (answered y)) in
     let R : Name → Type 0 = λ n. P (attribute_of n a_solid x) in
     of_value c.args.name.now c.args.value.now a_solid x P
-    (sym (rw c.as_slice.ensures at c.is_blank.ensures) ∙ c.if-is_blank.false ∙ sym solid) (sym c.tells_values_of.ensures ∙ c.if-tells_values_of.false)
+    (sym c.is_blank.ensures ∙ c.if-is_blank.false ∙ sym solid) (sym c.tells_values_of.ensures ∙ c.if-tells_values_of.false)
     (subst R (name_is c.keep_name.new.self.texts c.args.name.now (c.in_ok-ns.ns, c.in_ok-ns.local) c.in_ok-ns.ensures.made) c.noted_answer-2.ensures.gives)

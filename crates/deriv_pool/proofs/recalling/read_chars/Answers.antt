@@ -18,11 +18,11 @@ returns-then-is_blank-clause-gives c =
     let new = c.noted_answer.new.states in
     let P : Residual → Type 0 = λ x. IfOk c.noted_answer.result (Answers (IsState new) (means_in new) (answered x)) in
     of_text c.args.text.now a_blank (means_in c.args.states.now c.args.state) P
-    (sym (rw c.as_slice.ensures at c.is_blank.ensures) ∙ c.if-is_blank.true) (sym c.tells_texts.ensures ∙ c.if-tells_texts.false) c.noted_answer.ensures.gives
+    (sym c.is_blank.ensures ∙ c.if-is_blank.true) (sym c.tells_texts.ensures ∙ c.if-tells_texts.false) c.noted_answer.ensures.gives
 
 pub returns-clause-gives : goal.returns-clause-gives
 returns-clause-gives c =
     let new = c.noted_answer-2.new.states in
     let P : Residual → Type 0 = λ x. IfOk c.noted_answer-2.result (Answers (IsState new) (means_in new) (answered x)) in
     of_text c.args.text.now a_solid (means_in c.args.states.now c.args.state) P
-    (sym (rw c.as_slice.ensures at c.is_blank.ensures) ∙ c.if-is_blank.false ∙ sym solid) (sym c.tells_texts.ensures ∙ c.if-tells_texts.false) c.noted_answer-2.ensures.gives
+    (sym c.is_blank.ensures ∙ c.if-is_blank.false ∙ sym solid) (sym c.tells_texts.ensures ∙ c.if-tells_texts.false) c.noted_answer-2.ensures.gives

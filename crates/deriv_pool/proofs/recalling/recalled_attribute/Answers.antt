@@ -17,7 +17,7 @@ returns-then-is_blank c =
     let Q : Residual → Option PoolState → Type 0 = λ y. Answers (IsState places) (means_in places) (answered y) in
     some_value c.recalled.result Q c.args.name.now (name_in texts c.in_ok-ns.ns c.in_ok-ns.local) c.args.value.now a_blank (means_in places c.args.state)
     (name_is texts c.args.name.now (c.in_ok-ns.ns, c.in_ok-ns.local) c.in_ok-ns.ensures.found)
-    (sym (rw c.as_slice.ensures at c.is_blank.ensures) ∙ c.if-is_blank.true) c.recalled.ensures.alike c.recalled.ensures.found
+    (sym c.is_blank.ensures ∙ c.if-is_blank.true) c.recalled.ensures.alike c.recalled.ensures.found
 
 pub returns : goal.returns
 returns c =
@@ -26,4 +26,4 @@ returns c =
     let Q : Residual → Option PoolState → Type 0 = λ y. Answers (IsState places) (means_in places) (answered y) in
     some_value c.recalled-2.result Q c.args.name.now (name_in texts c.in_ok-ns.ns c.in_ok-ns.local) c.args.value.now a_solid (means_in places c.args.state)
     (name_is texts c.args.name.now (c.in_ok-ns.ns, c.in_ok-ns.local) c.in_ok-ns.ensures.found)
-    (sym (rw c.as_slice.ensures at c.is_blank.ensures) ∙ c.if-is_blank.false ∙ sym solid) c.recalled-2.ensures.alike c.recalled-2.ensures.found
+    (sym c.is_blank.ensures ∙ c.if-is_blank.false ∙ sym solid) c.recalled-2.ensures.alike c.recalled-2.ensures.found

@@ -13,11 +13,11 @@ returns-then-is_blank c =
     let places = c.args.states.now in
     let Q : Residual → Option PoolState → Type 0 = λ y. Answers (IsState places) (means_in places) (answered y) in
     some_text c.recalled.result Q c.args.text.now a_blank (means_in places c.args.state)
-    (sym (rw c.as_slice.ensures at c.is_blank.ensures) ∙ c.if-is_blank.true) c.recalled.ensures.alike c.recalled.ensures.found
+    (sym c.is_blank.ensures ∙ c.if-is_blank.true) c.recalled.ensures.alike c.recalled.ensures.found
 
 pub returns : goal.returns
 returns c =
     let places = c.args.states.now in
     let Q : Residual → Option PoolState → Type 0 = λ y. Answers (IsState places) (means_in places) (answered y) in
     some_text c.recalled-2.result Q c.args.text.now a_solid (means_in places c.args.state)
-    (sym (rw c.as_slice.ensures at c.is_blank.ensures) ∙ c.if-is_blank.false ∙ sym solid) c.recalled-2.ensures.alike c.recalled-2.ensures.found
+    (sym c.is_blank.ensures ∙ c.if-is_blank.false ∙ sym solid) c.recalled-2.ensures.alike c.recalled-2.ensures.found
