@@ -75,7 +75,7 @@ impl TagState {
 
 /// Whether a name may begin with the character.
 #[tactic(auto, unfolding(nx_base::specs::Characters::is_name_start))]
-pub(crate) fn is_name_start(c: char) -> bool
+fn is_name_start(c: char) -> bool
     ensures { result ≡ is_name_start c }
 {
     if c.is_ascii_lowercase() {
@@ -86,7 +86,7 @@ pub(crate) fn is_name_start(c: char) -> bool
 
 /// Whether the character may stand in a name.
 #[tactic(auto, unfolding(nx_base::specs::Characters::is_name_char, nx_base::specs::Characters::is_name_start))]
-pub(crate) fn is_name_char(c: char) -> bool
+fn is_name_char(c: char) -> bool
     ensures { result ≡ is_name_char c }
 {
     if c.is_ascii_lowercase() {

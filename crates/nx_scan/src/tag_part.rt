@@ -8,7 +8,7 @@ ghost use Rattle.nx_base.specs.Characters.{is_name_start};
 ghost use Rattle.nx_base.specs.Text.{IsPlace};
 ghost use Rattle.nx_scan.specs.Tag.{IsReadTo, IsClosedName, Stays, is_name_byte, is_value_byte};
 
-use crate::tag::{TagState, is_name_char, is_name_start};
+use crate::tag::TagState;
 use nx_text::text::Text;
 
 /// How far a tag is read, and what was read of it.
@@ -19,11 +19,12 @@ pub(crate) struct TagPart {
 }
 
 /// Whether the byte is a character of its own, with which a name may begin.
+#[tactic(auto, unfolding(nx_base::specs::Characters::is_name_start))]
 fn is_name_first(byte: u8) -> bool
     ensures low { OnTrue result (byte < 128) }
     ensures first { OnTrue result (IsTrue (is_name_start byte)) }
 {
-    byte < 128 && is_name_start(char::from(byte))
+    matches!(byte, b'a'..=b'z' | b'A'..=b'Z' | b'_' | b':')
 }
 
 /// Whether a name goes on with the byte, which is a character of its own.
@@ -31,7 +32,8 @@ fn is_name_first(byte: u8) -> bool
 fn is_in_name(byte: u8) -> bool
     ensures { result ≡ is_name_byte byte }
 {
-    byte.is_ascii_lowercase() || byte < 128 && is_name_char(char::from(byte))
+    byte.is_ascii_lowercase()
+        || matches!(byte, b'A'..=b'Z' | b'0'..=b'9' | b'-' | b'.' | b'_' | b':')
 }
 
 /// Whether a value in such quotes goes on with the byte, which is a character of its own.
