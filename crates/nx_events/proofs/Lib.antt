@@ -4,6 +4,7 @@ pub mod Pieces
 pub mod Buffers
 pub mod PlainNames
 pub mod PlainTags
+mod PlainGroups
 pub mod PlainRuns
 pub mod CharacterFaults
 pub mod Characters
@@ -11,6 +12,7 @@ pub mod Tags
 pub mod Scopes
 pub mod Declarations
 pub mod Elements
+mod EndTags
 pub mod OpenElements
 pub mod Folding
 pub mod Balance

@@ -3,10 +3,12 @@
 ghost use Rattle.std.specs.Prelude.{◌≡◌, ◌-◌, ◌++◌, ◌<◌, ◌≤◌, true, length, reverse, Some, OnOk, IfSome};
 ghost use Rattle.std.specs.List.{flat_map};
 ghost use Rattle.nx_events.specs.Items.{around_innermost, left_out};
+ghost use Rattle.nx_events.specs.Tags.{end_name};
 
 use crate::item::{Event, Item, Items};
 use crate::stack::{Named, Stack};
 use crate::state::OpenElement;
+use crate::tag::is_end_tag_of;
 use nx_base::equal::same_each;
 use nx_base::fault::{Fault, Kind, Span};
 use nx_base::memory::NoMemory;
@@ -23,6 +25,20 @@ pub(crate) fn is_innermost(name: &[u8], elements: &Stack<OpenElement>) -> bool
     }
     let innermost = &all[len - 1];
     same_each(innermost.name(), name)
+}
+
+/// Whether an end tag is the written name of the innermost element alone, as nearly all are.
+pub(crate) fn is_end_of_innermost(bytes: &[u8], elements: &Stack<OpenElement>) -> bool
+    ensures place { result ≡ true → around_innermost (end_name bytes.now) elements.now ≡ Some (length elements.now - 1) }
+    ensures some { result ≡ true → 0 < length elements.now }
+{
+    let all = elements.as_slice();
+    let len = all.len();
+    if len == 0 {
+        return false;
+    }
+    let innermost = &all[len - 1];
+    is_end_tag_of(innermost.name(), bytes)
 }
 
 /// How many elements stand around the innermost one with this written name, if there is one.

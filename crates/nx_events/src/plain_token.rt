@@ -13,11 +13,11 @@ ghost use Rattle.nx_events.specs.Runs.{run_back};
 
 use crate::end_tag::close;
 use crate::item::Items;
-use crate::nesting::is_innermost;
+use crate::nesting::is_end_of_innermost;
 use crate::reading::Reading;
 use crate::stage::{is_behind, is_inside};
 use crate::state::EventState;
-use crate::tag::{end_name, plain_tag_name};
+use crate::tag::plain_tag_name;
 use crate::{element, plain};
 use nx_base::memory::NoMemory;
 use nx_base::name::Name;
@@ -35,11 +35,11 @@ pub fn plain_start<'t>(state: &EventState, token: &'t Token) -> Option<&'t [u8]>
     Some(written)
 }
 
-/// Whether an end tag is that of the innermost open element (XML 1.0, 3, Element Type Match).
+/// Whether an end tag is that of the innermost open element (XML 1.0, 3, Element Type Match), and nothing but its name.
 pub fn is_plain_end(state: &EventState, token: &Token) -> bool
     ensures { token.now.kind ≡ kinds.End → result ≡ true → IsPlainEnd state.now token.now }
 {
-    is_innermost(end_name(token.bytes.as_slice()), &state.elements)
+    is_end_of_innermost(token.bytes.as_slice(), &state.elements)
 }
 
 /// Whether character data (XML 1.0, 2.4) stands inside of an element, and each of its bytes for itself.

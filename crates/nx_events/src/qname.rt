@@ -48,10 +48,13 @@ fn is_plain_start(b: u8) -> bool
     b.is_ascii_alphabetic() || b == b'_'
 }
 
-// Whether the byte is a letter of ASCII, `_`, a digit, `-` or `.`.
+// Whether the byte is a letter of ASCII, `_`, a digit, `-` or `.`. Small letters, of which most names are, are asked for first.
 fn is_plain_further(b: u8) -> bool
     ensures { result ≡ is_plain_further b }
 {
+    if b.is_ascii_lowercase() {
+        return true;
+    }
     is_plain_start(b) || (b.is_ascii_digit() || (b == b'-' || b == b'.'))
 }
 

@@ -1,12 +1,12 @@
 //! What is written in a tag (XML 1.0, 3.1).
 
-ghost use Rattle.std.specs.Prelude.{◌≡◌, ◌+◌, ◌<◌, ◌≤◌, ◌^◌, ◌++◌, [], ℕ, true, false, length, IfOk, IfSome, OnOk, MatchOption};
+ghost use Rattle.std.specs.Prelude.{◌≡◌, ◌+◌, ◌<◌, ◌≤◌, ◌^◌, ◌++◌, [], ℕ, true, false, length, slice_index, IfOk, IfSome, OnOk, MatchOption};
 ghost use Rattle.std.specs.List.{list_all};
-ghost use Rattle.nx_events.specs.Tags.{is_between, written_name, quote_place, value_len, attribute_len, begins_attribute, attribute_at};
+ghost use Rattle.nx_events.specs.Tags.{is_between, ends_name, written_name, quote_place, value_len, attribute_len, begins_attribute, attribute_at};
 ghost use Rattle.nx_events.specs.Tags.{front_attribute, front_len, attributes_from, start_name, end_name, tag_attributes};
 ghost use Rattle.nx_events.specs.PlainTags.{IsPlainTag};
 
-use crate::front::{byte_place, is_between, name_end, quote_place};
+use crate::front::{byte_place, ends_name, is_between, name_end, quote_place};
 use crate::piece::string_of;
 use crate::qname::is_plain_name;
 use crate::reading::Reading;
@@ -210,6 +210,33 @@ pub(crate) fn plain_tag_name(bytes: &[u8]) -> Option<&[u8]>
     } else {
         None
     }
+}
+
+// Whether the two are the same bytes, none of which ends a name.
+fn are_same_name(a: &[u8], b: &[u8]) -> bool
+    ensures same { result ≡ true → a.now ≡ b.now }
+    ensures name { result ≡ true → (k : ℕ) → k < length a.now → ends_name (slice_index a.now k) ≡ false }
+{
+    if a.len() != b.len() {
+        return false;
+    }
+    for (i, byte) in a.iter().enumerate() {
+        if *byte != b[i] || ends_name(*byte) {
+            return false;
+        }
+    }
+    true
+}
+
+/// Whether an end tag is `</`, this name and `>`, as most are that end an element of this name. One look at its bytes tells that.
+pub(crate) fn is_end_tag_of(name: &[u8], bytes: &[u8]) -> bool
+    ensures { result ≡ true → name.now ≡ end_name bytes.now }
+{
+    let len = bytes.len();
+    if len < 3 || bytes[len - 1] != b'>' {
+        return false;
+    }
+    are_same_name(name, &bytes[2..len - 1])
 }
 
 /// The attributes of a tag that begins at the place `at`.
