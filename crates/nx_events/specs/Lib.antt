@@ -43,7 +43,7 @@ pub mod Plain
 pub mod PlainNames
 pub mod PlainTags
 pub mod PlainTokens
-pub mod WrittenNames
+pub mod NameBytes
 pub mod SeenNames
 pub mod Places
 pub mod TagPlaces

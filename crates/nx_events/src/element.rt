@@ -175,7 +175,7 @@ fn declared_if_attribute(
     if is_declaration(it.name.as_slice()) {
         return Ok(None);
     }
-    let memory = items.name_memory();
+    let memory = items.spare_memory();
     let resolved = attribute_declared(alloc, memory, outer, own, it.name.as_slice())?;
     Ok(Some(resolved))
 }

@@ -35,20 +35,20 @@ pub enum Item {
     Fault(Fault),
 }
 
-/// Of so many names the memory is kept at most.
-const NAMES_KEPT: usize = 64;
+/// The memory of so many names and values is kept at most.
+const MOST_SPARE: usize = 64;
 
 /// How long a name or a value may be, in bytes, whose memory is kept.
-const LONGEST_KEPT: usize = 4096;
+const LONGEST_SPARE: usize = 4096;
 
 /// A list of items, and memory of what was among them, in which the next ones are put. To a contract it is the list.
 #[derive(Drop)]
 pub struct Items {
     items: Vec<Item>,
-    /// That of a run's string.
-    string: Vec<u8>,
-    /// That of names and of the values of attributes.
-    names: Vec<Vec<u8>>,
+    /// The memory of a run's string that is over.
+    spare_string: Vec<u8>,
+    /// The memory of names, and of the values of attributes, that are over.
+    spare: Vec<Vec<u8>>,
 }
 
 impl Model for Items {
@@ -67,8 +67,8 @@ impl Items {
     {
         Items {
             items: Vec::new(alloc),
-            string: Vec::new(alloc),
-            names: Vec::new(alloc),
+            spare_string: Vec::new(alloc),
+            spare: Vec::new(alloc),
         }
     }
 
@@ -149,18 +149,18 @@ impl Items {
         }
     }
 
-    // Drops an item, but for the memory of a run's string and of names.
+    // Drops an item, but for the memory of strings and of names.
     fn let_go(&mut self, item: Item)
         ensures { self.new ≡ self.old }
     {
         match item {
             Item::Event(event, _) => match event {
                 Event::Chars(string) => self.keep_string(string),
-                Event::Enter(name) => self.keep_memory(name),
+                Event::Enter(name) => self.keep_name(name),
                 // The next attribute asks for the name's memory first.
                 Event::Att(name, value) => {
                     self.keep_bytes(value);
-                    self.keep_memory(name);
+                    self.keep_name(name);
                 }
                 Event::EnterLost => {}
                 Event::TagEnd => {}
@@ -194,7 +194,7 @@ impl Items {
     }
 
     /// Keeps the memory of a name that is over.
-    pub fn keep_memory(&mut self, name: Name)
+    pub fn keep_name(&mut self, name: Name)
         ensures { self.new ≡ self.old }
     {
         self.keep_bytes(name.local);
@@ -205,10 +205,10 @@ impl Items {
         ensures { self.new ≡ self.old }
     {
         // More end than begin where parts of a text are read again and again; and long values are rare.
-        let is_worth_it = 0 < bytes.len() && bytes.len() <= LONGEST_KEPT;
-        if is_worth_it && self.names.len() < NAMES_KEPT {
+        let is_worth_it = 0 < bytes.len() && bytes.len() <= LONGEST_SPARE;
+        if is_worth_it && self.spare.len() < MOST_SPARE {
             // Where it can't be kept it is let go.
-            let _ = self.names.push(bytes.into_vec());
+            let _ = self.spare.push(bytes.into_vec());
         }
     }
 
@@ -216,36 +216,36 @@ impl Items {
     pub fn keep_string(&mut self, string: Bytes)
         ensures { self.new ≡ self.old }
     {
-        self.string = string.into_vec();
+        self.spare_string = string.into_vec();
     }
 
-    /// Memory for a name.
-    pub(crate) fn name_memory(&mut self) -> Vec<u8>
+    /// Memory for a name or a value: that of one that is over, where there is any.
+    pub(crate) fn spare_memory(&mut self) -> Vec<u8>
         ensures { self.new ≡ self.old }
     {
-        match self.names.pop() {
+        match self.spare.pop() {
             Some(memory) => memory,
             None => Vec::new(*self.items.allocator()),
         }
     }
 
-    /// A copy of an attribute's value, in memory for a name.
+    /// A copy of an attribute's value, in the memory that is kept of names and values.
     pub(crate) fn copied_value(&mut self, value: &[u8]) -> Result<Bytes, NoMemory>
         ensures copied { IfOk result (λ copied. copied ≡ value.now) }
         ensures same { self.new ≡ self.old }
     {
-        let memory = self.name_memory();
+        let memory = self.spare_memory();
         let copied = copy_in(memory, value)?;
         Ok(copied)
     }
 
-    /// A copy of a string, in the memory that is kept.
+    /// A copy of a run's string, in the memory that is kept of one.
     pub(crate) fn copied(&mut self, string: &[u8]) -> Result<Bytes, NoMemory>
         ensures copied { IfOk result (λ copied. copied ≡ string.now) }
         ensures same { self.new ≡ self.old }
     {
-        let alloc = *self.string.allocator();
-        let memory = mem::replace(&mut self.string, Vec::new(alloc));
+        let alloc = *self.spare_string.allocator();
+        let memory = mem::replace(&mut self.spare_string, Vec::new(alloc));
         let copied = copy_in(memory, string)?;
         Ok(copied)
     }
@@ -285,8 +285,8 @@ impl TryCopy for Items {
         let alloc = *self.items.allocator();
         Ok(Items {
             items: Item::copy_all(alloc, self.items.as_slice())?,
-            string: Vec::new(alloc),
-            names: Vec::new(alloc),
+            spare_string: Vec::new(alloc),
+            spare: Vec::new(alloc),
         })
     }
 }

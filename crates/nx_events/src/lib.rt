@@ -20,16 +20,18 @@ mod declaration;
 pub mod flaw;
 mod front;
 mod markup;
+pub mod name_bytes;
 mod piece;
 mod place;
 mod plain;
 mod qname;
 mod reading;
 mod reference;
+mod short_bytes;
 mod tag;
 mod token_fault;
 mod utf8;
-pub mod written_name;
+mod written_name;
 
 // folding tokens: events, scope, nesting, runs, and the machine that they make
 pub mod bare;

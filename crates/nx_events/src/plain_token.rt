@@ -74,7 +74,7 @@ pub fn unprefixed_name(
     ensures name { IfOk result (λ name. name ≡ unprefixed_name state.now.scope written.now) }
     ensures memory { memory.new ≡ memory.old }
 {
-    let name = element::unprefixed_name(alloc, memory.name_memory(), &state.scope, written)?;
+    let name = element::unprefixed_name(alloc, memory.spare_memory(), &state.scope, written)?;
     Ok(name)
 }
 

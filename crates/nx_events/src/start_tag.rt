@@ -36,7 +36,7 @@ fn push_tag_element(
         (element_resolved (is_behind state.now) (state.now.scope ++ own.now) (start_name token.now.bytes))) }
 {
     let written = start_name(token.bytes.as_slice());
-    let memory = items.name_memory();
+    let memory = items.spare_memory();
     let resolved = element_resolved(alloc, memory, is_behind(state), &state.scope, own, written)?;
     push_element(items, token_span(token), resolved)?;
     Ok(())

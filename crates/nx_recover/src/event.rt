@@ -12,12 +12,10 @@ use crate::open_name::OpenName;
 use crate::row;
 use nx_base::memory::NoMemory;
 use nx_base::name::Name;
-use nx_base::sequence::Sequence;
 use nx_events::flaw::Flaw;
 use nx_events::item::Event;
 use rng_live::matcher::Matcher;
 use std::alloc::Global;
-use std::mem;
 
 // The state here.
 fn here<'a, S: Drop>(levels: &'a Levels<S>, change: &'a Change<S>) -> &'a Option<S>
@@ -71,36 +69,25 @@ fn take_off<S: Drop>(_levels: &Levels<S>, change: &mut Change<S>)
     }
 }
 
-// Takes a name out of its place, and leaves an empty one there.
-fn take_name(alloc: Global, name: &mut Name) -> Name
-    ensures { result ≡ name.old }
-{
-    let empty = Name {
-        ns: Sequence::new(alloc),
-        local: Sequence::new(alloc),
-    };
-    mem::replace(name, empty)
-}
-
-// An element begins that isn't admitted.
+// An element begins that isn't admitted. The namespace is taken out of its name.
 fn take_refused<M: Matcher>(
     alloc: Global,
     matcher: &mut M,
     levels: &Levels<M::State>,
     change: &mut Change<M::State>,
-    name: Name,
+    name: &mut Name,
 ) -> Result<Option<Flaw>, NoMemory>
     requires { IsChange (M.is_state matcher.old) levels.now change.old }
     ensures later { M.later matcher.old matcher.new }
     ensures gives { IfOk result (Takes (M.is_state matcher.new) (M.means matcher.new) levels.now change.new
-        (refused_in (M.language matcher.old) (form (M.means matcher.old) (changed levels.now change.old)) name)) }
+        (refused_in (M.language matcher.old) (form (M.means matcher.old) (changed levels.now change.old)) name.old)) }
 {
     let begun = row::enter_refused(alloc, matcher, here(levels, change), name)?;
     let flaw = push(change, begun)?;
     Ok(flaw)
 }
 
-// An element begins. Its name is taken out of its place.
+// An element begins. The namespace is taken out of its name.
 fn take_enter<M: Matcher>(
     alloc: Global,
     matcher: &mut M,
@@ -121,10 +108,7 @@ fn take_enter<M: Matcher>(
             change.here = Some(Some(state));
             Ok(None)
         }
-        None => {
-            let name = take_name(alloc, name);
-            take_refused(alloc, matcher, levels, change, name)
-        }
+        None => take_refused(alloc, matcher, levels, change, name),
     }
 }
 
@@ -196,7 +180,7 @@ fn take_other<M: Matcher>(
     }
 }
 
-/// An event: what is wrong with it is the answer. The name of an element that begins is taken out of it.
+/// An event: what is wrong with it is the answer. The namespace of an element that begins is taken out of it.
 #[tactic(auto, unfolding(crate::specs::Table::done_by))]
 pub fn take_event<M: Matcher>(
     alloc: Global,

@@ -6,7 +6,7 @@ use nx_base::equal::Equal;
 use nx_base::memory::NoMemory;
 use nx_base::name::Name;
 use nx_base::sequence::{Bytes, Sequence, TryCopy};
-use nx_events::written_name::WrittenName;
+use nx_events::name_bytes::NameBytes;
 use std::alloc::Global;
 use std::marker::Model;
 use std::mem;
@@ -16,7 +16,7 @@ use std::mem;
 #[derive(Drop)]
 pub struct OpenName {
     ns: Bytes,
-    local: WrittenName,
+    local: NameBytes,
 }
 
 impl Model for OpenName {
@@ -32,18 +32,9 @@ impl OpenName {
     pub(crate) fn take(alloc: Global, name: &mut Name) -> Result<OpenName, NoMemory>
         ensures { IfOk result (λ taken. taken ≡ name.old) }
     {
-        let local = WrittenName::of(alloc, name.local.as_slice())?;
+        let local = NameBytes::of(alloc, name.local.as_slice())?;
         let ns = mem::replace(&mut name.ns, Sequence::new(alloc));
         Ok(OpenName { ns, local })
-    }
-
-    /// This name.
-    pub(crate) fn of(alloc: Global, name: Name) -> Result<OpenName, NoMemory>
-        ensures { IfOk result (λ it. it ≡ name) }
-    {
-        let mut name = name;
-        let taken = OpenName::take(alloc, &mut name)?;
-        Ok(taken)
     }
 
     /// The same name.

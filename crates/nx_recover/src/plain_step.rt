@@ -126,11 +126,11 @@ fn take_start<M: Matcher>(
     let mut name = unprefixed_name(alloc, memory, &state.events, written)?;
     let admitted = behind_start(alloc, matcher, here, run, &name)?;
     let Some(inside) = admitted else {
-        memory.keep_memory(name);
+        memory.keep_name(name);
         return Ok(false);
     };
     let kept = OpenName::take(alloc, &mut name)?;
-    memory.keep_memory(name);
+    memory.keep_name(name);
     state.levels.elements.reserve(1)?;
     begin_element(&mut state.events, written)?;
     state.levels.elements.push_reserved(Open::In(kept));

@@ -95,25 +95,25 @@ fn enter_other<M: Matcher>(
     alloc: Global,
     matcher: &mut M,
     here: &M::State,
-    name: Name,
+    name: &mut Name,
 ) -> Result<Begun<M::State>, NoMemory>
     requires { M.is_state matcher.old here.now }
     ensures later { M.later matcher.old matcher.new }
     ensures gives { IfOk result (BegunIs (M.is_state matcher.new) (M.means matcher.new)
-        (t.entered_by (M.means matcher.old here.now) name None None (t.entered_known (M.language matcher.old) name))) }
+        (t.entered_by (M.means matcher.old here.now) name.old None None (t.entered_known (M.language matcher.old) name.old))) }
 {
     let around = matcher.copy(alloc, here)?;
-    match enter_known(alloc, matcher, &name)? {
+    match enter_known(alloc, matcher, name)? {
         Some(state) => {
-            let flaw = named(alloc, Kind::NotAllowed, &name)?;
+            let flaw = named(alloc, Kind::NotAllowed, name)?;
             Ok(Begun {
                 here: Some(state),
-                element: Open::Begins(OpenName::of(alloc, name)?, Some(around)),
+                element: Open::Begins(OpenName::take(alloc, name)?, Some(around)),
                 flaw,
             })
         }
         None => {
-            let flaw = named(alloc, Kind::Unknown, &name)?;
+            let flaw = named(alloc, Kind::Unknown, name)?;
             Ok(Begun {
                 here: None,
                 element: Open::Lost(Some(around)),
@@ -128,21 +128,21 @@ fn enter_awaited<M: Matcher>(
     alloc: Global,
     matcher: &mut M,
     here: &M::State,
-    name: Name,
+    name: &mut Name,
 ) -> Result<Begun<M::State>, NoMemory>
     requires { M.is_state matcher.old here.now }
     ensures later { M.later matcher.old matcher.new }
     ensures gives { IfOk result (BegunIs (M.is_state matcher.new) (M.means matcher.new)
-        (t.entered_by (M.means matcher.old here.now) name None
-        (answered (enter_skip (M.language matcher.old).definitions name (M.means matcher.old here.now)))
-        (t.entered_known (M.language matcher.old) name))) }
+        (t.entered_by (M.means matcher.old here.now) name.old None
+        (answered (enter_skip (M.language matcher.old).definitions name.old (M.means matcher.old here.now)))
+        (t.entered_known (M.language matcher.old) name.old))) }
 {
-    match matcher.enter_skip(alloc, here, &name)? {
+    match matcher.enter_skip(alloc, here, name)? {
         Some(state) => {
-            let flaw = named(alloc, Kind::NotYet, &name)?;
+            let flaw = named(alloc, Kind::NotYet, name)?;
             Ok(Begun {
                 here: Some(state),
-                element: Open::In(OpenName::of(alloc, name)?),
+                element: Open::In(OpenName::take(alloc, name)?),
                 flaw,
             })
         }
@@ -154,16 +154,16 @@ fn enter_awaited<M: Matcher>(
 fn enter_lost<M: Matcher>(
     alloc: Global,
     matcher: &mut M,
-    name: Name,
+    name: &mut Name,
 ) -> Result<Begun<M::State>, NoMemory>
     ensures later { M.later matcher.old matcher.new }
     ensures gives { IfOk result (BegunIs (M.is_state matcher.new) (M.means matcher.new)
-        (t.found_by name (t.entered_known (M.language matcher.old) name))) }
+        (t.found_by name.old (t.entered_known (M.language matcher.old) name.old))) }
 {
-    match enter_known(alloc, matcher, &name)? {
+    match enter_known(alloc, matcher, name)? {
         Some(state) => Ok(Begun {
             here: Some(state),
-            element: Open::Begins(OpenName::of(alloc, name)?, None),
+            element: Open::Begins(OpenName::take(alloc, name)?, None),
             flaw: None,
         }),
         None => Ok(Begun {
@@ -192,17 +192,17 @@ pub fn enter_admitted<M: Matcher>(
     }
 }
 
-/// Where an element begins that isn't admitted.
+/// Where an element begins that isn't admitted. The namespace is taken out of its name.
 pub fn enter_refused<M: Matcher>(
     alloc: Global,
     matcher: &mut M,
     here: &Option<M::State>,
-    name: Name,
+    name: &mut Name,
 ) -> Result<Begun<M::State>, NoMemory>
     requires { IfSome here.now (M.is_state matcher.old) }
     ensures later { M.later matcher.old matcher.new }
     ensures gives { IfOk result (BegunIs (M.is_state matcher.new) (M.means matcher.new)
-        (refused (M.language matcher.old) name (option_map (M.means matcher.old) here.now))) }
+        (refused (M.language matcher.old) name.old (option_map (M.means matcher.old) here.now))) }
 {
     match here {
         Some(state) => enter_awaited(alloc, matcher, state, name),

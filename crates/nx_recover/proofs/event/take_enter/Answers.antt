@@ -15,4 +15,4 @@ take_refused-requires g c = change_later g.met.M.Matcher.laws c.enter_admitted.e
 pub returns-in-None-clause-gives : goal.returns-in-None-clause-gives
 returns-in-None-clause-gives g c =
     refuses g.met.M.Matcher.laws c.enter_admitted.ensures.later (changed c.args.levels.now c.args.change.now) c.requires.states c.args.name.now c.in_ok-state.field-0 c.in-None.is
-    (rw c.here.ensures at c.in_ok-state.ensures.gives).meaning _ _ c.args.levels.now _ c.take_refused.result (rw c.take_name-name.ensures at c.take_refused.ensures.gives)
+    (rw c.here.ensures at c.in_ok-state.ensures.gives).meaning _ _ c.args.levels.now _ c.take_refused.result c.take_refused.ensures.gives

@@ -1,0 +1,118 @@
+//! Bytes of names, in the value itself where they are few.
+
+ghost use Rattle.std.specs.Prelude.{◌≡◌, IfOk, OnOk};
+ghost use Rattle.nx_events.specs.NameBytes.{bytes_of};
+
+use crate::short_bytes::{SHORT, ShortBytes};
+use crate::tag::copy_of;
+use nx_base::equal::Equal;
+use nx_base::memory::NoMemory;
+use nx_base::sequence::{Bytes, TryCopy};
+use std::alloc::Global;
+use std::marker::Model;
+
+/// Where the bytes of a name stand.
+#[derive(Drop)]
+pub(crate) enum Held {
+    /// In the value itself. Few names are longer.
+    Here(ShortBytes),
+    Heap(Vec<u8>),
+}
+
+/// The bytes of a name. Where they are few, as most names' are, they stand in the value itself: then the name takes no other memory, and is
+/// copied without asking for any. To a contract it is the bytes.
+#[derive(Drop)]
+pub struct NameBytes {
+    alloc: Global,
+    held: Held,
+}
+
+impl Model for NameBytes {
+    ghost use Rattle.std.specs.Prelude.{ℕ, List};
+    ghost use Rattle.nx_events.specs.NameBytes.{bytes_of};
+
+    ghost Value = { List ℕ };
+
+    ghost view = { λ name. bytes_of name.held };
+}
+
+// A copy of these bytes, where they have room.
+fn copy_held(alloc: Global, bytes: &[u8]) -> Result<Held, NoMemory>
+    ensures { IfOk result (λ held. bytes_of held ≡ bytes.now) }
+{
+    if bytes.len() <= SHORT {
+        let mut short = ShortBytes::new();
+        short.fill(bytes);
+        return Ok(Held::Here(short));
+    }
+    Ok(Held::Heap(Vec::from_slice(alloc, bytes)?))
+}
+
+impl NameBytes {
+    /// A copy of these bytes.
+    pub fn of(alloc: Global, bytes: &[u8]) -> Result<NameBytes, NoMemory>
+        ensures { IfOk result (λ name. name ≡ bytes.now) }
+    {
+        Ok(NameBytes {
+            alloc,
+            held: copy_held(alloc, bytes)?,
+        })
+    }
+
+    /// The bytes.
+    pub fn as_slice(&self) -> &[u8]
+        ensures { result.now ≡ self.now }
+    {
+        match &self.held {
+            Held::Here(short) => short.as_slice(),
+            Held::Heap(memory) => memory.as_slice(),
+        }
+    }
+
+    /// Puts a copy of these bytes in the place of what is there. Where it is refused, anything may be there.
+    pub(crate) fn fill(&mut self, bytes: &[u8]) -> Result<(), NoMemory>
+        ensures { OnOk result (self.new ≡ bytes.now) }
+    {
+        match &mut self.held {
+            Held::Here(short) => {
+                if bytes.len() <= SHORT {
+                    short.fill(bytes);
+                    return Ok(());
+                }
+            }
+            Held::Heap(memory) => {
+                memory.clear();
+                memory.extend_from_slice(bytes)?;
+                return Ok(());
+            }
+        }
+        self.held = copy_held(self.alloc, bytes)?;
+        Ok(())
+    }
+
+    /// A copy of the bytes as a list.
+    pub fn to_bytes(&self) -> Result<Bytes, NoMemory>
+        ensures { IfOk result (λ copied. copied ≡ self.now) }
+    {
+        let copied = copy_of(self.alloc, self.as_slice())?;
+        Ok(copied)
+    }
+}
+
+impl TryCopy for NameBytes {
+    fn copy(&self) -> Result<NameBytes, NoMemory> {
+        match &self.held {
+            Held::Here(short) => Ok(NameBytes {
+                alloc: self.alloc,
+                held: Held::Here(short.duplicate()),
+            }),
+            Held::Heap(memory) => NameBytes::of(self.alloc, memory.as_slice()),
+        }
+    }
+}
+
+impl Equal for NameBytes {
+    fn equals(&self, other: &NameBytes) -> bool {
+        self.as_slice() == other.as_slice()
+    }
+}

@@ -1,0 +1,66 @@
+//! Few bytes, in the value itself.
+
+ghost use Rattle.std.specs.Prelude.{◌≡◌, ◌≤◌, [], length};
+ghost use Rattle.nx_events.specs.declared.short_bytes.TheConstants.{SHORT};
+
+use std::marker::Model;
+
+/// So many bytes at most stand in the value itself.
+pub(crate) const SHORT: usize = 16;
+
+/// Few bytes, in the value itself. To a contract they are the bytes.
+#[derive(Drop)]
+pub(crate) struct ShortBytes {
+    /// The bytes, and behind them anything.
+    memory: [u8; SHORT],
+    len: usize,
+}
+
+impl Model for ShortBytes {
+    ghost use Rattle.std.specs.Prelude.{◌≤◌, ℕ, List, length, take};
+
+    ghost Value = { List ℕ };
+
+    ghost view = { λ b. take b.len b.memory };
+
+    ghost invariant = { λ b. b.len ≤ length b.memory };
+}
+
+impl ShortBytes {
+    /// No bytes.
+    pub(crate) fn new() -> ShortBytes
+        ensures { result ≡ [] }
+    {
+        ShortBytes {
+            memory: [0; SHORT],
+            len: 0,
+        }
+    }
+
+    /// The bytes.
+    pub(crate) fn as_slice(&self) -> &[u8]
+        ensures { result.now ≡ self.now }
+    {
+        &self.memory[..self.len]
+    }
+
+    /// Puts a copy of these bytes in the place of what is there.
+    pub(crate) fn fill(&mut self, bytes: &[u8])
+        requires { length bytes.now ≤ SHORT }
+        ensures { self.new ≡ bytes.now }
+    {
+        let len = bytes.len();
+        self.memory[..len].copy_from_slice(bytes);
+        self.len = len;
+    }
+
+    /// The same bytes.
+    pub(crate) fn duplicate(&self) -> ShortBytes
+        ensures { result ≡ self.now }
+    {
+        ShortBytes {
+            memory: self.memory,
+            len: self.len,
+        }
+    }
+}
