@@ -3,3 +3,4 @@ pub mod Opened
 pub mod Needed
 pub mod Same
 pub mod Props
+pub mod Choices

@@ -3,18 +3,18 @@
 ghost use Rattle.std.specs.Prelude.{◌≡◌, ◌&&◌, IfOk, if◌then◌else◌};
 ghost use Rattle.rng_core.specs.Meaning.{class_of, pattern_of};
 ghost use Rattle.rng_core.specs.Names.{has_attribute_name};
-ghost use Rattle.rng_core.specs.Patterns.{empty, not_allowed};
+ghost use Rattle.rng_core.specs.Patterns.{Pattern, empty, not_allowed};
 ghost use Rattle.rng_kept.specs.Attributes as s;
 ghost use Rattle.deriv_pattern.specs.Leaves.{IsInOrder};
 ghost use Rattle.deriv_pattern.specs.Choosing.{fits_of};
 
-use crate::boxes::{boxed_copy, boxed_empty, boxed_end, boxed_not_allowed};
+use crate::boxes::{Made, boxed_copy, boxed_empty, boxed_end, boxed_not_allowed, unboxed};
 use crate::leaves::is_blank;
-use crate::parts::{one_of_group, one_of_interleave};
+use crate::parts::one_of_interleave;
 use crate::small::{
-    either, in_order, is_empty, is_not_allowed, nullable, repeated, shuffled, starred,
+    before, behind, either, in_order, is_empty, nullable, repeated, shuffled, starred,
 };
-use crate::strings::after;
+use crate::strings::{behind_string, is_passed};
 use nx_base::memory::NoMemory;
 use nx_base::name::Name;
 use rng_core::grammar::Pat;
@@ -26,8 +26,8 @@ fn value_fits(alloc: Global, value: &str, p: &Pat) -> Result<bool, NoMemory>
     requires { IsInOrder (pattern_of p.now) }
     ensures { IfOk result (λ found. found ≡ s.value_fits value.now (pattern_of p.now)) }
 {
-    let left = after(alloc, p, value)?;
-    Ok(nullable(&left) || (is_blank(value.as_bytes()) && nullable(p)))
+    let passed = is_passed(behind_string(alloc, false, value, p))?;
+    Ok(passed || (is_blank(value.as_bytes()) && nullable(p)))
 }
 
 /// Whether the value matches, or any does.
@@ -58,18 +58,21 @@ fn of_attribute(
     if !class.has_attribute(name) {
         return boxed_not_allowed(alloc);
     }
-    boxed_end(alloc, fits(alloc, any, value, p)?)
+    boxed_end(alloc, fits(alloc, any, value, p))
 }
 
 /// What is left of a repetition behind an attribute, which may stand in any of its parts.
-fn around(alloc: Global, rest: Box<Pat>, p: &Pat) -> Result<Box<Pat>, NoMemory>
-    ensures { IfOk result (λ left. pattern_of left.value ≡ s.around (pattern_of rest.value) (pattern_of p.now)) }
+fn around(alloc: Global, rest: Made, p: &Pat) -> Result<Box<Pat>, NoMemory>
+    ensures { (x : Pattern) → IfOk rest (λ made. pattern_of made.value ≡ x)
+        → IfOk result (λ left. pattern_of left.value ≡ s.around x (pattern_of p.now)) }
 {
+    let rest = rest?;
     if is_empty(&rest) {
+        drop(rest);
         return starred(alloc, p);
     }
-    let rest = in_order(alloc, rest, starred(alloc, p)?)?;
-    in_order(alloc, starred(alloc, p)?, rest)
+    let rest = in_order(alloc, Ok(rest), starred(alloc, p));
+    in_order(alloc, starred(alloc, p), rest)
 }
 
 /// Behind an attribute of the name, with this value or with any.
@@ -84,31 +87,31 @@ fn behind_attribute(
     ensures { IfOk result (λ left. pattern_of left.value ≡ s.attribute_by (fits_of any value.now) name.now (pattern_of p.now)) }
 {
     match p {
-        Pat::NotAllowed => boxed_not_allowed(alloc),
-        Pat::Empty => boxed_not_allowed(alloc),
-        Pat::Text => boxed_not_allowed(alloc),
-        Pat::Typed(_, _) => boxed_not_allowed(alloc),
-        Pat::Value(_, _) => boxed_not_allowed(alloc),
-        Pat::List(_) => boxed_not_allowed(alloc),
-        Pat::Ref(_) => boxed_not_allowed(alloc),
+        Pat::NotAllowed
+        | Pat::Empty
+        | Pat::Text
+        | Pat::Typed(_, _)
+        | Pat::Value(_, _)
+        | Pat::List(_)
+        | Pat::Ref(_) => boxed_not_allowed(alloc),
         Pat::Attribute(class, body) => of_attribute(alloc, any, value, name, class, body),
         Pat::OneOrMore(body) => {
-            let left = behind_attribute(alloc, any, value, name, body)?;
+            let left = behind_attribute(alloc, any, value, name, body);
             around(alloc, left, body)
         }
         Pat::Choice(a, b) => {
-            let left = behind_attribute(alloc, any, value, name, a)?;
-            let second = behind_attribute(alloc, any, value, name, b)?;
+            let left = behind_attribute(alloc, any, value, name, a);
+            let second = behind_attribute(alloc, any, value, name, b);
             either(alloc, left, second)
         }
         Pat::Group(a, b) => {
-            let left = behind_attribute(alloc, any, value, name, a)?;
-            let second = behind_attribute(alloc, any, value, name, b)?;
-            one_of_group(alloc, left, a, b, second)
+            let left = behind_attribute(alloc, any, value, name, a);
+            let second = behind_attribute(alloc, any, value, name, b);
+            either(alloc, before(alloc, left, b), behind(alloc, a, second))
         }
         Pat::Interleave(a, b) => {
-            let left = behind_attribute(alloc, any, value, name, a)?;
-            let second = behind_attribute(alloc, any, value, name, b)?;
+            let left = behind_attribute(alloc, any, value, name, a);
+            let second = behind_attribute(alloc, any, value, name, b);
             one_of_interleave(alloc, left, a, b, second)
         }
     }
@@ -119,7 +122,7 @@ pub fn after_attribute(alloc: Global, p: &Pat, name: &Name, value: &str) -> Resu
     requires { IsInOrder (pattern_of p.now) }
     ensures { IfOk result (λ left. pattern_of left ≡ s.after_attribute name.now value.now (pattern_of p.now)) }
 {
-    Ok(Box::into_inner(behind_attribute(alloc, false, value, name, p)?))
+    unboxed(behind_attribute(alloc, false, value, name, p))
 }
 
 /// Behind an attribute of the name, whatever its value.
@@ -127,7 +130,7 @@ pub fn after_any_attribute(alloc: Global, p: &Pat, name: &Name) -> Result<Pat, N
     requires { IsInOrder (pattern_of p.now) }
     ensures { IfOk result (λ left. pattern_of left ≡ s.after_any_attribute name.now (pattern_of p.now)) }
 {
-    Ok(Box::into_inner(behind_attribute(alloc, true, "", name, p)?))
+    unboxed(behind_attribute(alloc, true, "", name, p))
 }
 
 /// Where no attribute comes any more, in a box.
@@ -135,26 +138,26 @@ fn closed(alloc: Global, p: &Pat) -> Result<Box<Pat>, NoMemory>
     ensures { IfOk result (λ left. pattern_of left.value ≡ s.close (pattern_of p.now)) }
 {
     match p {
-        Pat::NotAllowed => boxed_copy(alloc, p),
-        Pat::Empty => boxed_copy(alloc, p),
-        Pat::Text => boxed_copy(alloc, p),
-        Pat::Typed(_, _) => boxed_copy(alloc, p),
-        Pat::Value(_, _) => boxed_copy(alloc, p),
-        Pat::List(_) => boxed_copy(alloc, p),
-        Pat::Ref(_) => boxed_copy(alloc, p),
+        Pat::NotAllowed
+        | Pat::Empty
+        | Pat::Text
+        | Pat::Typed(_, _)
+        | Pat::Value(_, _)
+        | Pat::List(_)
+        | Pat::Ref(_) => boxed_copy(alloc, p),
         Pat::Attribute(_, _) => boxed_not_allowed(alloc),
-        Pat::OneOrMore(body) => repeated(alloc, closed(alloc, body)?),
+        Pat::OneOrMore(body) => repeated(alloc, closed(alloc, body)),
         Pat::Choice(a, b) => {
-            let left = closed(alloc, a)?;
-            either(alloc, left, closed(alloc, b)?)
+            let left = closed(alloc, a);
+            either(alloc, left, closed(alloc, b))
         }
         Pat::Group(a, b) => {
-            let left = closed(alloc, a)?;
-            in_order(alloc, left, closed(alloc, b)?)
+            let left = closed(alloc, a);
+            in_order(alloc, left, closed(alloc, b))
         }
         Pat::Interleave(a, b) => {
-            let left = closed(alloc, a)?;
-            shuffled(alloc, left, closed(alloc, b)?)
+            let left = closed(alloc, a);
+            shuffled(alloc, left, closed(alloc, b))
         }
     }
 }
@@ -163,7 +166,7 @@ fn closed(alloc: Global, p: &Pat) -> Result<Box<Pat>, NoMemory>
 pub fn close(alloc: Global, p: &Pat) -> Result<Pat, NoMemory>
     ensures { IfOk result (λ left. pattern_of left ≡ s.close (pattern_of p.now)) }
 {
-    Ok(Box::into_inner(closed(alloc, p)?))
+    unboxed(closed(alloc, p))
 }
 
 /// Where attributes that don't come are passed over, in a box.
@@ -171,26 +174,26 @@ fn dropped(alloc: Global, p: &Pat) -> Result<Box<Pat>, NoMemory>
     ensures { IfOk result (λ left. pattern_of left.value ≡ s.drop (pattern_of p.now)) }
 {
     match p {
-        Pat::NotAllowed => boxed_copy(alloc, p),
-        Pat::Empty => boxed_copy(alloc, p),
-        Pat::Text => boxed_copy(alloc, p),
-        Pat::Typed(_, _) => boxed_copy(alloc, p),
-        Pat::Value(_, _) => boxed_copy(alloc, p),
-        Pat::List(_) => boxed_copy(alloc, p),
-        Pat::Ref(_) => boxed_copy(alloc, p),
+        Pat::NotAllowed
+        | Pat::Empty
+        | Pat::Text
+        | Pat::Typed(_, _)
+        | Pat::Value(_, _)
+        | Pat::List(_)
+        | Pat::Ref(_) => boxed_copy(alloc, p),
         Pat::Attribute(_, _) => boxed_empty(alloc),
-        Pat::OneOrMore(body) => repeated(alloc, dropped(alloc, body)?),
+        Pat::OneOrMore(body) => repeated(alloc, dropped(alloc, body)),
         Pat::Choice(a, b) => {
-            let left = dropped(alloc, a)?;
-            either(alloc, left, dropped(alloc, b)?)
+            let left = dropped(alloc, a);
+            either(alloc, left, dropped(alloc, b))
         }
         Pat::Group(a, b) => {
-            let left = dropped(alloc, a)?;
-            in_order(alloc, left, dropped(alloc, b)?)
+            let left = dropped(alloc, a);
+            in_order(alloc, left, dropped(alloc, b))
         }
         Pat::Interleave(a, b) => {
-            let left = dropped(alloc, a)?;
-            shuffled(alloc, left, dropped(alloc, b)?)
+            let left = dropped(alloc, a);
+            shuffled(alloc, left, dropped(alloc, b))
         }
     }
 }
@@ -199,5 +202,5 @@ fn dropped(alloc: Global, p: &Pat) -> Result<Box<Pat>, NoMemory>
 pub fn drop_attributes(alloc: Global, p: &Pat) -> Result<Pat, NoMemory>
     ensures { IfOk result (λ left. pattern_of left ≡ s.drop (pattern_of p.now)) }
 {
-    Ok(Box::into_inner(dropped(alloc, p)?))
+    unboxed(dropped(alloc, p))
 }

@@ -3,13 +3,17 @@
 //! A derivative goes as deep as its pattern does. So what calls itself holds boxes alone, and what holds patterns is called for
 //! one node.
 
-ghost use Rattle.std.specs.Prelude.{◌≡◌, IfOk, if◌then◌else◌};
+ghost use Rattle.std.specs.Prelude.{◌≡◌, Bool, IfOk, if◌then◌else◌};
 ghost use Rattle.rng_core.specs.Meaning.{pattern_of};
-ghost use Rattle.rng_core.specs.Patterns.{not_allowed, empty, one_or_more, choice, group, interleave};
+ghost use Rattle.rng_core.specs.Patterns.{Pattern, not_allowed, empty};
 
 use nx_base::memory::NoMemory;
 use rng_core::grammar::Pat;
 use std::alloc::Global;
+
+/// A pattern in a box, unless memory was wanted. What puts patterns together takes them so: then a walk holds none of them where
+/// it may end early.
+pub(crate) type Made = Result<Box<Pat>, NoMemory>;
 
 /// A pattern in a box.
 #[inline(never)]
@@ -44,48 +48,48 @@ pub(crate) fn boxed_empty(alloc: Global) -> Result<Box<Pat>, NoMemory>
 }
 
 /// What is left of a leaf behind what it takes or doesn't take, in a box.
-pub(crate) fn boxed_end(alloc: Global, taken: bool) -> Result<Box<Pat>, NoMemory>
-    ensures { IfOk result (λ made. pattern_of made.value ≡ (if taken then empty else not_allowed)) }
+pub(crate) fn boxed_end(alloc: Global, taken: Result<bool, NoMemory>) -> Result<Box<Pat>, NoMemory>
+    ensures { (x : Bool) → IfOk taken (λ it. it ≡ x)
+        → IfOk result (λ made. pattern_of made.value ≡ (if x then empty else not_allowed)) }
 {
-    if taken {
+    if taken? {
         boxed_empty(alloc)
     } else {
         boxed_not_allowed(alloc)
     }
 }
 
-/// A repetition in a box.
-#[inline(never)]
-pub(crate) fn boxed_one_or_more(alloc: Global, body: Box<Pat>) -> Result<Box<Pat>, NoMemory>
-    ensures { IfOk result (λ made. pattern_of made.value ≡ one_or_more (pattern_of body.value)) }
+/// What is in a box.
+pub(crate) fn unboxed(made: Made) -> Result<Pat, NoMemory>
+    ensures { (x : Pattern) → IfOk made (λ it. pattern_of it.value ≡ x) → IfOk result (λ it. pattern_of it ≡ x) }
 {
-    boxed(alloc, Pat::OneOrMore(body))
+    Ok(Box::into_inner(made?))
 }
 
-/// A choice in a box.
-#[inline(never)]
-pub(crate) fn boxed_choice(alloc: Global, a: Box<Pat>, b: Box<Pat>) -> Result<Box<Pat>, NoMemory>
-    ensures { IfOk result (λ made. pattern_of made.value ≡ choice (pattern_of a.value) (pattern_of b.value)) }
+/// Both of two patterns.
+pub(crate) fn both(p: Made, q: Made) -> Result<(Box<Pat>, Box<Pat>), NoMemory>
+    ensures { (x y : Pattern) → IfOk p (λ made. pattern_of made.value ≡ x) → IfOk q (λ made. pattern_of made.value ≡ y)
+        → IfOk result (λ two. (pattern_of two.0.value ≡ x) × (pattern_of two.1.value ≡ y)) }
 {
-    boxed(alloc, Pat::Choice(a, b))
+    match p {
+        Ok(p) => match q {
+            Ok(q) => Ok((p, q)),
+            Err(fault) => {
+                drop(p);
+                Err(fault)
+            }
+        },
+        Err(fault) => {
+            drop(q);
+            Err(fault)
+        }
+    }
 }
 
-/// A group in a box.
-#[inline(never)]
-pub(crate) fn boxed_group(alloc: Global, a: Box<Pat>, b: Box<Pat>) -> Result<Box<Pat>, NoMemory>
-    ensures { IfOk result (λ made. pattern_of made.value ≡ group (pattern_of a.value) (pattern_of b.value)) }
+/// The one of two patterns; the other is let go.
+pub(crate) fn one_kept(kept: Box<Pat>, other: Box<Pat>) -> Made
+    ensures { IfOk result (λ made. pattern_of made.value ≡ pattern_of kept.value) }
 {
-    boxed(alloc, Pat::Group(a, b))
-}
-
-/// An interleave in a box.
-#[inline(never)]
-pub(crate) fn boxed_interleave(
-    alloc: Global,
-    a: Box<Pat>,
-    b: Box<Pat>,
-) -> Result<Box<Pat>, NoMemory>
-    ensures { IfOk result (λ made. pattern_of made.value ≡ interleave (pattern_of a.value) (pattern_of b.value)) }
-{
-    boxed(alloc, Pat::Interleave(a, b))
+    drop(other);
+    Ok(kept)
 }

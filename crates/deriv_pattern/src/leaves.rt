@@ -1,6 +1,6 @@
 //! Which strings the leaves of a pattern take.
 
-ghost use Rattle.std.specs.Prelude.{◌≡◌, ◌≤◌, length, is_some, IfOk, IsTrue};
+ghost use Rattle.std.specs.Prelude.{◌≡◌, ◌≤◌, ◌&&◌, ◌||◌, Bool, length, is_some, IfOk, IsTrue};
 ghost use Rattle.std.specs.List.{list_all};
 ghost use Rattle.std.specs.Str.{is_utf8};
 ghost use Rattle.nx_base.specs.Characters.{is_blank as is_blank_text};
@@ -9,6 +9,7 @@ ghost use Rattle.rng_types.specs.MemberTest.{has_member as has_member_of, most_e
 ghost use Rattle.rng_types.specs.OneToken.{one_token_of};
 ghost use Rattle.rng_types.specs.WellMade.{is_well_made, is_sound_except};
 ghost use Rattle.rng_core.specs.Meaning.{pattern_of};
+ghost use Rattle.rng_kept.specs.Nullable.{nullable as is_nullable};
 ghost use Rattle.rng_kept.specs.Strings as strings;
 ghost use Rattle.rng_kept.specs.SolidStrings as solid;
 ghost use Rattle.deriv_pattern.specs.Leaves.{IsInOrder};
@@ -105,35 +106,58 @@ pub fn has_one_token(alloc: Global, datatype: &Datatype, wanted: &Bytes) -> Resu
     Ok(token.is_some())
 }
 
+/// Whether one side of a choice matches some words.
+fn one_has_words(
+    first: Result<bool, NoMemory>,
+    second: Result<bool, NoMemory>,
+) -> Result<bool, NoMemory>
+    ensures { (x y : Bool) → IfOk first (λ it. it ≡ x) → IfOk second (λ it. it ≡ y)
+        → IfOk result (λ found. found ≡ (x || y)) }
+{
+    let first = first?;
+    let second = second?;
+    Ok(first || second)
+}
+
+/// Whether two parts together match some words, where it is known whether either does: one does, and the other does or needs none.
+fn both_have_words(
+    first: Result<bool, NoMemory>,
+    a: &Pat,
+    b: &Pat,
+    second: Result<bool, NoMemory>,
+) -> Result<bool, NoMemory>
+    ensures { (x y : Bool) → IfOk first (λ it. it ≡ x) → IfOk second (λ it. it ≡ y) → IfOk result (λ found. found ≡
+        ((x && (y || is_nullable (pattern_of b.now))) || (is_nullable (pattern_of a.now) && y))) }
+{
+    let first = first?;
+    let second = second?;
+    Ok((first && (second || nullable(b))) || (nullable(a) && second))
+}
+
 /// Whether the body of a list matches some words, one at least.
 pub(crate) fn has_words(alloc: Global, p: &Pat) -> Result<bool, NoMemory>
     requires { IsInOrder (pattern_of p.now) }
     ensures { IfOk result (λ found. found ≡ solid.has_words (pattern_of p.now)) }
 {
     match p {
-        Pat::NotAllowed => Ok(false),
-        Pat::Empty => Ok(false),
+        Pat::NotAllowed | Pat::Empty | Pat::List(_) | Pat::Attribute(_, _) | Pat::Ref(_) => Ok(
+            false,
+        ),
         Pat::Text => Ok(true),
         Pat::Typed(datatype, excepts) => Ok(has_member(datatype, excepts, true)),
         Pat::Value(datatype, wanted) => has_one_token(alloc, datatype, wanted),
-        Pat::List(_) => Ok(false),
-        Pat::Attribute(_, _) => Ok(false),
-        Pat::Ref(_) => Ok(false),
         Pat::OneOrMore(body) => has_words(alloc, body),
         Pat::Choice(a, b) => {
-            let first = has_words(alloc, a)?;
-            let second = has_words(alloc, b)?;
-            Ok(first || second)
+            let first = has_words(alloc, a);
+            one_has_words(first, has_words(alloc, b))
         }
         Pat::Group(a, b) => {
-            let first = has_words(alloc, a)?;
-            let second = has_words(alloc, b)?;
-            Ok((first && (second || nullable(b))) || (nullable(a) && second))
+            let first = has_words(alloc, a);
+            both_have_words(first, a, b, has_words(alloc, b))
         }
         Pat::Interleave(a, b) => {
-            let first = has_words(alloc, a)?;
-            let second = has_words(alloc, b)?;
-            Ok((first && (second || nullable(b))) || (nullable(a) && second))
+            let first = has_words(alloc, a);
+            both_have_words(first, a, b, has_words(alloc, b))
         }
     }
 }

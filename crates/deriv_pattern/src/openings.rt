@@ -1,25 +1,29 @@
 //! What an element's name opens: the definitions whose elements may begin here, with what is left behind the element.
 
-ghost use Rattle.std.specs.Prelude.{ℕ, ◌≡◌, ◌==◌, ◌≤◌, length, IfOk, OnOk, map, slice_get};
+ghost use Rattle.std.specs.Prelude.{ℕ, List, ◌≡◌, ◌==◌, ◌≤◌, length, IfOk, OnOk, map, slice_get};
 ghost use Rattle.std.specs.List.{list_any, position_or_len};
 ghost use Rattle.rng_core.specs.Meaning.{pattern_of, definition_of};
-ghost use Rattle.rng_core.specs.Patterns.{choice, empty};
-ghost use Rattle.rng_kept.specs.SmallPatterns.{choice_of as choice_of_both, star as star_of};
+ghost use Rattle.rng_core.specs.Patterns.{Pattern, choice, empty};
+ghost use Rattle.rng_kept.specs.SmallPatterns.{choice_of as choice_of_both, interleave_of as interleave_of_both, star as star_of};
+ghost use Rattle.rng_kept.specs.Openings.{Opening};
 ghost use Rattle.rng_kept.specs.Openings as s;
 ghost use Rattle.rng_kept.specs.Skipping as skipping;
 ghost use Rattle.rng_kept.specs.Entering as entering;
 ghost use Rattle.deriv_pattern.specs.Opened.{opening_of, openings_of, placed};
 
-use crate::boxes::{boxed, boxed_choice, boxed_copy, boxed_empty, boxed_not_allowed};
+use crate::boxes::{boxed, boxed_copy, boxed_empty, boxed_not_allowed, unboxed};
 use crate::parts::{either_side, first_of_many};
 use crate::small::{
-    beside_first, choice_of, either, group_of, interleave_of, nullable, shuffled, star,
+    beside_first, choice_of, choice_with, either, group_of, interleave_of, nullable, shuffled, star,
 };
 use nx_base::memory::NoMemory;
 use nx_base::name::Name;
 use rng_core::grammar::{Def, Pat};
 use std::alloc::Global;
 use std::mem;
+
+/// The openings of a pattern, unless memory was wanted.
+type Opens = Result<Vec<Open>, NoMemory>;
 
 /// A definition whose element may begin here.
 #[derive(Drop)]
@@ -31,7 +35,7 @@ pub struct Open {
 }
 
 /// Where an element stands that begins a part of a whole.
-#[derive(Clone, Copy, Debug, PartialEq, Eq)]
+#[derive(Clone, Copy)]
 pub(crate) enum Place {
     /// In the first side of a group.
     InGroup,
@@ -70,12 +74,19 @@ fn added(alloc: Global, opened: Vec<Open>, more: Open) -> Result<Vec<Open>, NoMe
         opened.push(more)?;
         return Ok(opened);
     }
-    with_rest(alloc, &mut opened[place], &more.rest)?;
-    Ok(opened)
+    let told = with_rest(alloc, &mut opened[place], &more.rest);
+    drop(more);
+    match told {
+        Ok(()) => Ok(opened),
+        Err(fault) => {
+            drop(opened);
+            Err(fault)
+        }
+    }
 }
 
 /// The openings with those of another list.
-fn joined(alloc: Global, opened: Vec<Open>, more: Vec<Open>) -> Result<Vec<Open>, NoMemory>
+fn all_joined(alloc: Global, opened: Vec<Open>, more: Vec<Open>) -> Result<Vec<Open>, NoMemory>
     ensures { IfOk result (λ made. openings_of made.items ≡ s.joined (openings_of opened.items) (openings_of more.items)) }
 {
     let mut opened = opened;
@@ -83,6 +94,34 @@ fn joined(alloc: Global, opened: Vec<Open>, more: Vec<Open>) -> Result<Vec<Open>
         opened = added(alloc, opened, one)?;
     }
     Ok(opened)
+}
+
+/// The openings of two parts, each number once.
+fn joined(alloc: Global, opened: Opens, more: Opens) -> Result<Vec<Open>, NoMemory>
+    ensures { (x y : List Opening) → IfOk opened (λ made. openings_of made.items ≡ x) → IfOk more (λ made. openings_of made.items ≡ y)
+        → IfOk result (λ made. openings_of made.items ≡ s.joined x y) }
+{
+    match opened {
+        Ok(opened) => match more {
+            Ok(more) => all_joined(alloc, opened, more),
+            Err(fault) => {
+                drop(opened);
+                Err(fault)
+            }
+        },
+        Err(fault) => {
+            drop(more);
+            Err(fault)
+        }
+    }
+}
+
+/// What is left of an interleave, where this is left of the second side.
+fn placed_second(alloc: Global, rest: Pat, side: &Pat) -> Result<Pat, NoMemory>
+    ensures { IfOk result (λ left. pattern_of left ≡ interleave_of_both (pattern_of side.now) (pattern_of rest)) }
+{
+    let rest = boxed(alloc, rest);
+    unboxed(beside_first(alloc, side, rest))
 }
 
 /// What is left of a whole, where this is left of the part, and the other side of the whole is this.
@@ -93,10 +132,18 @@ fn placed_rest(alloc: Global, place: Place, rest: Pat, side: &Pat) -> Result<Pat
     match place {
         Place::InGroup => group_of(alloc, rest, side),
         Place::InFirst => interleave_of(alloc, rest, side),
-        Place::InSecond => {
-            let rest = beside_first(alloc, side, boxed(alloc, rest)?)?;
-            Ok(Box::into_inner(rest))
-        }
+        Place::InSecond => placed_second(alloc, rest, side),
+    }
+}
+
+/// The openings of a part as those of the whole, of which this is the other side.
+fn placed_in(alloc: Global, place: Place, opened: Opens, side: &Pat) -> Result<Vec<Open>, NoMemory>
+    ensures { (x : List Opening) → IfOk opened (λ made. openings_of made.items ≡ x)
+        → IfOk result (λ made. openings_of made.items ≡ map (placed place (pattern_of side.now)) x) }
+{
+    match opened {
+        Ok(opened) => all_placed(alloc, place, opened, side),
+        Err(fault) => Err(fault),
     }
 }
 
@@ -146,28 +193,37 @@ fn definition_opens(
 }
 
 /// The openings of a repetition, of which these are those of a part.
-fn of_many(alloc: Global, opened: Vec<Open>, body: &Pat) -> Result<Vec<Open>, NoMemory>
-    ensures { IfOk result (λ made. openings_of made.items ≡
-        map (s.then_group (star_of (pattern_of body.now))) (openings_of opened.items)) }
+fn of_many(alloc: Global, opened: Opens, body: &Pat) -> Result<Vec<Open>, NoMemory>
+    ensures { (x : List Opening) → IfOk opened (λ made. openings_of made.items ≡ x)
+        → IfOk result (λ made. openings_of made.items ≡ map (s.then_group (star_of (pattern_of body.now))) x) }
 {
-    let more = star(alloc, body)?;
-    all_placed(alloc, Place::InGroup, opened, &more)
+    match star(alloc, body) {
+        Ok(more) => {
+            let made = placed_in(alloc, Place::InGroup, opened, &more);
+            drop(more);
+            made
+        }
+        Err(fault) => {
+            drop(opened);
+            Err(fault)
+        }
+    }
 }
 
 /// The openings of an interleave, of which these are those of the sides.
 fn of_interleave(
     alloc: Global,
-    first: Vec<Open>,
+    first: Opens,
     a: &Pat,
     b: &Pat,
-    second: Vec<Open>,
+    second: Opens,
 ) -> Result<Vec<Open>, NoMemory>
-    ensures { IfOk result (λ made. openings_of made.items ≡ s.joined
-        (map (s.then_interleave (pattern_of b.now)) (openings_of first.items))
-        (map (s.under_interleave (pattern_of a.now)) (openings_of second.items))) }
+    ensures { (x y : List Opening) → IfOk first (λ made. openings_of made.items ≡ x) → IfOk second (λ made. openings_of made.items ≡ y)
+        → IfOk result (λ made. openings_of made.items ≡ s.joined
+        (map (s.then_interleave (pattern_of b.now)) x) (map (s.under_interleave (pattern_of a.now)) y)) }
 {
-    let first = all_placed(alloc, Place::InFirst, first, b)?;
-    joined(alloc, first, all_placed(alloc, Place::InSecond, second, a)?)
+    let first = placed_in(alloc, Place::InFirst, first, b);
+    joined(alloc, first, placed_in(alloc, Place::InSecond, second, a))
 }
 
 /// The definitions that a name opens, each number once.
@@ -175,33 +231,34 @@ pub fn opens(alloc: Global, defs: &[Def], name: &Name, p: &Pat) -> Result<Vec<Op
     ensures { IfOk result (λ opened. openings_of opened.items ≡ s.opens (map definition_of defs.now) name.now (pattern_of p.now)) }
 {
     match p {
-        Pat::NotAllowed => Ok(Vec::new(alloc)),
-        Pat::Empty => Ok(Vec::new(alloc)),
-        Pat::Text => Ok(Vec::new(alloc)),
-        Pat::Typed(_, _) => Ok(Vec::new(alloc)),
-        Pat::Value(_, _) => Ok(Vec::new(alloc)),
-        Pat::List(_) => Ok(Vec::new(alloc)),
-        Pat::Attribute(_, _) => Ok(Vec::new(alloc)),
+        Pat::NotAllowed
+        | Pat::Empty
+        | Pat::Text
+        | Pat::Typed(_, _)
+        | Pat::Value(_, _)
+        | Pat::List(_)
+        | Pat::Attribute(_, _) => Ok(Vec::new(alloc)),
         Pat::Ref(number) => definition_opens(alloc, defs, name, *number),
         Pat::OneOrMore(body) => {
-            let opened = opens(alloc, defs, name, body)?;
+            let opened = opens(alloc, defs, name, body);
             of_many(alloc, opened, body)
         }
         Pat::Choice(a, b) => {
-            let first = opens(alloc, defs, name, a)?;
-            joined(alloc, first, opens(alloc, defs, name, b)?)
+            let first = opens(alloc, defs, name, a);
+            joined(alloc, first, opens(alloc, defs, name, b))
         }
         Pat::Group(a, b) => {
-            let first = opens(alloc, defs, name, a)?;
-            let first = all_placed(alloc, Place::InGroup, first, b)?;
-            if !nullable(a) {
-                return Ok(first);
+            let first = opens(alloc, defs, name, a);
+            let first = placed_in(alloc, Place::InGroup, first, b);
+            if nullable(a) {
+                joined(alloc, first, opens(alloc, defs, name, b))
+            } else {
+                first
             }
-            joined(alloc, first, opens(alloc, defs, name, b)?)
         }
         Pat::Interleave(a, b) => {
-            let first = opens(alloc, defs, name, a)?;
-            let second = opens(alloc, defs, name, b)?;
+            let first = opens(alloc, defs, name, a);
+            let second = opens(alloc, defs, name, b);
             of_interleave(alloc, first, a, b, second)
         }
     }
@@ -212,7 +269,7 @@ fn boxed_or_empty(alloc: Global, p: &Pat) -> Result<Box<Pat>, NoMemory>
     ensures { IfOk result (λ made. pattern_of made.value ≡ choice (pattern_of p.now) empty) }
 {
     let front = boxed_copy(alloc, p)?;
-    boxed_choice(alloc, front, boxed_empty(alloc)?)
+    choice_with(alloc, front, boxed_empty(alloc))
 }
 
 /// The ends of what is matched: of one child it is there or left out. In a box.
@@ -220,30 +277,27 @@ fn boxed_ending(alloc: Global, p: &Pat) -> Result<Box<Pat>, NoMemory>
     ensures { IfOk result (λ made. pattern_of made.value ≡ skipping.ending (pattern_of p.now)) }
 {
     match p {
-        Pat::NotAllowed => boxed_copy(alloc, p),
-        Pat::Empty => boxed_copy(alloc, p),
-        Pat::Text => boxed_copy(alloc, p),
-        Pat::Typed(_, _) => boxed_or_empty(alloc, p),
-        Pat::Value(_, _) => boxed_or_empty(alloc, p),
-        Pat::List(_) => boxed_or_empty(alloc, p),
+        Pat::NotAllowed | Pat::Empty | Pat::Text => boxed_copy(alloc, p),
+        Pat::Typed(_, _) | Pat::Value(_, _) | Pat::List(_) | Pat::Ref(_) => {
+            boxed_or_empty(alloc, p)
+        }
         Pat::Attribute(_, _) => boxed_not_allowed(alloc),
-        Pat::Ref(_) => boxed_or_empty(alloc, p),
         Pat::OneOrMore(body) => {
-            let left = boxed_ending(alloc, body)?;
+            let left = boxed_ending(alloc, body);
             first_of_many(alloc, left, body)
         }
         Pat::Choice(a, b) => {
-            let first = boxed_ending(alloc, a)?;
-            either(alloc, first, boxed_ending(alloc, b)?)
+            let first = boxed_ending(alloc, a);
+            either(alloc, first, boxed_ending(alloc, b))
         }
         Pat::Group(a, b) => {
-            let first = boxed_ending(alloc, a)?;
-            let second = boxed_ending(alloc, b)?;
+            let first = boxed_ending(alloc, a);
+            let second = boxed_ending(alloc, b);
             either_side(alloc, first, b, second)
         }
         Pat::Interleave(a, b) => {
-            let first = boxed_ending(alloc, a)?;
-            shuffled(alloc, first, boxed_ending(alloc, b)?)
+            let first = boxed_ending(alloc, a);
+            shuffled(alloc, first, boxed_ending(alloc, b))
         }
     }
 }
@@ -254,31 +308,54 @@ pub fn skip_opens(alloc: Global, defs: &[Def], name: &Name, p: &Pat) -> Result<V
         skipping.skip_opens (map definition_of defs.now) name.now (pattern_of p.now)) }
 {
     match p {
-        Pat::NotAllowed => Ok(Vec::new(alloc)),
-        Pat::Empty => Ok(Vec::new(alloc)),
-        Pat::Text => Ok(Vec::new(alloc)),
-        Pat::Typed(_, _) => Ok(Vec::new(alloc)),
-        Pat::Value(_, _) => Ok(Vec::new(alloc)),
-        Pat::List(_) => Ok(Vec::new(alloc)),
-        Pat::Attribute(_, _) => Ok(Vec::new(alloc)),
+        Pat::NotAllowed
+        | Pat::Empty
+        | Pat::Text
+        | Pat::Typed(_, _)
+        | Pat::Value(_, _)
+        | Pat::List(_)
+        | Pat::Attribute(_, _) => Ok(Vec::new(alloc)),
         Pat::Ref(number) => definition_opens(alloc, defs, name, *number),
         Pat::OneOrMore(body) => {
-            let opened = skip_opens(alloc, defs, name, body)?;
+            let opened = skip_opens(alloc, defs, name, body);
             of_many(alloc, opened, body)
         }
         Pat::Choice(a, b) => {
-            let first = skip_opens(alloc, defs, name, a)?;
-            joined(alloc, first, skip_opens(alloc, defs, name, b)?)
+            let first = skip_opens(alloc, defs, name, a);
+            joined(alloc, first, skip_opens(alloc, defs, name, b))
         }
         Pat::Group(a, b) => {
-            let first = skip_opens(alloc, defs, name, a)?;
-            let first = all_placed(alloc, Place::InGroup, first, b)?;
-            joined(alloc, first, skip_opens(alloc, defs, name, b)?)
+            let first = skip_opens(alloc, defs, name, a);
+            let first = placed_in(alloc, Place::InGroup, first, b);
+            joined(alloc, first, skip_opens(alloc, defs, name, b))
         }
         Pat::Interleave(a, b) => {
-            let first = skip_opens(alloc, defs, name, a)?;
-            let second = skip_opens(alloc, defs, name, b)?;
+            let first = skip_opens(alloc, defs, name, a);
+            let second = skip_opens(alloc, defs, name, b);
             of_ends(alloc, first, a, b, second)
+        }
+    }
+}
+
+/// The openings of one side of an interleave as those of all of it, where this is the other side and its children are left out.
+fn beside_ending(
+    alloc: Global,
+    place: Place,
+    opened: Opens,
+    side: &Pat,
+) -> Result<Vec<Open>, NoMemory>
+    ensures { (x : List Opening) → IfOk opened (λ made. openings_of made.items ≡ x)
+        → IfOk result (λ made. openings_of made.items ≡ map (placed place (skipping.ending (pattern_of side.now))) x) }
+{
+    match boxed_ending(alloc, side) {
+        Ok(end) => {
+            let made = placed_in(alloc, place, opened, &end);
+            drop(end);
+            made
+        }
+        Err(fault) => {
+            drop(opened);
+            Err(fault)
         }
     }
 }
@@ -286,18 +363,22 @@ pub fn skip_opens(alloc: Global, defs: &[Def], name: &Name, p: &Pat) -> Result<V
 /// The openings of an interleave behind children that are left out, of which these are those of the sides.
 fn of_ends(
     alloc: Global,
-    first: Vec<Open>,
+    first: Opens,
     a: &Pat,
     b: &Pat,
-    second: Vec<Open>,
+    second: Opens,
 ) -> Result<Vec<Open>, NoMemory>
-    ensures { IfOk result (λ made. openings_of made.items ≡ s.joined
-        (map (s.then_interleave (skipping.ending (pattern_of b.now))) (openings_of first.items))
-        (map (s.under_interleave (skipping.ending (pattern_of a.now))) (openings_of second.items))) }
+    ensures { (x y : List Opening) → IfOk first (λ made. openings_of made.items ≡ x) → IfOk second (λ made. openings_of made.items ≡ y)
+        → IfOk result (λ made. openings_of made.items ≡ s.joined
+        (map (s.then_interleave (skipping.ending (pattern_of b.now))) x)
+        (map (s.under_interleave (skipping.ending (pattern_of a.now))) y)) }
 {
-    let a = boxed_ending(alloc, a)?;
-    let b = boxed_ending(alloc, b)?;
-    of_interleave(alloc, first, &a, &b, second)
+    let first = beside_ending(alloc, Place::InFirst, first, b);
+    joined(
+        alloc,
+        first,
+        beside_ending(alloc, Place::InSecond, second, a),
+    )
 }
 
 /// What is left by the opening of a number; notAllowed where there is none.

@@ -41,33 +41,25 @@ pub fn needs(alloc: Global, name: &Name, p: &Pat) -> Result<bool, NoMemory>
     ensures { IfOk result (λ found. found ≡ s.needs name.now (pattern_of p.now)) }
 {
     match p {
-        Pat::NotAllowed => Ok(false),
-        Pat::Empty => Ok(false),
-        Pat::Text => Ok(false),
-        Pat::Typed(_, _) => Ok(false),
-        Pat::Value(_, _) => Ok(false),
-        Pat::List(_) => Ok(false),
-        Pat::Ref(_) => Ok(false),
+        Pat::NotAllowed
+        | Pat::Empty
+        | Pat::Text
+        | Pat::Typed(_, _)
+        | Pat::Value(_, _)
+        | Pat::List(_)
+        | Pat::Ref(_) => Ok(false),
         Pat::Attribute(class, _) => has_only(alloc, class, name),
         Pat::OneOrMore(body) => needs(alloc, name, body),
-        Pat::Choice(a, b) => {
-            if !needs(alloc, name, a)? {
-                return Ok(false);
-            }
-            needs(alloc, name, b)
-        }
-        Pat::Group(a, b) => {
-            if needs(alloc, name, a)? {
-                return Ok(true);
-            }
-            needs(alloc, name, b)
-        }
-        Pat::Interleave(a, b) => {
-            if needs(alloc, name, a)? {
-                return Ok(true);
-            }
-            needs(alloc, name, b)
-        }
+        Pat::Choice(a, b) => match needs(alloc, name, a) {
+            Ok(true) => needs(alloc, name, b),
+            Ok(false) => Ok(false),
+            Err(fault) => Err(fault),
+        },
+        Pat::Group(a, b) | Pat::Interleave(a, b) => match needs(alloc, name, a) {
+            Ok(true) => Ok(true),
+            Ok(false) => needs(alloc, name, b),
+            Err(fault) => Err(fault),
+        },
     }
 }
 
@@ -101,34 +93,19 @@ fn add_names(names: &mut Names, p: &Pat) -> Result<(), NoMemory>
     ensures { OnOk result (names.new ≡ names.old ++ names_of (pattern_of p.now)) }
 {
     match p {
-        Pat::NotAllowed => Ok(()),
-        Pat::Empty => Ok(()),
-        Pat::Text => Ok(()),
-        Pat::Typed(_, _) => Ok(()),
-        Pat::Value(_, _) => Ok(()),
-        Pat::List(_) => Ok(()),
-        Pat::Ref(_) => Ok(()),
-        Pat::Attribute(class, _) => {
-            add_mentioned(names, class)?;
-            Ok(())
-        }
-        Pat::OneOrMore(body) => {
-            add_names(names, body)?;
-            Ok(())
-        }
-        Pat::Choice(a, _) => {
+        Pat::NotAllowed
+        | Pat::Empty
+        | Pat::Text
+        | Pat::Typed(_, _)
+        | Pat::Value(_, _)
+        | Pat::List(_)
+        | Pat::Ref(_) => Ok(()),
+        Pat::Attribute(class, _) => add_mentioned(names, class),
+        Pat::OneOrMore(body) => add_names(names, body),
+        Pat::Choice(a, _) => add_names(names, a),
+        Pat::Group(a, b) | Pat::Interleave(a, b) => {
             add_names(names, a)?;
-            Ok(())
-        }
-        Pat::Group(a, b) => {
-            add_names(names, a)?;
-            add_names(names, b)?;
-            Ok(())
-        }
-        Pat::Interleave(a, b) => {
-            add_names(names, a)?;
-            add_names(names, b)?;
-            Ok(())
+            add_names(names, b)
         }
     }
 }

@@ -5,12 +5,11 @@
 ghost use Rattle.std.specs.Prelude.{◌≡◌, IfOk, IsTrue};
 ghost use Rattle.rng_core.specs.Equality.{same_pattern as same_patterns};
 ghost use Rattle.rng_core.specs.Meaning.{pattern_of};
+ghost use Rattle.rng_core.specs.Patterns.{Pattern, choice};
 ghost use Rattle.rng_kept.specs.SmallPatterns as s;
 ghost use Rattle.rng_kept.specs.Nullable.{nullable as is_nullable};
 
-use crate::boxes::{
-    boxed, boxed_choice, boxed_copy, boxed_empty, boxed_group, boxed_interleave, boxed_one_or_more,
-};
+use crate::boxes::{Made, both, boxed, boxed_copy, boxed_empty, one_kept, unboxed};
 use nx_base::memory::NoMemory;
 use rng_core::grammar::Pat;
 use std::alloc::Global;
@@ -34,19 +33,18 @@ pub fn nullable(p: &Pat) -> bool
     ensures { result ≡ is_nullable (pattern_of p.now) }
 {
     match p {
-        Pat::Empty => true,
-        Pat::Text => true,
+        Pat::Empty | Pat::Text => true,
         Pat::OneOrMore(body) => nullable(body),
         Pat::Choice(a, b) => nullable(a) || nullable(b),
         // Parts of one whole nest to the left, so that asking the last one first mostly ends at once.
         Pat::Group(a, b) => nullable(b) && nullable(a),
         Pat::Interleave(a, b) => nullable(b) && nullable(a),
-        Pat::NotAllowed => false,
-        Pat::Typed(_, _) => false,
-        Pat::Value(_, _) => false,
-        Pat::List(_) => false,
-        Pat::Attribute(_, _) => false,
-        Pat::Ref(_) => false,
+        Pat::NotAllowed
+        | Pat::Typed(_, _)
+        | Pat::Value(_, _)
+        | Pat::List(_)
+        | Pat::Attribute(_, _)
+        | Pat::Ref(_) => false,
     }
 }
 
@@ -63,17 +61,32 @@ fn is_side(q: &Pat, p: &Pat) -> bool
 {
     match p {
         Pat::Choice(a, b) => is_side(q, a) || same_pattern(q, b),
-        Pat::NotAllowed => same_pattern(q, p),
-        Pat::Empty => same_pattern(q, p),
-        Pat::Text => same_pattern(q, p),
-        Pat::Typed(_, _) => same_pattern(q, p),
-        Pat::Value(_, _) => same_pattern(q, p),
-        Pat::List(_) => same_pattern(q, p),
-        Pat::Attribute(_, _) => same_pattern(q, p),
-        Pat::Ref(_) => same_pattern(q, p),
-        Pat::OneOrMore(_) => same_pattern(q, p),
-        Pat::Group(_, _) => same_pattern(q, p),
-        Pat::Interleave(_, _) => same_pattern(q, p),
+        Pat::NotAllowed
+        | Pat::Empty
+        | Pat::Text
+        | Pat::Typed(_, _)
+        | Pat::Value(_, _)
+        | Pat::List(_)
+        | Pat::Attribute(_, _)
+        | Pat::Ref(_)
+        | Pat::OneOrMore(_)
+        | Pat::Group(_, _)
+        | Pat::Interleave(_, _) => same_pattern(q, p),
+    }
+}
+
+/// The choice of a pattern and a second one, as it is.
+#[inline(never)]
+pub(crate) fn choice_with(alloc: Global, p: Box<Pat>, q: Made) -> Result<Box<Pat>, NoMemory>
+    ensures { (y : Pattern) → IfOk q (λ made. pattern_of made.value ≡ y)
+        → IfOk result (λ made. pattern_of made.value ≡ choice (pattern_of p.value) y) }
+{
+    match q {
+        Ok(q) => boxed(alloc, Pat::Choice(p, q)),
+        Err(fault) => {
+            drop(p);
+            Err(fault)
+        }
     }
 }
 
@@ -82,6 +95,7 @@ fn with_side(alloc: Global, p: Box<Pat>, q: &Pat) -> Result<Box<Pat>, NoMemory>
     ensures { IfOk result (λ made. pattern_of made.value ≡ s.with_side (pattern_of p.value) (pattern_of q.now)) }
 {
     if is_not_allowed(&p) {
+        drop(p);
         return boxed_copy(alloc, q);
     }
     if is_not_allowed(q) {
@@ -90,7 +104,7 @@ fn with_side(alloc: Global, p: Box<Pat>, q: &Pat) -> Result<Box<Pat>, NoMemory>
     if is_side(q, &p) {
         return Ok(p);
     }
-    boxed_choice(alloc, p, boxed_copy(alloc, q)?)
+    choice_with(alloc, p, boxed_copy(alloc, q))
 }
 
 /// A choice with the sides of a second pattern, in a box.
@@ -102,17 +116,17 @@ pub(crate) fn with_sides(alloc: Global, p: Box<Pat>, q: &Pat) -> Result<Box<Pat>
             let front = with_sides(alloc, p, a)?;
             with_sides(alloc, front, b)
         }
-        Pat::NotAllowed => with_side(alloc, p, q),
-        Pat::Empty => with_side(alloc, p, q),
-        Pat::Text => with_side(alloc, p, q),
-        Pat::Typed(_, _) => with_side(alloc, p, q),
-        Pat::Value(_, _) => with_side(alloc, p, q),
-        Pat::List(_) => with_side(alloc, p, q),
-        Pat::Attribute(_, _) => with_side(alloc, p, q),
-        Pat::Ref(_) => with_side(alloc, p, q),
-        Pat::OneOrMore(_) => with_side(alloc, p, q),
-        Pat::Group(_, _) => with_side(alloc, p, q),
-        Pat::Interleave(_, _) => with_side(alloc, p, q),
+        Pat::NotAllowed
+        | Pat::Empty
+        | Pat::Text
+        | Pat::Typed(_, _)
+        | Pat::Value(_, _)
+        | Pat::List(_)
+        | Pat::Attribute(_, _)
+        | Pat::Ref(_)
+        | Pat::OneOrMore(_)
+        | Pat::Group(_, _)
+        | Pat::Interleave(_, _) => with_side(alloc, p, q),
     }
 }
 
@@ -122,150 +136,174 @@ fn is_second_alone(p: &Pat, q: &Pat) -> bool
 {
     match q {
         Pat::Choice(_, _) => false,
-        Pat::NotAllowed => is_not_allowed(p),
-        Pat::Empty => is_not_allowed(p),
-        Pat::Text => is_not_allowed(p),
-        Pat::Typed(_, _) => is_not_allowed(p),
-        Pat::Value(_, _) => is_not_allowed(p),
-        Pat::List(_) => is_not_allowed(p),
-        Pat::Attribute(_, _) => is_not_allowed(p),
-        Pat::Ref(_) => is_not_allowed(p),
-        Pat::OneOrMore(_) => is_not_allowed(p),
-        Pat::Group(_, _) => is_not_allowed(p),
-        Pat::Interleave(_, _) => is_not_allowed(p),
+        Pat::NotAllowed
+        | Pat::Empty
+        | Pat::Text
+        | Pat::Typed(_, _)
+        | Pat::Value(_, _)
+        | Pat::List(_)
+        | Pat::Attribute(_, _)
+        | Pat::Ref(_)
+        | Pat::OneOrMore(_)
+        | Pat::Group(_, _)
+        | Pat::Interleave(_, _) => is_not_allowed(p),
     }
 }
 
 /// The choice of two patterns, in a box.
-pub(crate) fn either(alloc: Global, p: Box<Pat>, q: Box<Pat>) -> Result<Box<Pat>, NoMemory>
-    ensures { IfOk result (λ made. pattern_of made.value ≡ s.choice_of (pattern_of p.value) (pattern_of q.value)) }
+pub(crate) fn either(alloc: Global, p: Made, q: Made) -> Result<Box<Pat>, NoMemory>
+    ensures { (x y : Pattern) → IfOk p (λ made. pattern_of made.value ≡ x) → IfOk q (λ made. pattern_of made.value ≡ y)
+        → IfOk result (λ made. pattern_of made.value ≡ s.choice_of x y) }
 {
+    let (p, q) = both(p, q)?;
     if is_second_alone(&p, &q) {
-        return Ok(q);
+        return one_kept(q, p);
     }
-    with_sides(alloc, p, &q)
+    let made = with_sides(alloc, p, &q);
+    drop(q);
+    made
 }
 
 /// The group of two patterns, in a box.
-pub(crate) fn in_order(alloc: Global, p: Box<Pat>, q: Box<Pat>) -> Result<Box<Pat>, NoMemory>
-    ensures { IfOk result (λ made. pattern_of made.value ≡ s.group_of (pattern_of p.value) (pattern_of q.value)) }
+#[inline(never)]
+pub(crate) fn in_order(alloc: Global, p: Made, q: Made) -> Result<Box<Pat>, NoMemory>
+    ensures { (x y : Pattern) → IfOk p (λ made. pattern_of made.value ≡ x) → IfOk q (λ made. pattern_of made.value ≡ y)
+        → IfOk result (λ made. pattern_of made.value ≡ s.group_of x y) }
 {
+    let (p, q) = both(p, q)?;
     if is_not_allowed(&p) {
-        return Ok(p);
+        return one_kept(p, q);
     }
     if is_not_allowed(&q) {
-        return Ok(q);
+        return one_kept(q, p);
     }
     if is_empty(&p) {
-        return Ok(q);
+        return one_kept(q, p);
     }
     if is_empty(&q) {
-        return Ok(p);
+        return one_kept(p, q);
     }
-    boxed_group(alloc, p, q)
+    boxed(alloc, Pat::Group(p, q))
 }
 
 /// The same, where the second pattern is copied.
-pub(crate) fn before(alloc: Global, p: Box<Pat>, q: &Pat) -> Result<Box<Pat>, NoMemory>
-    ensures { IfOk result (λ made. pattern_of made.value ≡ s.group_of (pattern_of p.value) (pattern_of q.now)) }
+pub(crate) fn before(alloc: Global, p: Made, q: &Pat) -> Result<Box<Pat>, NoMemory>
+    ensures { (x : Pattern) → IfOk p (λ made. pattern_of made.value ≡ x)
+        → IfOk result (λ made. pattern_of made.value ≡ s.group_of x (pattern_of q.now)) }
 {
+    let p = p?;
     if is_not_allowed(&p) {
         return Ok(p);
     }
-    in_order(alloc, p, boxed_copy(alloc, q)?)
+    in_order(alloc, Ok(p), boxed_copy(alloc, q))
 }
 
 /// The same, where the first one is copied.
-pub(crate) fn behind(alloc: Global, p: &Pat, q: Box<Pat>) -> Result<Box<Pat>, NoMemory>
-    ensures { IfOk result (λ made. pattern_of made.value ≡ s.group_of (pattern_of p.now) (pattern_of q.value)) }
+pub(crate) fn behind(alloc: Global, p: &Pat, q: Made) -> Result<Box<Pat>, NoMemory>
+    ensures { (y : Pattern) → IfOk q (λ made. pattern_of made.value ≡ y)
+        → IfOk result (λ made. pattern_of made.value ≡ s.group_of (pattern_of p.now) y) }
 {
+    let q = q?;
     if is_not_allowed(&q) {
         return Ok(q);
     }
-    in_order(alloc, boxed_copy(alloc, p)?, q)
+    in_order(alloc, boxed_copy(alloc, p), Ok(q))
 }
 
 /// The interleave of two patterns, in a box.
-pub(crate) fn shuffled(alloc: Global, p: Box<Pat>, q: Box<Pat>) -> Result<Box<Pat>, NoMemory>
-    ensures { IfOk result (λ made. pattern_of made.value ≡ s.interleave_of (pattern_of p.value) (pattern_of q.value)) }
+#[inline(never)]
+pub(crate) fn shuffled(alloc: Global, p: Made, q: Made) -> Result<Box<Pat>, NoMemory>
+    ensures { (x y : Pattern) → IfOk p (λ made. pattern_of made.value ≡ x) → IfOk q (λ made. pattern_of made.value ≡ y)
+        → IfOk result (λ made. pattern_of made.value ≡ s.interleave_of x y) }
 {
+    let (p, q) = both(p, q)?;
     if is_not_allowed(&p) {
-        return Ok(p);
+        return one_kept(p, q);
     }
     if is_not_allowed(&q) {
-        return Ok(q);
+        return one_kept(q, p);
     }
     if is_empty(&p) {
-        return Ok(q);
+        return one_kept(q, p);
     }
     if is_empty(&q) {
-        return Ok(p);
+        return one_kept(p, q);
     }
-    boxed_interleave(alloc, p, q)
+    boxed(alloc, Pat::Interleave(p, q))
 }
 
 /// The same, where the second pattern is copied.
-pub(crate) fn beside(alloc: Global, p: Box<Pat>, q: &Pat) -> Result<Box<Pat>, NoMemory>
-    ensures { IfOk result (λ made. pattern_of made.value ≡ s.interleave_of (pattern_of p.value) (pattern_of q.now)) }
+pub(crate) fn beside(alloc: Global, p: Made, q: &Pat) -> Result<Box<Pat>, NoMemory>
+    ensures { (x : Pattern) → IfOk p (λ made. pattern_of made.value ≡ x)
+        → IfOk result (λ made. pattern_of made.value ≡ s.interleave_of x (pattern_of q.now)) }
 {
+    let p = p?;
     if is_not_allowed(&p) {
         return Ok(p);
     }
-    shuffled(alloc, p, boxed_copy(alloc, q)?)
+    shuffled(alloc, Ok(p), boxed_copy(alloc, q))
 }
 
 /// The same, where the first one is copied.
-pub(crate) fn beside_first(alloc: Global, p: &Pat, q: Box<Pat>) -> Result<Box<Pat>, NoMemory>
-    ensures { IfOk result (λ made. pattern_of made.value ≡ s.interleave_of (pattern_of p.now) (pattern_of q.value)) }
+pub(crate) fn beside_first(alloc: Global, p: &Pat, q: Made) -> Result<Box<Pat>, NoMemory>
+    ensures { (y : Pattern) → IfOk q (λ made. pattern_of made.value ≡ y)
+        → IfOk result (λ made. pattern_of made.value ≡ s.interleave_of (pattern_of p.now) y) }
 {
+    let q = q?;
     if is_not_allowed(&q) {
         return Ok(q);
     }
-    shuffled(alloc, boxed_copy(alloc, p)?, q)
+    shuffled(alloc, boxed_copy(alloc, p), Ok(q))
 }
 
 /// One or more parts that match the body, in a box.
-pub(crate) fn repeated(alloc: Global, p: Box<Pat>) -> Result<Box<Pat>, NoMemory>
-    ensures { IfOk result (λ made. pattern_of made.value ≡ s.one_or_more_of (pattern_of p.value)) }
+#[inline(never)]
+pub(crate) fn repeated(alloc: Global, p: Made) -> Result<Box<Pat>, NoMemory>
+    ensures { (x : Pattern) → IfOk p (λ made. pattern_of made.value ≡ x)
+        → IfOk result (λ made. pattern_of made.value ≡ s.one_or_more_of x) }
 {
+    let p = p?;
     if is_not_allowed(&p) {
         return Ok(p);
     }
-    boxed_one_or_more(alloc, p)
+    boxed(alloc, Pat::OneOrMore(p))
 }
 
 /// As many parts as one likes, or none, in a box.
+#[inline(never)]
 pub(crate) fn starred(alloc: Global, p: &Pat) -> Result<Box<Pat>, NoMemory>
     ensures { IfOk result (λ made. pattern_of made.value ≡ s.star (pattern_of p.now)) }
 {
-    let some = boxed_one_or_more(alloc, boxed_copy(alloc, p)?)?;
-    boxed_choice(alloc, some, boxed_empty(alloc)?)
+    let body = boxed_copy(alloc, p)?;
+    let some = boxed(alloc, Pat::OneOrMore(body))?;
+    choice_with(alloc, some, boxed_empty(alloc))
 }
 
 /// A choice with the sides of a second pattern, those alone that it doesn't have.
 pub fn choice_of(alloc: Global, p: Pat, q: &Pat) -> Result<Pat, NoMemory>
     ensures { IfOk result (λ made. pattern_of made ≡ s.choice_of (pattern_of p) (pattern_of q.now)) }
 {
-    Ok(Box::into_inner(with_sides(alloc, boxed(alloc, p)?, q)?))
+    let front = boxed(alloc, p)?;
+    unboxed(with_sides(alloc, front, q))
 }
 
 /// What the one matches, and then what the other does.
 pub fn group_of(alloc: Global, p: Pat, q: &Pat) -> Result<Pat, NoMemory>
     ensures { IfOk result (λ made. pattern_of made ≡ s.group_of (pattern_of p) (pattern_of q.now)) }
 {
-    Ok(Box::into_inner(before(alloc, boxed(alloc, p)?, q)?))
+    unboxed(before(alloc, boxed(alloc, p), q))
 }
 
 /// What the two match, shuffled.
 pub fn interleave_of(alloc: Global, p: Pat, q: &Pat) -> Result<Pat, NoMemory>
     ensures { IfOk result (λ made. pattern_of made ≡ s.interleave_of (pattern_of p) (pattern_of q.now)) }
 {
-    Ok(Box::into_inner(beside(alloc, boxed(alloc, p)?, q)?))
+    unboxed(beside(alloc, boxed(alloc, p), q))
 }
 
 /// As many parts as one likes, or none.
 pub fn star(alloc: Global, p: &Pat) -> Result<Pat, NoMemory>
     ensures { IfOk result (λ made. pattern_of made ≡ s.star (pattern_of p.now)) }
 {
-    Ok(Box::into_inner(starred(alloc, p)?))
+    unboxed(starred(alloc, p))
 }

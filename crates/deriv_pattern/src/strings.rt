@@ -7,12 +7,13 @@ ghost use Rattle.rng_types.specs.Spaces.{words};
 ghost use Rattle.rng_types.specs.Types.{Accepts};
 ghost use Rattle.rng_types.specs.WellMade.{is_well_made, is_sound_except};
 ghost use Rattle.rng_core.specs.Meaning.{pattern_of};
+ghost use Rattle.rng_core.specs.Patterns.{Pattern};
 ghost use Rattle.rng_kept.specs.Nullable.{nullable as is_nullable};
 ghost use Rattle.rng_kept.specs.Strings as s;
 ghost use Rattle.deriv_pattern.specs.Leaves.{IsInOrder};
 ghost use Rattle.deriv_pattern.specs.Choosing.{tests_of};
 
-use crate::boxes::{boxed_copy, boxed_end, boxed_not_allowed};
+use crate::boxes::{Made, boxed_copy, boxed_end, boxed_not_allowed, unboxed};
 use crate::leaves::{has_solid, has_words, is_data, is_solid, is_value};
 use crate::parts::{either_side, first_of_many, first_side, one_of_interleave};
 use crate::small::{either, nullable};
@@ -29,36 +30,53 @@ fn after_word(alloc: Global, word: &str, p: &Pat) -> Result<Box<Pat>, NoMemory>
     ensures { IfOk result (λ left. pattern_of left.value ≡ s.after_word word.now (pattern_of p.now)) }
 {
     match p {
-        Pat::NotAllowed => boxed_not_allowed(alloc),
-        Pat::Empty => boxed_not_allowed(alloc),
+        Pat::NotAllowed | Pat::Empty | Pat::List(_) | Pat::Attribute(_, _) | Pat::Ref(_) =>
+            boxed_not_allowed(alloc),
         Pat::Text => boxed_copy(alloc, p),
-        Pat::Typed(datatype, excepts) => boxed_end(alloc, is_data(datatype, excepts, word)),
-        Pat::Value(datatype, wanted) => boxed_end(alloc, is_value(datatype, wanted, word)),
-        Pat::List(_) => boxed_not_allowed(alloc),
-        Pat::Attribute(_, _) => boxed_not_allowed(alloc),
-        Pat::Ref(_) => boxed_not_allowed(alloc),
+        Pat::Typed(datatype, excepts) => boxed_end(alloc, Ok(is_data(datatype, excepts, word))),
+        Pat::Value(datatype, wanted) => boxed_end(alloc, Ok(is_value(datatype, wanted, word))),
         Pat::OneOrMore(body) => {
-            let left = after_word(alloc, word, body)?;
+            let left = after_word(alloc, word, body);
             first_of_many(alloc, left, body)
         }
         Pat::Choice(a, b) => {
-            let left = after_word(alloc, word, a)?;
-            either(alloc, left, after_word(alloc, word, b)?)
+            let left = after_word(alloc, word, a);
+            either(alloc, left, after_word(alloc, word, b))
         }
         Pat::Group(a, b) => {
-            let left = after_word(alloc, word, a)?;
-            if !nullable(a) {
-                return first_side(alloc, left, b);
+            let left = after_word(alloc, word, a);
+            if nullable(a) {
+                either_side(alloc, left, b, after_word(alloc, word, b))
+            } else {
+                first_side(alloc, left, b)
             }
-            let second = after_word(alloc, word, b)?;
-            either_side(alloc, left, b, second)
         }
         Pat::Interleave(a, b) => {
-            let left = after_word(alloc, word, a)?;
-            let second = after_word(alloc, word, b)?;
+            let left = after_word(alloc, word, a);
+            let second = after_word(alloc, word, b);
             one_of_interleave(alloc, left, a, b, second)
         }
     }
+}
+
+/// Behind one word more, where this was left behind those before it.
+fn behind_word(alloc: Global, word: &str, p: Box<Pat>) -> Result<Box<Pat>, NoMemory>
+    requires { IsInOrder (pattern_of p.value) }
+    ensures { IfOk result (λ left. pattern_of left.value ≡ s.after_word word.now (pattern_of p.value)) }
+{
+    let left = after_word(alloc, word, &p);
+    drop(p);
+    left
+}
+
+/// Whether nothing more need come behind this.
+pub(crate) fn is_passed(left: Made) -> Result<bool, NoMemory>
+    ensures { (x : Pattern) → IfOk left (λ made. pattern_of made.value ≡ x) → IfOk result (λ found. found ≡ is_nullable x) }
+{
+    let left = left?;
+    let passed = nullable(&left);
+    drop(left);
+    Ok(passed)
 }
 
 /// Whether the words of a text match the body of a list.
@@ -70,10 +88,10 @@ fn words_match(alloc: Global, text: &str, body: &Pat) -> Result<bool, NoMemory>
     let mut left = boxed_copy(alloc, body)?;
     let mut rest = text;
     while let Some((word, more)) = first_word(rest) {
-        left = after_word(alloc, word, &left)?;
+        left = behind_word(alloc, word, left)?;
         rest = more;
     }
-    Ok(nullable(&left))
+    is_passed(Ok(left))
 }
 
 /// Whether a type and its excepts take the text, or some text that isn't blank.
@@ -132,38 +150,36 @@ pub(crate) fn behind_string(
     ensures { IfOk result (λ left. pattern_of left.value ≡ s.after_by (tests_of solid text.now) (pattern_of p.now)) }
 {
     match p {
-        Pat::NotAllowed => boxed_not_allowed(alloc),
-        Pat::Empty => boxed_not_allowed(alloc),
+        Pat::NotAllowed | Pat::Empty | Pat::Attribute(_, _) | Pat::Ref(_) => boxed_not_allowed(
+            alloc,
+        ),
         Pat::Text => boxed_copy(alloc, p),
         Pat::Typed(datatype, excepts) => {
-            let taken = takes_data(alloc, solid, text, datatype, excepts)?;
-            boxed_end(alloc, taken)
+            boxed_end(alloc, takes_data(alloc, solid, text, datatype, excepts))
         }
         Pat::Value(datatype, wanted) => {
-            boxed_end(alloc, takes_value(solid, text, datatype, wanted))
+            boxed_end(alloc, Ok(takes_value(solid, text, datatype, wanted)))
         }
-        Pat::List(body) => boxed_end(alloc, takes_list(alloc, solid, text, body)?),
-        Pat::Attribute(_, _) => boxed_not_allowed(alloc),
-        Pat::Ref(_) => boxed_not_allowed(alloc),
+        Pat::List(body) => boxed_end(alloc, takes_list(alloc, solid, text, body)),
         Pat::OneOrMore(body) => {
-            let left = behind_string(alloc, solid, text, body)?;
+            let left = behind_string(alloc, solid, text, body);
             first_of_many(alloc, left, body)
         }
         Pat::Choice(a, b) => {
-            let left = behind_string(alloc, solid, text, a)?;
-            either(alloc, left, behind_string(alloc, solid, text, b)?)
+            let left = behind_string(alloc, solid, text, a);
+            either(alloc, left, behind_string(alloc, solid, text, b))
         }
         Pat::Group(a, b) => {
-            let left = behind_string(alloc, solid, text, a)?;
-            if !nullable(a) {
-                return first_side(alloc, left, b);
+            let left = behind_string(alloc, solid, text, a);
+            if nullable(a) {
+                either_side(alloc, left, b, behind_string(alloc, solid, text, b))
+            } else {
+                first_side(alloc, left, b)
             }
-            let second = behind_string(alloc, solid, text, b)?;
-            either_side(alloc, left, b, second)
         }
         Pat::Interleave(a, b) => {
-            let left = behind_string(alloc, solid, text, a)?;
-            let second = behind_string(alloc, solid, text, b)?;
+            let left = behind_string(alloc, solid, text, a);
+            let second = behind_string(alloc, solid, text, b);
             one_of_interleave(alloc, left, a, b, second)
         }
     }
@@ -174,5 +190,5 @@ pub fn after(alloc: Global, p: &Pat, text: &str) -> Result<Pat, NoMemory>
     requires { IsInOrder (pattern_of p.now) }
     ensures { IfOk result (λ left. pattern_of left ≡ s.after text.now (pattern_of p.now)) }
 {
-    Ok(Box::into_inner(behind_string(alloc, false, text, p)?))
+    unboxed(behind_string(alloc, false, text, p))
 }

@@ -3,7 +3,7 @@ use Rattle.std.proofs.Common.{◌≡◌}
 use Rattle.std.specs.Vec.Iter.{into_iter_items}
 use Rattle.rng_kept.specs.Openings.{joined}
 use Rattle.deriv_pattern.specs.Opened.{openings_of}
-use Rattle.deriv_pattern.proofs.openings.joined.Given as goal
+use Rattle.deriv_pattern.proofs.openings.all_joined.Given as goal
 
 abbrev pub invariant-loop-one : goal.invariant-loop-one
 invariant-loop-one l =
