@@ -1,11 +1,12 @@
 -- What it says of a text that a run prints `errors: 0` for it.
-use Rattle.std.proofs.Common.{◌≡◌, ◌⊎◌, ℕ, ◌+◌, ◌≤◌, List, [], ◌∷◌, ◌++◌, length, codes, Option, Some, None, IsUtf8, refl, sym, ap, ◌∙◌, subst, inl, inr, arith, length-append}
+use Rattle.std.proofs.Common.{◌≡◌, ◌⊎◌, ℕ, ◌+◌, ◌≤◌, List, [], ◌∷◌, ◌++◌, length, suc, codes, Option, Some, None, IsUtf8, refl, sym, ap, ◌∙◌, subst, inl, inr, arith, length-append, append_assoc}
 use Rattle.std.specs.Prelude.{◌↔◌, map}
 use Rattle.std.specs.Fmt.{decimal, digits}
 use Rattle.std.specs.List.{AllByRecursion, flat_map}
 use Rattle.std.specs.Str.Lines.{strip_carriage_return}
 use Rattle.nx_base.specs.Text.{EditedIsUtf8}
 use Rattle.nx_base.specs.declared.fault.Fault.{Fault}
+use Rattle.nx_host.specs.Out.{Appends}
 use Rattle.nx_script.specs.FaultLines.{place_text, detail_text, fault_line, errors_text}
 use Rattle.nx_script.specs.Grammar.{IsLine, LinesAreOneCommand}
 use Rattle.nx_script.specs.Kinds.{kind_name}
@@ -22,10 +23,10 @@ use Rattle.nx_session.specs.Validating.{ErrorsStep}
 use Rattle.nx_session.specs.Validity.{IsDocumentFor}
 use Rattle.nx_session.proofs.Fitness.{IsFit, new_fit, step_fit}
 use Rattle.nx_session.proofs.Validity.{errors_exact}
-use Rattle.nx_run.specs.Play.{TurnStep, Plays}
+use Rattle.nx_run.specs.Play.{TurnStep, Plays, IsWhole, texts_from}
 use Rattle.nx_run.specs.Surroundings.{begun_in}
-use Rattle.nx_run.specs.Turns.{Turn, hold, line, turns_of}
-use Rattle.nx_run.specs.Validity.{PlayedNoErrorsIsValid}
+use Rattle.nx_run.specs.Turns.{Turn, hold, line, turns_of, first_number}
+use Rattle.nx_run.specs.Validity.{PlayedNoErrorsIsValid, WrittenNoErrorsIsValid}
 use Rattle.nx_run.proofs.InsertedTexts.{inserted_text, stripped_text, lines_are_text}
 
 -- ---- what is printed
@@ -135,3 +136,79 @@ played_no_errors_is_valid edited_utf8 raw one asked script old text now answer n
         | inr wants ↦ inr wants.0
       ]
     ]
+
+-- ---- what is written
+
+-- the replies to the turns in front of one, the one to it, and those to the turns behind it
+record PlaysParted (old : World) (front : List Turn) (turn : Turn) (answers : List Reply) : Type 0 where
+  first : List Reply
+  now : World
+  played : Plays old front first now
+  answer : Reply
+  next : World
+  step : TurnStep now turn answer next
+  rest : List Reply
+  parts : answers ≡ first ++ answer ∷ rest
+  counted : length first ≡ length front
+
+plays_parted : (old : World) (front : List Turn) (turn : Turn) (behind : List Turn) (answers : List Reply) (new : World) →
+    Plays old (front ++ turn ∷ behind) answers new → PlaysParted old front turn answers
+plays_parted old [] turn behind (answer ∷ answers) new h =
+    record { first = []; now = old; played = refl; answer = answer; next = h.0; step = h.1; rest = answers; parts = refl; counted = refl }
+plays_parted old (one ∷ front) turn behind (answer ∷ answers) new h =
+    let p = plays_parted h.0 front turn behind answers new h.2 in
+    record {
+      first = answer ∷ p.first;
+      now = p.now;
+      played = (h.0, h.1, p.played);
+      answer = p.answer;
+      next = p.next;
+      step = p.step;
+      rest = p.rest;
+      parts = ap (λ xs. answer ∷ xs) p.parts;
+      counted = ap suc p.counted;
+    }
+plays_parted old [] turn behind [] new h = absurd h
+plays_parted old (one ∷ front) turn behind [] new h = absurd h
+
+texts_parted : (number : ℕ) (first : List Reply) (answer : Reply) (rest : List Reply) → (behind : List ℕ) × (texts_from number (first ++ answer ∷ rest)
+    ≡ (texts_from number first ++ reply_text (number + length first) answer) ++ behind)
+texts_parted number [] answer rest =
+    let none : number ≡ number + 0 = omega arith in
+    (texts_from (number + 1) rest, ap (λ (n : ℕ). reply_text n answer ++ texts_from (number + 1) rest) none)
+texts_parted number (one ∷ first) answer rest =
+    let p = texts_parted (number + 1) first answer rest in
+    let later : (number + 1) + length first ≡ number + length (one ∷ first) = omega arith in
+    let front = texts_from (number + 1) first in (
+      p.0,
+      ap (λ x. reply_text number one ++ x) (p.1 ∙ ap (λ (n : ℕ). (front ++ reply_text n answer) ++ p.0) later)
+          ∙ sym (append_assoc (reply_text number one) (front ++ reply_text (number + length (one ∷ first)) answer) p.0)
+          ∙ ap (λ x. x ++ p.0) (sym (append_assoc (reply_text number one) front (reply_text (number + length (one ∷ first)) answer))),
+    )
+
+pub written_no_errors_is_valid : PlayedNoErrorsIsValid → WrittenNoErrorsIsValid
+written_no_errors_is_valid valid asked script old new before after status whole utf8 front behind text turns is =
+    let P : List Turn → Type 0 = λ ts. Plays (begun_in asked.rules old) ts whole.answers whole.end_world in
+    let p = plays_parted (begun_in asked.rules old) front (line text) behind whole.answers whole.end_world (subst P turns whole.played) in
+    let number = first_number asked.schema in
+    let parted = texts_parted number p.first p.answer p.rest in
+    let counted : number + length p.first ≡ number + length front = ap (λ (n : ℕ). number + n) p.counted in
+    let W : List ℕ → Type 0 = λ bytes. Appends before bytes after in
+    record {
+      answers = p.first;
+      now = p.now;
+      played = p.played;
+      answer = p.answer;
+      behind = parted.0;
+      written = subst W (ap (texts_from number) p.parts ∙ parted.1 ∙ ap (λ (n : ℕ). (texts_from number p.first ++ reply_text n p.answer) ++ parted.0) counted) whole.written;
+      tells = valid asked script old text p.now p.answer (number + length front) (record {
+        is_text = utf8;
+        front = front;
+        behind = behind;
+        turns = turns;
+        answers = p.first;
+        played = p.played;
+        next = p.next;
+        step = p.step;
+      }) is;
+    }

@@ -2,7 +2,7 @@
 
 ghost use Rattle.nx_run.specs.Allowed.{AllowedRunsAreDone};
 ghost use Rattle.nx_run.specs.Run.{RunsPrintText};
-ghost use Rattle.nx_run.specs.Validity.{PlayedNoErrorsIsValid};
+ghost use Rattle.nx_run.specs.Validity.{PlayedNoErrorsIsValid, WrittenNoErrorsIsValid};
 
 use nx_base::edit::edited_is_utf8;
 use nx_host::uri::joins_is_decided;
@@ -35,4 +35,12 @@ pub fn played_no_errors_is_valid()
     edited_is_utf8();
     raw_lines_are_the_lines();
     lines_are_one_command();
+}
+
+/// In what a run writes that plays its script to its end, the text of the reply to each line `errors` stands in its place, and tells the
+/// same.
+pub fn written_no_errors_is_valid()
+    ensures { WrittenNoErrorsIsValid }
+{
+    played_no_errors_is_valid();
 }
