@@ -4,3 +4,4 @@ pub mod Levels
 pub mod Viability
 pub mod Validity
 pub mod Details
+pub mod SameEvents

@@ -3,6 +3,7 @@
 ghost use Rattle.nx_recovery.specs.Details.{FaultsAreText};
 ghost use Rattle.nx_recovery.specs.Existence.{EveryTextHasFaults, RecoverGivesFaults};
 ghost use Rattle.nx_recovery.specs.Levels.{EndsAreOfElements, LevelsAreOne, LevelsAreTold, StatesTellLevels};
+ghost use Rattle.nx_recovery.specs.SameEvents.{SameEventsLeadOnAlike};
 ghost use Rattle.nx_recovery.specs.Uniqueness.{RecoveryIsOne};
 ghost use Rattle.nx_recovery.specs.Validity.{NoFaultsHaveValidEvents, NoFaultsIsValid};
 ghost use Rattle.nx_recovery.specs.Viability.{FramesStayViable};
@@ -54,4 +55,11 @@ pub fn no_faults_have_valid_events()
 /// The details of the faults of a text are UTF-8, as the text is.
 pub fn faults_are_text()
     ensures { FaultsAreText }
+{}
+
+/// From one state, two lists of tokens of the same events lead to states of the same meaning, against any schema or none, where the
+/// open elements with their scopes, the flags and the pending run are the same behind both.
+#[tactic(auto, using(crate::proofs::SameEvents::same_events_lead_on_alike))]
+pub fn same_events_lead_on_alike()
+    ensures { SameEventsLeadOnAlike }
 {}
