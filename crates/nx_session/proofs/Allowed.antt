@@ -206,7 +206,7 @@ module _ (passed : ComposedArePassed) (unbroken : SimplifiedIsNotBroken) where
     rules_fail None (Some uri) editor told before after fault followed none are h = absurd are
     rules_fail (Some text) None editor told before after fault followed none are h = absurd are
     rules_fail (Some text) (Some uri) editor told before after fault followed none are h =
-        let same : uri ≡ followed.uri = decided.1 work_folder text uri followed.uri are followed.joined in
+        let same : uri ≡ followed.uri = decided.1 work_folder text uri followed.uri are.1 followed.joined in
         let P : List ℕ → Type 0 = λ u. Locates told (Some u) editor.document editor.text before after (Err fault) in
         by_fault fault (subst P same h)
       where
@@ -228,7 +228,7 @@ module _ (passed : ComposedArePassed) (unbroken : SimplifiedIsNotBroken) where
     located_wants None (Some rules) editor before after uri cause followed none are h refused = absurd are
     located_wants (Some text) None editor before after uri cause followed none are h refused = absurd are
     located_wants (Some text) (Some rules) editor before after uri cause followed none are h refused =
-        let same : rules ≡ followed.uri = decided.1 work_folder text rules followed.uri are followed.joined in
+        let same : rules ≡ followed.uri = decided.1 work_folder text rules followed.uri are.1 followed.joined in
         let P : List ℕ → Type 0 = λ u. Locates before.map (Some u) editor.document editor.text before.faults before.faults (Ok (Some uri)) in
         let gives = (subst P same h).1 followed.files followed.tells in
         let Q : Option FileMap → Type 0 = λ told. IsRefusedFor told uri before.faults after.faults cause in

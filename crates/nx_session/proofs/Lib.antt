@@ -12,6 +12,7 @@ pub mod OfferTexts
 pub mod Pieces
 pub mod Reading
 pub mod Replacing
+pub mod Rereading
 pub mod Sessions
 pub mod Tags
 pub mod Using

@@ -1,8 +1,8 @@
 -- Schemas that are located, and rules that can't be followed.
-use Rattle.std.proofs.Common.{◌≡◌, ℕ, zero, suc, Bool, true, List, [], ◌∷◌, Option, Some, None, Result, Ok, Err, refl, sym, subst, inl, inr, arith}
+use Rattle.std.proofs.Common.{◌≡◌, ℕ, zero, suc, Bool, true, List, [], ◌∷◌, Option, Some, None, Result, Ok, Err, refl, sym, subst, ◌∙◌, inl, inr, arith}
 use Rattle.std.proofs.lemmas.Bool.{and_parts, ltb-true}
 use Rattle.std.specs.Prelude.{◌&&◌, nat_lt}
-use Rattle.std.specs.Str.{IsAscii}
+use Rattle.std.specs.Str.{IsAscii, IsUtf8}
 use Rattle.nx_base.specs.declared.locate_fault.LocateFault.{LocateFault}
 use Rattle.nx_base.specs.declared.locate_fault.LocateFault.TheVariants as rules
 use Rattle.nx_host.specs.Files.{FileMap}
@@ -57,8 +57,8 @@ unjoined_rules given text uri_fault.Bad same bad = inl (refl, inl (subst (λ t. 
 unjoined_rules given text uri_fault.NoMemory same bad = inr refl
 
 -- what the URI of the rules is
-pub joined_rules : (given text uri : List ℕ) → text ≡ given → Joins work_folder text uri → RulesAre (Some given) (Some uri)
-joined_rules given text uri same joins = subst (λ t. Joins work_folder t uri) same joins
+pub joined_rules : (given bytes text uri : List ℕ) → text ≡ bytes → bytes ≡ given → IsUtf8 bytes → Joins work_folder text uri → RulesAre (Some given) (Some uri)
+joined_rules given bytes text uri whole same utf8 joins = (subst IsUtf8 same utf8, subst (λ t. Joins work_folder t uri) (whole ∙ same) joins)
 
 -- a constant of ASCII characters alone
 abbrev is_plain : List ℕ → Bool

@@ -14,5 +14,6 @@ pub mod Step
 pub mod Validating
 pub mod Validity
 pub mod Reading
+pub mod Rereading
 pub mod Schemas
 pub mod Viewing

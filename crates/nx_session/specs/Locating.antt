@@ -11,10 +11,11 @@ use Rattle.nx_script.specs.declared.reply.Refusal.TheVariants.{BadUri, NoMemory}
 use Rattle.nx_session.specs.Editor.{EditorState, FilesState, work_folder, with_schema}
 use Rattle.nx_session.specs.Schemas.{HoldsFile, IsRefusedFor}
 
--- the rules that the editor was given by this text are those in the file under this URI; it was given none, and there are none
+-- the rules that the editor was given by this text, which is UTF-8, are those in the file under this URI; it was given none, and there are
+-- none
 abbrev pub RulesAre : Option (List ℕ) → Option (List ℕ) → Type 0
 RulesAre None None = Unit {0}
-RulesAre (Some text) (Some uri) = Joins work_folder text uri
+RulesAre (Some text) (Some uri) = IsUtf8 text × Joins work_folder text uri
 RulesAre given rules = ⊥
 
 -- the editor was given a text for its rules that is no URI, or that is no text

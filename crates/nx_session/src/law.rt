@@ -3,6 +3,7 @@
 ghost use Rattle.nx_session.specs.Done.{AllowedCommandsAreDone, AllowedLinesAreDone, FaultsAreCounted};
 ghost use Rattle.nx_session.specs.Faults.{TextsGiveText};
 ghost use Rattle.nx_session.specs.Marks.{OneEditTakesFew};
+ghost use Rattle.nx_session.specs.Rereading.{RereadingSameEventsTakesFew, RereadingTakesFew};
 ghost use Rattle.nx_session.specs.Step.{RefusalsLeaveTheDocument};
 ghost use Rattle.nx_session.specs.Validity.{NoErrorsIsValid};
 
@@ -49,8 +50,19 @@ pub fn faults_are_counted()
     ensures { FaultsAreCounted }
 {}
 
-/// Behind one edit of a text that is read to its end, no more tokens are taken than lead from the last mark before the edit to the
-/// first behind it, where these lead to what its state means.
+/// Behind one edit, which ends before its end, of a text that is read to its end and of which nothing is aside, no more tokens are
+/// taken than lead from the last mark before the edit to the first behind it, where these lead to what its state means.
 pub fn one_edit_takes_few()
     ensures { OneEditTakesFew }
+{}
+
+/// The same of three commands that are done, an `errors`, one `insert` or `delete`, and an `errors` again.
+pub fn rereading_takes_few()
+    ensures { RereadingTakesFew }
+{}
+
+/// Where the events between the last mark before the edit and the first behind it are what they were, and so are the open elements
+/// with their scopes, the flags and the pending run behind them, no more tokens are taken than lie between the two marks.
+pub fn rereading_same_events_takes_few()
+    ensures { RereadingSameEventsTakesFew }
 {}

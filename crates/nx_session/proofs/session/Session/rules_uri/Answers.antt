@@ -13,4 +13,5 @@ returns-in_err-join-clause-lacks c =
 pub returns-clause-given : goal.returns-clause-given
 returns-clause-given c =
     rw (← c.self.view_is, c.in-Some.is)
-    (joined_rules c.in-Some.given c.in-Ok.text.now c.in_ok-join.field-0 (c.in-Ok.ensures.cases.0 ∙ c.as_slice.ensures) c.in_ok-join.ensures.joined)
+    (joined_rules c.in-Some.given c.as_slice.result.now c.in-Ok.text.now c.in_ok-join.field-0 c.in-Ok.ensures.cases.0 c.as_slice.ensures c.in-Ok.ensures.cases.1
+    c.in_ok-join.ensures.joined)

@@ -1,0 +1,5 @@
+use Rattle.nx_session.proofs.Rereading.{rereading_same_events_takes_few}
+use Rattle.nx_session.proofs.law.rereading_same_events_takes_few.Goals as goal
+
+pub returns : goal.returns
+returns c = rereading_same_events_takes_few
