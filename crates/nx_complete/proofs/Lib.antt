@@ -1,4 +1,6 @@
 pub mod Elements
+pub mod Order
+pub mod Listings
 pub mod Witness
 pub mod Exactly
 pub mod Mentioning
@@ -8,6 +10,7 @@ pub mod Faultless
 pub mod Told
 pub mod Ending
 pub mod TagText
+pub mod Places
 pub mod Exactness
 pub mod Longer
 pub mod Offering
@@ -18,3 +21,5 @@ pub mod Walk
 pub mod Ends
 pub mod Prefixed
 pub mod Placing
+pub mod Uniqueness
+pub mod Existence

@@ -1,8 +1,7 @@
 -- From a machine's way through a text to the offers of a place.
-use Rattle.std.proofs.Common.{◌≡◌, ℕ, zero, suc, ◌+◌, ◌-◌, ◌<◌, ◌≤◌, List, [], ◌∷◌, ◌++◌, length, map, take, drop, Option, Some, None, Result, Ok, Err, refl, sym, ap, subst, ◌∙◌, arith}
+use Rattle.std.proofs.Common.{◌≡◌, ℕ, zero, suc, ◌+◌, ◌-◌, ◌<◌, ◌≤◌, List, [], ◌∷◌, ◌++◌, length, map, take, Option, Some, None, Result, Ok, Err, refl, sym, ap, subst, ◌∙◌, arith}
 use Rattle.std.specs.Prelude.{IsUtf8, IfOk, IfSome, option_map}
-use Rattle.std.proofs.lemmas.List.{take-take}
-use Rattle.std.proofs.lemmas.Str.{IsCharBoundary-start, IsUtf8-between}
+use Rattle.std.proofs.lemmas.Str.{IsCharBoundary-start}
 use Rattle.nx_base.specs.Rules.{Rules, Lexeme, lexeme_of, LaterLaws}
 use Rattle.nx_base.specs.Running.{CutsTo, after_all}
 use Rattle.nx_base.specs.Text.{IsPlace}
@@ -10,7 +9,6 @@ use Rattle.nx_base.specs.Tokens.{cut, end_of, tokens_of, tokens_from}
 use Rattle.nx_base.specs.declared.offer.Offers.{Offers}
 use Rattle.nx_base.specs.declared.offer.Offers.TheVariants as answers
 use Rattle.nx_base.specs.declared.token.Token.{Token}
-use Rattle.nx_scan.proofs.Every.{cut-is_token}
 use Rattle.nx_scan.proofs.Joined.{tokens-go_on}
 use Rattle.rng_core.specs.Patterns.{Language}
 use Rattle.rng_kept.specs.Live.{IsLive}
@@ -23,6 +21,7 @@ use Rattle.nx_recover.specs.RecoverRules.{Recovered, recover_rules}
 use Rattle.nx_complete.specs.Answering.{IsAnswer}
 use Rattle.nx_complete.specs.Walking.{IsBehind, IsBefore}
 use Rattle.nx_complete.proofs.Answered.{place_answer}
+use Rattle.nx_complete.proofs.Places.{text_up_to}
 use Rattle.nx_complete.proofs.Walk.{splits}
 
 -- a state that means the same
@@ -67,15 +66,7 @@ offers_stand g live is means text at s token utf8 within h answer a =
 -- the bytes of the token in front of the place are text
 pub bytes_text : {S M : Type 0} (is : S → Type 0) (means : S → M) (r : Rules M) (text : List ℕ) (at : ℕ) (s : S) (token : Token) → IsUtf8 text → IsPlace text at → IsBefore is means r text at s token →
     IsUtf8 (take (at - token.from) token.bytes)
-bytes_text is means r text at s token utf8 place h =
-    let inside : h.border < length text = omega (arith, h.from, h.begun, place.0) in
-    let w = cut-is_token text h.border utf8 h.behind.place inside in
-    let whole : token.bytes ≡ take (end_of (cut text h.border) - h.border) (drop h.border text) = ap (λ (k : Token). k.bytes) h.is ∙ w.bytes in
-    let ends : end_of token ≡ end_of (cut text h.border) = ap end_of h.is in
-    let fewer : take (at - h.border) (take (end_of (cut text h.border) - h.border) (drop h.border text)) ≡ take (at - h.border) (drop h.border text) =
-    take-take (at - h.border) (end_of (cut text h.border) - h.border) (drop h.border text) (omega (arith, h.inside, ends)) in
-    let same : take (at - token.from) token.bytes ≡ take (at - h.border) (drop h.border text) = ap (λ n. take (at - n) token.bytes) h.from ∙ ap (take (at - h.border)) whole ∙ fewer in
-    subst IsUtf8 (sym same) (IsUtf8-between text h.border at utf8 (omega (arith, h.from, h.begun)) h.behind.place place)
+bytes_text is means r text at s token utf8 place h = text_up_to text h.border at token utf8 h.behind.place place h.is h.from h.begun h.inside
 
 -- the start of a text
 pub at_first : {S M : Type 0} (is : S → Type 0) (means : S → M) (r : Rules M) (text : List ℕ) (s : S) → IsUtf8 text → is s → means s ≡ r.first → IsBehind is means r text 0 s

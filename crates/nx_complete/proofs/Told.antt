@@ -205,7 +205,7 @@ first_all : (P : Token → Type 0) (xs ys : List Token) → AllByRecursion P (xs
 first_all P [] ys h = tt
 first_all P (x ∷ xs) ys h = (h.0, first_all P xs ys h.1)
 
-later_first : (P : Token → Type 0) (xs : List Token) (x : Token) (ys : List Token) → AllByRecursion P (xs ++ x ∷ ys) → P x
+pub later_first : (P : Token → Type 0) (xs : List Token) (x : Token) (ys : List Token) → AllByRecursion P (xs ++ x ∷ ys) → P x
 later_first P [] x ys h = h.0
 later_first P (y ∷ xs) x ys h = later_first P xs x ys h.1
 

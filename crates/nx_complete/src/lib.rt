@@ -11,7 +11,8 @@
 //! behind `<doc id='a'><title/></` the end of `doc`, and behind `<doc ` the attribute `id`.
 //!
 //! `OffersOf` of nx_recover (specs/Offers.antt) is the definition, in words of lists of events that are kept. That in a text without faults
-//! the names and the end are exactly those that can be completed to a valid document is the law `offers_are_exact`.
+//! the names and the end are exactly those that can be completed to a valid document is the law `offers_are_exact`; that each place has one
+//! answer, the laws `offers_are_one` and `every_place_has_offers`.
 #![tactic(auto)]
 
 mod answers;
