@@ -3,8 +3,8 @@
 //! A case is a schema in the compact syntax, a list of events and other moves, and the answer: at which of them a matcher answers
 //! none first, or which attributes are required behind them. The cases stand in tables (`tables`); a reader plays one against any
 //! matcher (`reader`); what can be made a matcher of a schema is in `matchers`, and each matcher has its own tests (`tests`). Documents
-//! and schemas with which a matcher is not to grow are in `growth`, and what is asked again is in `again`. In `lists` two matchers are played against each other, over all
-//! lists of up to five events. All of this is for tests.
+//! and schemas with which a matcher is not to grow are in `growth`, and what is asked again is in `again`. In `lists` two matchers are
+//! played against each other, over all lists of up to four or five events. All of this is for tests.
 //!
 //! The answers were worked out by the match relation of ISO/IEC 19757-2 and without derivatives. Another program, which isn't
 //! kept, wrote down all trees of up to six nodes that a schema matches, and larger ones where a case asks for them, with the

@@ -1,5 +1,5 @@
-//! All lists of up to five events over small schemas: how many of the longest are followed, and what one matcher answers to them is
-//! what another one does.
+//! All lists of a few events over small schemas: how many of the longest are followed, and what one matcher answers to them is what
+//! another one does.
 
 use crate::matchers::{Made, matcher_of};
 use crate::reader::answer;
@@ -26,11 +26,35 @@ start = p  p = element a { p? & element b { text }? & text }
 start = p | q  p = element a { (p | q)*, element b { empty } }  q = element a { text | (p | q)* }
 "##;
 
-/// The events that lists are made of.
+/// The events that lists over these are made of, and how many the longest have.
 const EVENTS: &str = r##"<a|<b|@x="v"|>|"t"|</"##;
 
-/// The longest lists have so many.
 const LENGTH: usize = 5;
+
+/// Schemas behind the events that lists over each are made of: all names that it mentions, as elements and as attributes, strings and
+/// values that are blank, and the text x.
+const MENTIONED: &str = r##"
+<doc|<em|<id|<para|<title|@doc=" "|@doc="x"|@em=" "|@em="x"|@id=" "|@id="x"|@para=" "|@para="x"|@title=" "|@title="x"|>|" "|"x"|</
+start = element doc { attribute id { xsd:NCName }, element title { text }, element para { (text | element em { text })* }* }
+
+<a|@a=" "|@a="x"|>|" "|"x"|</
+element a { empty }
+
+<a|<b|@a=" "|@a="x"|>|" "|"x"|</
+start = element a { b? }  b = element b { b }
+
+<r|<x|<y|@r=" "|@r="x"|@x=" "|@x="x"|@y=" "|@y="x"|>|" "|"x"|</
+element r { element x { text } & element y { text } }
+
+<n|@n=" "|@n="x"|>|" "|"x"|"7"|</
+element n { xsd:int { minInclusive = "5" } }
+
+<a|<x|<y|@a=" "|@a="x"|@x=" "|@x="x"|@y=" "|@y="x"|>|" "|"x"|</
+element a { attribute x { text }, attribute y { text } }
+"##;
+
+/// The longest lists over these have so many.
+const MENTIONED_LENGTH: usize = 4;
 
 /// What the one matcher answers to events; they are added where the other one answers otherwise.
 fn told<A: Matcher, B: Matcher>(
@@ -72,11 +96,12 @@ fn all_longer<A: Matcher, B: Matcher>(
     one: &mut A,
     other: &mut B,
     lists: Vec<String>,
+    events: &str,
     wrong: &mut String,
 ) -> Result<Vec<String>, Fail> {
     let mut followed = Vec::new(alloc);
     for list in lists {
-        for event in EVENTS.split("|") {
+        for event in events.split("|") {
             if let Some(more) = longer(alloc, one, other, list.as_str(), event, wrong)? {
                 followed.push(more)?;
             }
@@ -85,18 +110,20 @@ fn all_longer<A: Matcher, B: Matcher>(
     Ok(followed)
 }
 
-/// How many lists of the most events are followed over a schema; those to which the matchers answer otherwise are added.
+/// How many lists of so many events are followed over a schema; those to which the matchers answer otherwise are added.
 fn compare_lists<A: Made, B: Made>(
     alloc: Global,
     schema: &str,
+    events: &str,
+    length: usize,
     wrong: &mut String,
 ) -> Result<usize, Fail> {
     let mut one = matcher_of::<A>(alloc, schema).ok_or("refused")?;
     let mut other = matcher_of::<B>(alloc, schema).ok_or("refused")?;
     let mut lists = Vec::new(alloc);
     lists.push(String::new(alloc))?;
-    for _ in 0..LENGTH {
-        lists = all_longer(alloc, &mut one, &mut other, lists, wrong)?;
+    for _ in 0..length {
+        lists = all_longer(alloc, &mut one, &mut other, lists, events, wrong)?;
     }
     Ok(lists.len())
 }
@@ -106,7 +133,20 @@ pub(crate) fn compared_lists<A: Made, B: Made>(alloc: Global) -> Result<String, 
     let mut counts = String::new(alloc);
     let mut wrong = String::new(alloc);
     for schema in SCHEMAS.trim().split("\n\n") {
-        let count = compare_lists::<A, B>(alloc, schema, &mut wrong)?;
+        let count = compare_lists::<A, B>(alloc, schema, EVENTS, LENGTH, &mut wrong)?;
+        write!(counts, "{count} ")?;
+    }
+    counts.push_str(wrong.as_str())?;
+    Ok(counts)
+}
+
+/// The same over the schemas that have events of their own.
+pub(crate) fn compared_mentioned<A: Made, B: Made>(alloc: Global) -> Result<String, Fail> {
+    let mut counts = String::new(alloc);
+    let mut wrong = String::new(alloc);
+    for group in MENTIONED.trim().split("\n\n") {
+        let (events, schema) = group.split_once("\n").ok_or("no schema")?;
+        let count = compare_lists::<A, B>(alloc, schema, events, MENTIONED_LENGTH, &mut wrong)?;
         write!(counts, "{count} ")?;
     }
     counts.push_str(wrong.as_str())?;

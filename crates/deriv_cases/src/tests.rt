@@ -1,4 +1,4 @@
-use crate::lists::compared_lists;
+use crate::lists::{compared_lists, compared_mentioned};
 use crate::matchers::{Made, matcher_of};
 use crate::reader::answers;
 use crate::tables::{ANY_ORDER, CASES, SINGLE_CALLS};
@@ -94,5 +94,13 @@ fn pool_answers_cases(rt: HostRuntime) -> Result<(), Fail> {
 fn plain_and_pool_answer_all_lists_alike(rt: HostRuntime) -> Result<(), Fail> {
     let told = compared_lists::<Plain, Pool>(rt.alloc())?;
     assert_eq!(rt; told.as_str(), "0 2 1 10 2 2 12 7 ");
+    Ok(())
+}
+
+/// The counts were worked out by hand.
+#[test]
+fn plain_and_pool_answer_lists_of_mentioned_names_alike(rt: HostRuntime) -> Result<(), Fail> {
+    let told = compared_mentioned::<Plain, Pool>(rt.alloc())?;
+    assert_eq!(rt; told.as_str(), "2 2 2 5 4 8 ");
     Ok(())
 }
