@@ -10,7 +10,7 @@ use nx_script::line::raw_lines_are_the_lines;
 use nx_script::read::lines_are_one_command;
 use nx_session::law::{allowed_commands_are_done, allowed_lines_are_done, faults_are_counted};
 
-/// What a run writes is UTF-8, unless it is stopped.
+/// What a run that ends with a status of 0 to 3 writes is UTF-8, where what was written before is, and the details that the views show.
 pub fn runs_print_text()
     ensures { RunsPrintText }
 {}
