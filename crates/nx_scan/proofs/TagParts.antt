@@ -1,9 +1,9 @@
 -- A part of a tag that lies in one piece.
-use Rattle.std.proofs.Common.{◌≡◌, ◌∙◌, ℕ, zero, suc, ◌+◌, ◌-◌, ◌<◌, ◌≤◌, Bool, true, false, List, ◌++◌, length, take, drop, get_or, refl, sym, ap, subst, arith, take_all}
+use Rattle.std.proofs.Common.{◌≡◌, ◌∙◌, ℕ, zero, suc, ◌+◌, ◌-◌, ◌<◌, ◌≤◌, Bool, true, false, List, ◌++◌, length, take, drop, get_or, refl, sym, ap, subst, arith, take_all, inl, inr, ◌⊎◌, ⊎_elim}
 use Rattle.std.specs.Prelude.{nat_lt, not, ◌&&◌, ◌==◌}
 use Rattle.std.specs.List.{prefix_len}
 use Rattle.std.proofs.lemmas.List.Sums.{prefix_len_passes}
-use Rattle.std.proofs.lemmas.Bool.{and_parts, ltb-true, eq-eqb, false≢true}
+use Rattle.std.proofs.lemmas.Bool.{and_parts, or_cases, ltb-true, eq-eqb, eqb-true, false≢true}
 use Rattle.std.specs.Str.{IsUtf8}
 use lib.Utf8.{encode}
 use Rattle.std.proofs.lemmas.List.{drop-drop, drop_more, drop-append-le, length-drop, get_or-drop}
@@ -14,12 +14,12 @@ use Rattle.nx_base.specs.Tokens.{tag, tags}
 use Rattle.nx_base.specs.declared.token.TokenKind.{TokenKind}
 use Rattle.nx_base.specs.declared.token.TokenKind.TheVariants as kinds
 use Rattle.nx_text.specs.Reading.{StandsAt, StandFrom}
-use Rattle.nx_scan.specs.Tag.{left_of, left_after, IsReadTo, IsClosedName, Stays, is_name_byte, is_value_byte}
+use Rattle.nx_scan.specs.Tag.{left_of, left_after, IsReadTo, IsClosedName, IsAttribute, Passes, Stays, is_name_byte, is_value_byte}
 use Rattle.nx_scan.specs.declared.scan.End.{End}
 use Rattle.nx_scan.specs.Ending.{EndsAt}
 use Rattle.nx_scan.specs.declared.tag.TagState.{TagState}
 use Rattle.nx_scan.specs.declared.tag.TagState.TheVariants as seen
-use Rattle.nx_scan.proofs.Reading.{open-slash, open-start, end-start, name-name, name-other, value-close, end-name, end-other, end-close, attribute-name, double-other, single-other}
+use Rattle.nx_scan.proofs.Reading.{open-slash, open-start, end-start, name-name, name-other, value-close, end-name, end-other, end-close, gap-start, attribute-name, attribute-other, gap-equals, equals-double, equals-single, double-quote, double-other, single-quote, single-other}
 use Rattle.nx_scan.proofs.TagEnds.{IsOpen, IsWhole, start-whole, end-whole, open-part, begin-place, begin-tag, step-on, is-whole}
 
 -- a byte of a piece that stands in the text is a character of it
@@ -127,6 +127,96 @@ in_single byte is =
       low = low_byte byte (not (byte == 39) && not (byte == 60)) is;
       same = single-other byte (differs_from byte 39 both.0) (differs_from byte 60 both.1);
     }
+
+-- a tag is read on through an attribute
+gap_open : IsOpen seen.Attribute
+unfolding left_of
+gap_open = record { part = record { end = refl; start = refl; empty = refl }; possible = refl }
+
+equals_open : IsOpen seen.Equals
+unfolding left_of
+equals_open = record { part = record { end = refl; start = refl; empty = refl }; possible = refl }
+
+double_open : IsOpen seen.Double
+unfolding left_of
+double_open = record { part = record { end = refl; start = refl; empty = refl }; possible = refl }
+
+single_open : IsOpen seen.Single
+unfolding left_of
+single_open = record { part = record { end = refl; start = refl; empty = refl }; possible = refl }
+
+value_open : IsOpen seen.Value
+unfolding left_of
+value_open = record { part = record { end = refl; start = refl; empty = refl }; possible = refl }
+
+no_equals : is_name_char 61 ≡ false
+unfolding is_name_char is_name_start
+no_equals = refl
+
+attribute-equals : (c : ℕ) → c ≡ 61 → left_of seen.Equals ≡ left_after (left_of seen.Attribute) c
+attribute-equals c is =
+    let P : ℕ → Type 0 = λ b. left_of seen.Equals ≡ left_after (left_of seen.Attribute) b in
+    subst P (sym is) (gap-equals 61 refl ∙ sym (attribute-other 61 no_equals))
+
+module _ (text piece : List ℕ) (at place from to : ℕ) (utf8 : IsUtf8 text) (is : StandFrom text place piece) (it : IsAttribute piece from to) where
+  name-passed : IsReadTo text at (place + from) seen.Gap → IsReadTo text at (place + it.equals) seen.Attribute
+  name-passed so_far =
+      let sum : from + 1 + (it.equals - (from + 1)) ≡ it.equals = omega (arith, it.some) in
+      subst (λ (k : ℕ). IsReadTo text at (place + k) seen.Attribute) sum
+      (stay-on (it.equals - (from + 1)) text piece at place (from + 1) seen.Attribute utf8 is (omega (arith, it.some, it.behind, it.within))
+      (λ k less. in_attribute (get_or piece (from + 1 + k) 0) (it.others k less)) gap_open
+      (byte-on text piece at place from seen.Gap seen.Attribute utf8 is (omega (arith, it.some, it.behind, it.within)) it.low (gap-start (get_or piece from 0) it.first)
+      gap_open so_far))
+
+  equals-passed : IsReadTo text at (place + from) seen.Gap → IsReadTo text at (place + (it.equals + 1)) seen.Equals
+  equals-passed so_far =
+      byte-on text piece at place it.equals seen.Attribute seen.Equals utf8 is (omega (arith, it.behind, it.within)) (omega (arith, it.equals_there))
+      (attribute-equals (get_or piece it.equals 0) it.equals_there) equals_open (name-passed so_far)
+
+  -- the value in such quotes
+  value-passed : (quoted : TagState) → it.quote < 128 → left_of quoted ≡ left_after (left_of seen.Equals) it.quote → left_of seen.Value ≡ left_after (left_of quoted) it.quote →
+      ((byte : ℕ) → is_value_byte it.quote byte ≡ true → Stays quoted byte) → IsOpen quoted →
+      IsReadTo text at (place + from) seen.Gap → IsReadTo text at (place + to) seen.Value
+  value-passed quoted low opens closes stays open_quoted so_far =
+      let first : get_or piece (it.equals + 1) 0 ≡ it.quote = it.opened in
+      let last : get_or piece it.close 0 ≡ it.quote = it.closed in
+      let next : it.equals + 1 + 1 ≡ it.equals + 2 = omega arith in
+      let sum : it.equals + 2 + (it.close - (it.equals + 2)) ≡ it.close = omega (arith, it.behind) in
+      let P : ℕ → Type 0 = λ k. IsReadTo text at (place + k) quoted in
+      let Q : ℕ → Type 0 = λ k. IsReadTo text at (place + k) seen.Value in
+      subst Q (sym it.ends)
+      (byte-on text piece at place it.close quoted seen.Value utf8 is it.within (omega (arith, last, low)) (closes ∙ ap (left_after (left_of quoted)) (sym last)) value_open
+      (subst P sum
+      (stay-on (it.close - (it.equals + 2)) text piece at place (it.equals + 2) quoted utf8 is (omega (arith, it.behind, it.within))
+      (λ k less. stays (get_or piece (it.equals + 2 + k) 0) (it.value k less)) open_quoted
+      (subst P next
+      (byte-on text piece at place (it.equals + 1) seen.Equals quoted utf8 is (omega (arith, it.behind, it.within)) (omega (arith, first, low))
+      (opens ∙ ap (left_after (left_of seen.Equals)) (sym first)) open_quoted (equals-passed so_far))))))
+
+  attribute-on : IsReadTo text at (place + from) seen.Gap → IsReadTo text at (place + to) seen.Value
+  attribute-on so_far = elim (or_cases (it.quote == 34) (it.quote == 39) it.quoted) [
+    | inl e ↦ let q = eqb-true it.quote 34 e in
+        value-passed seen.Double (omega (arith, q)) (equals-double it.quote q) (double-quote it.quote q)
+        (λ byte h. in_double byte (ap (λ (k : ℕ). is_value_byte k byte) (sym q) ∙ h)) double_open so_far
+    | inr e ↦ let q = eqb-true it.quote 39 e in
+        value-passed seen.Single (omega (arith, q)) (equals-single it.quote q) (single-quote it.quote q)
+        (λ byte h. in_single byte (ap (λ (k : ℕ). is_value_byte k byte) (sym q) ∙ h)) single_open so_far
+  ]
+
+-- a tag is read on by what is passed at once
+pub passed-on : (text piece : List ℕ) (at place from to : ℕ) (read behind : TagState) → IsUtf8 text → StandFrom text place piece → from ≤ to → to ≤ length piece →
+    Passes read piece from to behind → IsOpen read → IsReadTo text at (place + from) read → IsReadTo text at (place + to) behind
+passed-on text piece at place from to read behind utf8 is further within passes open_read so_far = ⊎_elim
+    (λ (h : (behind ≡ read) × ((k : ℕ) → k < to - from → Stays read (get_or piece (from + k) 0))).
+    let sum : from + (to - from) ≡ to = omega (arith, further) in
+    let P : ℕ → Type 0 = λ k. IsReadTo text at (place + k) read in
+    let R : TagState → Type 0 = λ s. IsReadTo text at (place + to) s in
+    subst R (sym h.0) (subst P sum (stay-on (to - from) text piece at place from read utf8 is (omega (arith, further, within)) h.1 open_read so_far)))
+    (λ (h : (read ≡ seen.Gap) × (behind ≡ seen.Value) × IsAttribute piece from to).
+    let P : TagState → Type 0 = λ s. IsReadTo text at (place + from) s in
+    let R : TagState → Type 0 = λ s. IsReadTo text at (place + to) s in
+    subst R (sym h.1) (attribute-on text piece at place from to utf8 is h.2 (subst P h.0 so_far)))
+    passes
 
 -- a tag is read on through a name that is closed
 pub name-on : (text piece : List ℕ) (at place from close : ℕ) (before read : TagState) → IsUtf8 text → StandFrom text place piece →

@@ -1,6 +1,6 @@
 -- What may still follow a part of a tag.
-use Rattle.std.specs.Prelude.{◌≡◌, ℕ, ◌+◌, ◌-◌, ◌<◌, ◌≤◌, nat_lt, Bool, true, false, not, ◌&&◌, ◌==◌, List, length, slice_index, drop}
-use Rattle.nx_base.specs.Characters.{is_name_start, is_name_char}
+use Rattle.std.specs.Prelude.{◌≡◌, ℕ, ◌+◌, ◌-◌, ◌<◌, ◌≤◌, nat_lt, Bool, true, false, not, ◌&&◌, ◌==◌, ◌⊎◌, List, length, slice_index, drop}
+use Rattle.nx_base.specs.Characters.{is_quote, is_name_start, is_name_char}
 use Rattle.nx_base.specs.Form.{Form, name_char, only, one, seq, alt, many, never, nothing, after, may_end}
 use Rattle.nx_base.specs.Tags.{name_form, spaces, quoted_rest, attribute_value, attribute_rest, attribute, tag_rest}
 use Rattle.nx_base.specs.Text.{IsPlace}
@@ -88,3 +88,28 @@ pub record IsClosedName (bytes : List ℕ) (from close : ℕ) : Type 0 where
 
 abbrev pub is_value_byte : ℕ → ℕ → Bool
 is_value_byte quote byte = nat_lt byte 128 && (not (byte == quote) && not (byte == 60))
+
+-- an attribute of such characters from an index on, up to another: a name, `=`, and a value in quotes
+pub record IsAttribute (bytes : List ℕ) (from to : ℕ) : Type 0 where
+  pub equals : ℕ
+  pub close : ℕ
+  pub quote : ℕ
+  pub some : from < equals
+  pub low : slice_index bytes from < 128
+  pub first : is_name_start (slice_index bytes from) ≡ true
+  pub others : (k : ℕ) → k < equals - (from + 1) → is_name_byte (slice_index bytes (from + 1 + k)) ≡ true
+  pub equals_there : slice_index bytes equals ≡ 61
+  pub opened : slice_index bytes (equals + 1) ≡ quote
+  pub quoted : is_quote quote ≡ true
+  pub behind : equals + 2 ≤ close
+  pub value : (k : ℕ) → k < close - (equals + 2) → is_value_byte quote (slice_index bytes (equals + 2 + k)) ≡ true
+  pub within : close < length bytes
+  pub closed : slice_index bytes close ≡ quote
+  pub ends : to ≡ close + 1
+
+-- characters of one byte from an index on, up to another, behind which this was read: such that leave what was read as it was, or an
+-- attribute where one may begin
+abbrev pub Passes : TagState → List ℕ → ℕ → ℕ → TagState → Type 0
+Passes read bytes from to behind =
+    ((behind ≡ read) × ((k : ℕ) → k < to - from → Stays read (slice_index bytes (from + k))))
+    ⊎ ((read ≡ seen.Gap) × (behind ≡ seen.Value) × IsAttribute bytes from to)

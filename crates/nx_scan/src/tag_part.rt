@@ -6,9 +6,10 @@ ghost use Rattle.std.specs.List.{prefix_len};
 ghost use Rattle.std.specs.Str.{IsUtf8};
 ghost use Rattle.nx_base.specs.Characters.{is_name_start};
 ghost use Rattle.nx_base.specs.Text.{IsPlace};
-ghost use Rattle.nx_scan.specs.Tag.{IsReadTo, IsClosedName, Stays, is_name_byte, is_value_byte};
+ghost use Rattle.nx_scan.specs.Tag.{IsReadTo, IsClosedName, IsAttribute, Passes, Stays, is_name_byte, is_value_byte};
 
 use crate::tag::TagState;
+use nx_base::character::is_quote;
 use nx_text::text::Text;
 
 /// How far a tag is read, and what was read of it.
@@ -95,6 +96,58 @@ fn stay_len(seen: TagState, piece: &[u8], from: usize) -> usize
     }
 }
 
+/// The index behind the attribute that begins at another; none where something else stands there, or a character has more than one byte.
+fn attribute_end(piece: &[u8], from: usize) -> Option<usize>
+    ensures { IfSome result (IsAttribute piece.now from) }
+{
+    if from >= piece.len() || !is_name_first(piece[from]) {
+        return None;
+    }
+    let equals = from + 1 + name_len(&piece[from + 1..]);
+    if equals + 1 >= piece.len() || piece[equals] != b'=' {
+        return None;
+    }
+    let quote = piece[equals + 1];
+    if !is_quote(char::from(quote)) {
+        return None;
+    }
+    let close = equals + 2 + value_len(&piece[equals + 2..], quote);
+    if close < piece.len() && piece[close] == quote {
+        Some(close + 1)
+    } else {
+        None
+    }
+}
+
+/// How far a tag is read on at once from an index on, and what was read of it then.
+#[derive(Clone, Copy)]
+struct Passed {
+    to: usize,
+    seen: TagState,
+}
+
+/// Passes what leaves what was read as it was, and a whole attribute where one may begin.
+fn pass_on(seen: TagState, piece: &[u8], from: usize) -> Passed
+    requires { from ≤ length piece.now }
+    ensures further { from ≤ result.to }
+    ensures within { result.to ≤ length piece.now }
+    ensures passes { Passes seen piece.now from result.to result.seen }
+{
+    match seen {
+        TagState::Gap => match attribute_end(piece, from) {
+            Some(to) => Passed {
+                to,
+                seen: TagState::Value,
+            },
+            None => Passed { to: from, seen },
+        },
+        _ => Passed {
+            to: from + stay_len(seen, piece, from),
+            seen,
+        },
+    }
+}
+
 /// The tag read on from a place as far as this can be done at once: to the first character that may end it or lose it, to one that
 /// has more than one byte, or to the end of the piece in which the place lies. Whoever goes on reads character by character.
 pub(crate) fn read_on(text: &Text, place: usize, seen: TagState) -> TagPart
@@ -119,9 +172,9 @@ pub(crate) fn read_on(text: &Text, place: usize, seen: TagState) -> TagPart
             TagState::Start | TagState::Empty | TagState::End | TagState::Lost => break,
             _ => {}
         }
-        so_far = next;
-        n += 1;
-        n += stay_len(so_far, piece, n);
+        let passed = pass_on(next, piece, n + 1);
+        so_far = passed.seen;
+        n = passed.to;
     }
     TagPart {
         place: place + n,
