@@ -10,6 +10,7 @@ pub mod Marks
 pub mod OwnBytes
 pub mod Reading
 pub mod Rows
+pub mod Runs
 pub mod SameMarkup
 pub mod SameTags
 pub mod Stable

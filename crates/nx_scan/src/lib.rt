@@ -7,6 +7,7 @@
 pub mod border;
 mod doctype;
 pub mod doctype_law;
+mod lanes;
 mod mark;
 pub mod scan;
 mod tag;

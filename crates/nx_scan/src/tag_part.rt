@@ -8,6 +8,7 @@ ghost use Rattle.nx_base.specs.Characters.{is_name_start};
 ghost use Rattle.nx_base.specs.Text.{IsPlace};
 ghost use Rattle.nx_scan.specs.Tag.{IsReadTo, IsClosedName, IsAttribute, Passes, Stays, is_name_byte, is_value_byte};
 
+use crate::lanes::{LANES, name_run};
 use crate::tag::TagState;
 use nx_base::character::is_quote;
 use nx_text::text::Text;
@@ -44,12 +45,27 @@ fn is_in_value(byte: u8, quote: u8) -> bool
     byte < 128 && byte != quote && byte != b'<'
 }
 
-/// How many bytes of a name stand in front.
-fn name_len(bytes: &[u8]) -> usize
+/// How many bytes of a name stand in front, looked at one by one.
+fn short_name_len(bytes: &[u8]) -> usize
     ensures len { result ≡ prefix_len is_name_byte bytes.now }
     ensures within { result ≤ length bytes.now }
 {
     bytes.iter().take_while(|byte| is_in_name(**byte)).count()
+}
+
+/// How many bytes of a name stand in front. Most names end in the first lanes.
+fn name_len(bytes: &[u8]) -> usize
+    ensures len { result ≡ prefix_len is_name_byte bytes.now }
+    ensures within { result ≤ length bytes.now }
+{
+    if bytes.len() < LANES {
+        return short_name_len(bytes);
+    }
+    let run = name_run(bytes);
+    if run < LANES {
+        return run;
+    }
+    LANES + short_name_len(&bytes[LANES..])
 }
 
 /// The index of the `>` that closes a name which begins at `from`; none where something else stands there or behind the name, or one of

@@ -1,4 +1,4 @@
-use Rattle.std.proofs.Common.{rules, ◌+◌, get_or, refl, sym, arith, ◌∙◌}
+use Rattle.std.proofs.Common.{rules, ◌+◌, get_or, refl, arith}
 use Rattle.nx_scan.specs.Tag.{is_name_byte, is_value_byte}
 use Rattle.nx_scan.proofs.TagParts.{each_passes}
 use Rattle.nx_scan.proofs.tag_part.attribute_end.Goals as goal

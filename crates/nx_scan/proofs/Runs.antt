@@ -1,0 +1,76 @@
+-- Runs of bytes of a class, told by what one load of sixteen says.
+use Rattle.std.proofs.Common.{◌≡◌, ◌∙◌, ℕ, ◌+◌, ◌%◌, ◌^◌, ◌<◌, ◌≤◌, eqb, cond, Bool, true, false, not, List, [], ◌∷◌, map, length, take, drop, get_or}
+use Rattle.std.proofs.Common.{replicate, Fits, w8, refl, sym, ap, ap₂, arith}
+use Rattle.std.specs.Prelude.{if◌then◌else◌, ◌==◌}
+use Rattle.std.specs.Int.{w64, trailing_zeros}
+use Rattle.std.specs.List.{prefix_len}
+use Rattle.std.proofs.lemmas.Bool.{agree_below, agree_below_at, eq-eqb, ne_eqb}
+use Rattle.std.proofs.lemmas.Simd.{mask_l-mod, length-chunk, chunk-drop, chunk-fits, first_set_mask_l, zip2-map}
+use Rattle.std.proofs.lemmas.List.{length-map}
+use Rattle.std.proofs.lemmas.List.Folds.{prefix_len-append}
+use Rattle.std.proofs.lemmas.List.Sums.{prefix_len-le-length}
+use lib.Lanes.{chunk, zip2, mask_l, top, Each1}
+
+-- an operation on two vectors that were computed lane by lane from v
+pub joined : (h : ℕ → ℕ → ℕ) (f g : ℕ → ℕ) (v : List ℕ) {a b : List ℕ} → a ≡ map f v → b ≡ map g v → zip2 h a b ≡ map (λ x. h (f x) (g x)) v
+joined h f g v p q = ap₂ (zip2 h) p q ∙ zip2-map h f g v
+
+pub splat_is : (v : List ℕ) (n y : ℕ) → length v ≡ n → replicate n y ≡ map (λ _. y) v
+splat_is [] n y e = ap (λ k. replicate k y) (sym e)
+splat_is (x ∷ xs) n y e = ap (λ k. replicate k y) (sym e) ∙ ap (λ r. y ∷ r) (splat_is xs (length xs) y refl)
+
+pub itself : (v : List ℕ) → v ≡ map (λ x. x) v
+itself [] = refl
+itself (x ∷ xs) = ap (λ r. x ∷ r) (itself xs)
+
+-- lanes that stop just where the test fails
+each_byte : (f : ℕ → ℕ) (q : ℕ → Bool) → ((b : ℕ) → b < 256 → top 7 (f b) ≡ not (q b)) → (v : List ℕ) → Each1 (Fits w8) v →
+    map (top 7) (map f v) ≡ map (λ x. not (q x)) v
+each_byte f q same [] fits = refl
+each_byte f q same (x ∷ xs) fits = ap₂ (λ a b. a ∷ b) (same x fits.0.fits) (each_byte f q same xs fits.1)
+
+twice : (b : Bool) → not (not b) ≡ b
+twice true = refl
+twice false = refl
+
+not-not : (q : ℕ → Bool) (v : List ℕ) → prefix_len (λ x. not (not (q x))) v ≡ prefix_len q v
+not-not q [] = refl
+not-not q (x ∷ xs) = ap₂ (λ b n. cond b (1 + n) 0) (twice (q x)) (not-not q xs)
+
+pub run_is : (q : ℕ → Bool) (d z : List ℕ) (r : ℕ) → 16 ≤ length d → ((k : ℕ) → Fits w8 (get_or d k 0)) →
+    r ≡ (if mask_l (map (top 7) z) % 2 ^ 64 == 0 then 16 else trailing_zeros w64 (mask_l (map (top 7) z) % 2 ^ 64)) →
+    (f : ℕ → ℕ) → z ≡ map f (chunk 0 16 d) → ((b : ℕ) → b < 256 → top 7 (f b) ≡ not (q b)) → r ≡ prefix_len q (take 16 d)
+run_is q d z r room fits found f lanes same =
+    let v = chunk 0 16 d in
+    let p : ℕ → Bool = λ x. not (q x) in
+    let long : length v ≡ 16 = length-chunk 0 16 d room in
+    let mask : mask_l (map (top 7) z) % 2 ^ 64 ≡ mask_l (map p v) =
+    ap (λ l. mask_l l % 2 ^ 64) (ap (map (top 7)) lanes ∙ each_byte f q same v (chunk-fits w8 0 16 d fits)) ∙ mask_l-mod (map p v) 64 (omega (arith, length-map v p, long)) in
+    found ∙ ap (λ m. if m == 0 then 16 else trailing_zeros w64 m) mask ∙ first_set_mask_l p v 16 long (omega arith) ∙ not-not q v
+
+-- the same where the lanes are computed from the bytes alone
+pub run_agrees : (q : ℕ → Bool) (d z : List ℕ) (r : ℕ) → 16 ≤ length d → ((k : ℕ) → Fits w8 (get_or d k 0)) →
+    r ≡ (if mask_l (map (top 7) z) % 2 ^ 64 == 0 then 16 else trailing_zeros w64 (mask_l (map (top 7) z) % 2 ^ 64)) →
+    (f : ℕ → ℕ) → z ≡ map f (chunk 0 16 d) → agree_below (λ x. top 7 (f x)) (λ x. not (q x)) 256 ≡ true → r ≡ prefix_len q (take 16 d)
+run_agrees q d z r room fits found f lanes all =
+    run_is q d z r room fits found f lanes (λ b low. agree_below_at (λ x. top 7 (f x)) (λ x. not (q x)) 256 b all low)
+
+-- a run through the first sixteen bytes goes on behind them
+split : (q : ℕ → Bool) (d : List ℕ) → prefix_len q d
+    ≡ cond (eqb (prefix_len q (take 16 d)) (length (take 16 d))) (length (take 16 d) + prefix_len q (drop 16 d)) (prefix_len q (take 16 d))
+split q d = ap (prefix_len q) (chunk-drop 0 16 d) ∙ prefix_len-append q (take 16 d) (drop 16 d)
+
+module _ (q : ℕ → Bool) (d : List ℕ) (r : ℕ) (room : 16 ≤ length d) (run : r ≡ prefix_len q (take 16 d)) where
+  long : length (take 16 d) ≡ 16
+  long = length-chunk 0 16 d room
+
+  pub run-stops : r < 16 → r ≡ prefix_len q d
+  run-stops short =
+      run ∙ sym (split q d ∙ ap (λ b. cond b (length (take 16 d) + prefix_len q (drop 16 d)) (prefix_len q (take 16 d)))
+      (ne_eqb _ _ (λ (e : prefix_len q (take 16 d) ≡ length (take 16 d)). omega (arith, run, long))))
+
+  pub run-through : 16 ≤ r → 16 + prefix_len q (drop 16 d) ≡ prefix_len q d
+  run-through whole =
+      let is : r ≡ 16 = omega (arith, run, long, prefix_len-le-length q (take 16 d)) in
+      sym (split q d ∙ ap (λ b. cond b (length (take 16 d) + prefix_len q (drop 16 d)) (prefix_len q (take 16 d))) (eq-eqb _ _ (sym run ∙ is ∙ sym long))
+      ∙ ap (λ k. k + prefix_len q (drop 16 d)) long)

@@ -1,0 +1,22 @@
+use Rattle.std.proofs.Common.{ℕ, leb, cond, bit_and, bit_or, refl}
+use Rattle.std.proofs.lemmas.Simd.{zip2_splat, length-chunk}
+use Rattle.nx_base.specs.Characters.{is_name_char, is_name_start}
+use Rattle.nx_scan.specs.Tag.{is_name_byte}
+use Rattle.nx_scan.proofs.Runs.{joined, splat_is, run_agrees}
+use lib.Lanes.{chunk}
+use Rattle.nx_scan.proofs.lanes.name_run.Goals as goal
+
+pub returns : goal.returns
+unfolding is_name_char is_name_start
+returns c =
+    let v = chunk 0 16 c.args.bytes.now in
+    let long = length-chunk 0 16 c.args.bytes.now c.requires in
+    run_agrees is_name_byte c.args.bytes.now _ _ c.requires c.type_inv.bytes c.first_set.ensures _
+    (joined bit_and _ _ v
+    (joined bit_and _ _ v
+    (joined (λ a b. cond (leb a b) 255 0) _ _ v (splat_is v 16 26 long) (joined _ _ _ v (zip2_splat {Y = ℕ} _ v 16 32 long) (splat_is v 16 97 long)))
+    (joined bit_or _ _ v
+    (joined (λ a b. cond (leb a b) 255 0) _ _ v (splat_is v 16 14 long) (zip2_splat {Y = ℕ} _ v 16 45 long))
+    (zip2_splat {Y = ℕ} _ v 16 47 long)))
+    (zip2_splat {Y = ℕ} _ v 16 95 long))
+    refl
