@@ -9,7 +9,12 @@ use Rattle.nx_base.specs.Tokens.{bytes_up_to}
 use Rattle.nx_text.specs.Feeds.{feeds_from}
 use Rattle.nx_text.specs.Places.{is_line_feed}
 use Rattle.nx_text.specs.Reading.{StandFrom}
-use Rattle.std.specs.List.{count_by}
+use Rattle.std.specs.List.{count_by, prefix_len}
+use Rattle.std.proofs.Common.{◌%◌, ◌^◌, eqb, not, map, replicate, w8}
+use Rattle.std.proofs.lemmas.Simd.{bitmask_splat, first_set_mask_l}
+use Rattle.std.proofs.lemmas.Bool.{eq-eqb, ne_eqb, cond-true, cond-false}
+use lib.Lanes.{zip2, mask_l, top}
+use lib.Count.{count_trailing_zeros}
 use Rattle.nx_text.proofs.Feeds.{feed_count, counted, count_of_both}
 
 -- the byte stands at a place, and at none before it
@@ -203,3 +208,40 @@ fits_on n count few left rest text short is part so_far =
     let len = length-take-le n left short in
     let there : length rest ≡ length left - n = ap length (part ∙ rest_of left n) ∙ length-drop n left in
     omega (arith, here, is, most, len, there, so_far)
+
+-- the byte stands among the first of a list
+pub found_among : (byte n : ℕ) (xs : List ℕ) → n ≤ length xs → bytes_up_to byte (take n xs) < n → bytes_up_to byte (take n xs) ≡ bytes_up_to byte xs
+unfolding bytes_up_to
+found_among byte zero xs room less = absurd (omega arith)
+found_among byte (suc n) [] room less = absurd (omega arith)
+found_among byte (suc n) (x ∷ xs) room less =
+    front_step (x == byte) n (bytes_up_to byte (take n xs)) (bytes_up_to byte xs) (λ l. found_among byte n xs (omega arith) l) less
+
+-- what the mask of one load says
+one_more : (b : Bool) (n m : ℕ) → n ≡ m → cond (not b) (1 + n) 0 ≡ cond b 0 (m + 1)
+one_more true n m e = refl
+one_more false n m e = omega (arith, e)
+
+others_len : (byte : ℕ) (xs : List ℕ) → prefix_len (λ x. not (eqb x byte)) xs ≡ bytes_up_to byte xs
+unfolding bytes_up_to
+others_len byte [] = refl
+others_len byte (x ∷ xs) =
+    one_more (x == byte) (prefix_len (λ y. not (eqb y byte)) xs) (bytes_up_to byte xs) (others_len byte xs)
+
+module _ (byte : ℕ) (xs : List ℕ) (room : 16 ≤ length xs) where
+  abbrev pub mask : ℕ
+  mask = mask_l (map (top 7) (zip2 (λ a b. cond (eqb a b) 255 0) (take 16 xs) (replicate 16 byte))) % 2 ^ 64
+
+  long : length (take 16 xs) ≡ 16
+  long = length-take-le 16 xs room
+
+  lanes_told : cond (eqb mask 0) 16 (count_trailing_zeros 64 mask) ≡ bytes_up_to byte (take 16 xs)
+  lanes_told =
+      ap (λ m. cond (eqb m 0) 16 (count_trailing_zeros 64 m)) (bitmask_splat w8 eqb (take 16 xs) 16 byte long (omega arith))
+      ∙ first_set_mask_l (λ x. eqb x byte) (take 16 xs) 16 long (omega arith) ∙ others_len byte (take 16 xs)
+
+  pub lanes_none : mask ≡ 0 → 16 ≡ bytes_up_to byte (take 16 xs)
+  lanes_none none = sym (cond-true _ _ _ (eq-eqb mask 0 none)) ∙ lanes_told
+
+  pub lanes_some : ¬ (mask ≡ 0) → count_trailing_zeros 64 mask ≡ bytes_up_to byte (take 16 xs)
+  lanes_some some = sym (cond-false _ _ _ (ne_eqb mask 0 some)) ∙ lanes_told

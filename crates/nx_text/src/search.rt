@@ -1,16 +1,43 @@
 //! What stands from an offset on in a text that lies in two pieces, one behind the other.
 
-ghost use Rattle.std.specs.Prelude.{◌≡◌, ◌+◌, ◌<◌, ◌≤◌, ◌^◌, ◌++◌, length, drop};
+ghost use Rattle.std.specs.Prelude.{◌≡◌, ◌+◌, ◌<◌, ◌≤◌, ◌^◌, ◌++◌, length, take, drop};
 ghost use Rattle.nx_base.specs.Tokens.{bytes_up_to};
 ghost use Rattle.nx_text.specs.Reading.{StandFrom};
 
 use memchr::memchr;
+use std::simd::prelude::*;
 
-/// How many bytes stand before the first such byte, or in all where there is none.
+/// How many bytes are looked at together.
+const LANES: usize = 16;
+
+/// How many of the first sixteen bytes stand before the first such byte.
+#[inline(always)]
+fn lanes_up_to(bytes: &[u8], byte: u8) -> usize
+    requires { 16 ≤ length bytes.now }
+    ensures { result ≡ bytes_up_to byte (take 16 bytes.now) }
+{
+    let found = u8x16::from_slice(bytes)
+        .simd_eq(u8x16::splat(byte))
+        .to_bitmask();
+    if found == 0 {
+        LANES
+    } else {
+        found.trailing_zeros() as usize
+    }
+}
+
+/// How many bytes stand before the first such byte, or in all where there is none. Most texts are short: the byte is looked for in
+/// the first lanes before all others.
 fn up_to_byte(bytes: &[u8], byte: u8) -> usize
     ensures first { result ≡ bytes_up_to byte bytes.now }
     ensures within { result ≤ length bytes.now }
 {
+    if bytes.len() >= LANES {
+        let near = lanes_up_to(bytes, byte);
+        if near < LANES {
+            return near;
+        }
+    }
     match memchr(byte, bytes) {
         Some(before) => before,
         None => bytes.len(),
