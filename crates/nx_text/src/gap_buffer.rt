@@ -99,6 +99,7 @@ impl<T: Copy> GapBuffer<T> {
     }
 
     /// The items from one index to another, in the place of what the buffer held, in its room.
+    #[inline(always)]
     pub(crate) fn copy_range(
         &self,
         from: usize,
@@ -119,8 +120,20 @@ impl<T: Copy> GapBuffer<T> {
             buffer.extend_from_slice(&self.back()[from - gap..to - gap])?;
             return Ok(());
         }
+        self.copy_over_gap(from, to, buffer)
+    }
+
+    /// The items from an index in front of the gap to one behind it, into a buffer that is empty.
+    #[inline(never)]
+    fn copy_over_gap(&self, from: usize, to: usize, buffer: &mut Vec<T>) -> Result<(), AllocError>
+        requires front { from ≤ length self.now.front }
+        requires back { length self.now.front ≤ to }
+        requires inside { to ≤ length self.now.front + length self.now.back }
+        requires empty { buffer.old.items ≡ [] }
+        ensures { OnOk result (buffer.new.items ≡ slice_range (self.now.front ++ self.now.back) from to) }
+    {
         buffer.extend_from_slice(&self.front()[from..])?;
-        buffer.extend_from_slice(&self.back()[..to - gap])?;
+        buffer.extend_from_slice(&self.back()[..to - self.start])?;
         Ok(())
     }
 

@@ -168,6 +168,7 @@ impl Text {
 
     /// Puts the bytes from the place `from` to the place `to` in the place of what a list held, in its room. Where there is no
     /// memory the list may hold anything.
+    #[inline(always)]
     pub fn copy_range_into(&self, from: usize, to: usize, list: &mut Bytes) -> Result<(), NoMemory>
         requires from { IsPlace self.now from }
         requires to { IsPlace self.now to }

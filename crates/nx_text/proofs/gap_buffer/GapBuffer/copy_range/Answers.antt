@@ -1,5 +1,5 @@
 use Rattle.std.proofs.Common.{◌≡◌, ◌≤◌, length, rules}
-use Rattle.nx_text.proofs.Gaps.{put_first, put_both, copied_back, copied_both}
+use Rattle.nx_text.proofs.Gaps.{put_first, copied_back}
 use Rattle.nx_text.proofs.gap_buffer.GapBuffer.copy_range.Goals as goal
 
 pub returns-then-from-gap : goal.returns-then-from-gap
@@ -9,13 +9,3 @@ returns-then-from-gap g c =
     let past : start ≤ c.args.from = search rules in
     copied_back s.front s.back c.back.result.now c.extend_from_slice-then-from-gap.new.self.items c.args.from c.args.to start
     c.requires.ordered len past c.back.ensures (put_first _ _ _ c.clear.ensures.items c.in_ok-extend_from_slice-2.ensures.items)
-
-pub returns : goal.returns
-returns g c =
-    let s = c.args.self.now in let start = c.self.inside.start in
-    let len : length s.front ≡ start = search rules in
-    let low : c.args.from ≤ start = search rules in
-    let high : start ≤ c.args.to = search rules in
-    copied_both s.front s.back c.front-2.result.now c.back-2.result.now c.extend_from_slice-3.new.self.items c.args.from c.args.to start
-    c.requires.ordered len low high c.front-2.ensures c.back-2.ensures
-    (put_both _ _ _ _ _ c.clear.ensures.items c.in_ok-extend_from_slice-3.ensures.items c.in_ok-extend_from_slice-4.ensures.items)
