@@ -1,10 +1,12 @@
 -- Runs of bytes of a class, told by what one load of sixteen says.
 use Rattle.std.proofs.Common.{◌≡◌, ◌∙◌, ℕ, ◌+◌, ◌%◌, ◌^◌, ◌<◌, ◌≤◌, eqb, cond, Bool, true, false, not, List, [], ◌∷◌, map, length, take, drop, get_or}
 use Rattle.std.proofs.Common.{replicate, Fits, w8, refl, sym, ap, ap₂, arith}
-use Rattle.std.specs.Prelude.{if◌then◌else◌, ◌==◌}
+use Rattle.std.specs.Prelude.{if◌then◌else◌, ◌==◌, ◌&&◌}
 use Rattle.std.specs.Int.{w64, trailing_zeros}
 use Rattle.std.specs.List.{prefix_len}
-use Rattle.std.proofs.lemmas.Bool.{agree_below, agree_below_at, eq-eqb, ne_eqb}
+use Rattle.std.proofs.lemmas.Bool.{agree_below, agree_below_at, eq-eqb, ne_eqb, cases_lt, lt-ltb, le-ltb, lt-leb, le-leb}
+use Rattle.std.proofs.Common.{leb, ltb, bit_or, inl, inr}
+use Rattle.nx_scan.specs.Tag.{is_value_byte}
 use Rattle.std.proofs.lemmas.Simd.{mask_l-mod, length-chunk, chunk-drop, chunk-fits, first_set_mask_l, zip2-map}
 use Rattle.std.proofs.lemmas.List.{length-map}
 use Rattle.std.proofs.lemmas.List.Folds.{prefix_len-append}
@@ -54,6 +56,27 @@ pub run_agrees : (q : ℕ → Bool) (d z : List ℕ) (r : ℕ) → 16 ≤ length
     (f : ℕ → ℕ) → z ≡ map f (chunk 0 16 d) → agree_below (λ x. top 7 (f x)) (λ x. not (q x)) 256 ≡ true → r ≡ prefix_len q (take 16 d)
 run_agrees q d z r room fits found f lanes all =
     run_is q d z r room fits found f lanes (λ b low. agree_below_at (λ x. top 7 (f x)) (λ x. not (q x)) 256 b all low)
+
+-- lanes that stop at a byte of more than a character, at a quote, and at `<`
+stops_of : (high quoted less : Bool) → top 7 (bit_or (bit_or (cond high 255 0) (cond quoted 255 0)) (cond less 255 0)) ≡ not (not high && (not quoted && not less))
+stops_of true true true = refl
+stops_of true true false = refl
+stops_of true false true = refl
+stops_of true false false = refl
+stops_of false true true = refl
+stops_of false true false = refl
+stops_of false false true = refl
+stops_of false false false = refl
+
+high_or_low : (b : ℕ) → not (leb 128 b) ≡ ltb b 128
+high_or_low b = elim (cases_lt b 128) [
+  | inl low ↦ ap not (lt-leb 128 b low) ∙ sym (lt-ltb b 128 low)
+  | inr high ↦ ap not (le-leb 128 b high) ∙ sym (le-ltb b 128 high)
+]
+
+pub value_stops : (quote b : ℕ) → top 7 (bit_or (bit_or (cond (leb 128 b) 255 0) (cond (eqb b quote) 255 0)) (cond (eqb b 60) 255 0)) ≡ not (is_value_byte quote b)
+value_stops quote b =
+    stops_of (leb 128 b) (eqb b quote) (eqb b 60) ∙ ap (λ t. not (t && (not (eqb b quote) && not (eqb b 60)))) (high_or_low b)
 
 -- a run through the first sixteen bytes goes on behind them
 split : (q : ℕ → Bool) (d : List ℕ) → prefix_len q d

@@ -8,7 +8,7 @@ ghost use Rattle.nx_base.specs.Characters.{is_name_start};
 ghost use Rattle.nx_base.specs.Text.{IsPlace};
 ghost use Rattle.nx_scan.specs.Tag.{IsReadTo, IsClosedName, IsAttribute, Passes, Stays, is_name_byte, is_value_byte};
 
-use crate::lanes::{LANES, name_run};
+use crate::lanes::{LANES, name_run, value_run};
 use crate::tag::TagState;
 use nx_base::character::is_quote;
 use nx_text::text::Text;
@@ -84,8 +84,8 @@ pub(crate) fn closed_name(bytes: &[u8], from: usize) -> Option<usize>
     }
 }
 
-/// How many bytes of a value in such quotes stand in front.
-fn value_len(bytes: &[u8], quote: u8) -> usize
+/// How many bytes of a value in such quotes stand in front, looked at one by one.
+fn short_value_len(bytes: &[u8], quote: u8) -> usize
     ensures len { result ≡ prefix_len (is_value_byte quote) bytes.now }
     ensures within { result ≤ length bytes.now }
 {
@@ -93,6 +93,21 @@ fn value_len(bytes: &[u8], quote: u8) -> usize
         .iter()
         .take_while(|byte| is_in_value(**byte, quote))
         .count()
+}
+
+/// How many bytes of a value in such quotes stand in front.
+fn value_len(bytes: &[u8], quote: u8) -> usize
+    ensures len { result ≡ prefix_len (is_value_byte quote) bytes.now }
+    ensures within { result ≤ length bytes.now }
+{
+    if bytes.len() < LANES {
+        return short_value_len(bytes, quote);
+    }
+    let run = value_run(bytes, quote);
+    if run < LANES {
+        return run;
+    }
+    LANES + short_value_len(&bytes[LANES..], quote)
 }
 
 /// How many bytes from an index on are characters that leave what was read as it was.
