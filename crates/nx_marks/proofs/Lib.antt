@@ -17,6 +17,7 @@ pub mod Refused
 pub mod Walking
 pub mod Holding
 pub mod Finding
+pub mod Finishing
 pub mod Seen
 pub mod Cutting
 pub mod Passing

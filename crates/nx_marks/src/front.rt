@@ -205,6 +205,7 @@ impl<S: Drop> Front<S> {
 
 /// Has the machine take one more token, and makes the segment of the last mark longer by it, with its faults. How many tags lie
 /// behind that mark then.
+#[inline(always)]
 pub(crate) fn lengthen_last<A: Machine>(
     alloc: Global,
     machine: &mut A,

@@ -1,6 +1,6 @@
 //! What is kept of a run: a line of marks, and how far along it the frontier is.
 
-ghost use Rattle.std.specs.Prelude.{◌≡◌, ◌<◌, ◌≤◌, length, false, IfOk};
+ghost use Rattle.std.specs.Prelude.{◌≡◌, ◌<◌, ◌≤◌, [], length, false, IsTrue, IfOk};
 ghost use Rattle.nx_marks.specs.Chain.{AreWhole, FaultsFit, faults_in, frontier_of};
 ghost use Rattle.nx_marks.specs.Editing.{edit_noted, noted};
 ghost use Rattle.nx_marks.specs.Frontier.{FrontierAfterEdit};
@@ -52,6 +52,13 @@ impl<S: Drop> Kept<S> {
         ensures { result ≡ frontier_of self.now }
     {
         self.line.frontier(self.joined)
+    }
+
+    /// Whether no mark is aside behind the frontier.
+    pub(crate) fn none_aside(&self) -> bool
+        ensures { IsTrue result → self.now.aside ≡ [] }
+    {
+        self.joined || self.line.none_aside()
     }
 
     /// The state at the frontier.

@@ -140,6 +140,13 @@ impl<S: Drop> Line<S> {
         self.front.reach() + self.here.len
     }
 
+    /// Whether no mark is aside.
+    pub(crate) fn none_aside(&self) -> bool
+        ensures { IsTrue result → self.now.aside ≡ [] }
+    {
+        self.aside.is_empty()
+    }
+
     /// Whether the next mark is at the same place.
     pub(crate) fn is_at_next(&self) -> bool
         ensures there { IsTrue result → (self.now.here.len ≡ 0) × (0 < length self.now.aside) }
@@ -554,11 +561,39 @@ pub(crate) fn is_due<A: Machine>(machine: &A, state: &Stored<A::State>, tags: us
     requires { A.is_state machine.now state.now }
     ensures { result ≡ is_due (A.rules machine.now) (A.means machine.now state.now) tags }
 {
+    // Mostly fewer tags lie there, and the state needn't be looked at.
+    if tags < 16 {
+        return false;
+    }
     let state = state.get();
-    machine.may_mark(state) && machine.depth(state).max(16) <= tags
+    machine.may_mark(state) && machine.depth(state) <= tags
+}
+
+/// Saves a copy of the state at the frontier, where a mark stands. It stands outside of the loop over tokens.
+#[inline(never)]
+fn save_here<A: Machine>(
+    alloc: Global,
+    machine: &A,
+    text: &Text,
+    line: &mut Line<A::State>,
+) -> Result<(), NoMemory>
+    requires right { IsRight (A.is_state machine.now) (A.means machine.now) (A.rules machine.now) text.now line.old }
+    requires marked { line.old.marked ≡ true }
+    ensures right { IsRight (A.is_state machine.now) (A.means machine.now) (A.rules machine.now) text.now line.new }
+    ensures unmarked { OnOk result (line.new.marked ≡ false) }
+    ensures frontier { frontier_of line.new ≡ frontier_of line.old }
+    ensures near { (n end : ℕ) → WillReach (A.means machine.now) (A.rules machine.now) text.now n end line.old
+        → WillReach (A.means machine.now) (A.rules machine.now) text.now n end line.new }
+    ensures gap { line.new.here.len ≡ line.old.here.len }
+    ensures keeps { KeepsMarks (A.means machine.now) (A.rules machine.now) text.now line.old line.new }
+{
+    let state = copied(alloc, machine, &line.here.state)?;
+    line.begin(alloc, state)?;
+    Ok(())
 }
 
 /// Saves a copy of the state at the frontier where a mark stands there.
+#[inline(always)]
 pub(crate) fn begin_here<A: Machine>(
     alloc: Global,
     machine: &A,
@@ -577,12 +612,11 @@ pub(crate) fn begin_here<A: Machine>(
     if !line.marked {
         return Ok(());
     }
-    let state = copied(alloc, machine, &line.here.state)?;
-    line.begin(alloc, state)?;
-    Ok(())
+    save_here(alloc, machine, text, line)
 }
 
 /// Steps over the token at the frontier, which no mark aside lies in. A mark stands behind it where one is due.
+#[inline(always)]
 pub(crate) fn step<A: Machine>(
     alloc: Global,
     machine: &mut A,

@@ -49,6 +49,7 @@ fn tags_of(kind: TokenKind) -> usize
 
 /// Has the machine take one more token, and makes the segment that ends in front of it longer by it, with its faults. How many tags
 /// the segment has then.
+#[inline(always)]
 pub(crate) fn lengthen<A: Machine>(
     alloc: Global,
     machine: &mut A,

@@ -43,6 +43,7 @@ pub struct Marks<A: Machine> {
 }
 
 /// Takes the token at the frontier, where the line is parted. Marks aside that it passes are dropped.
+#[inline(always)]
 fn take_here<A: Machine>(
     alloc: Global,
     machine: &mut A,
@@ -70,6 +71,36 @@ fn take_here<A: Machine>(
     step(alloc, machine, text, line, token)
 }
 
+/// Cuts the token at the frontier, where the line is parted, and takes it. Marks aside that it passes are dropped. It stands in line in
+/// both loops over tokens, and so does what it calls here.
+#[inline(always)]
+fn cut_and_take<A: Machine, L: Ledger>(
+    alloc: Global,
+    machine: &mut A,
+    text: &Text,
+    line: &mut Line<A::State>,
+    token: &mut Token,
+    steps: &mut Steps<L>,
+) -> Result<(), NoMemory>
+    requires right { IsRight (A.is_state machine.old) (A.means machine.old) (A.rules machine.old) text.now line.old }
+    requires rest { frontier_of line.old < length text.now }
+    requires settled { (0 < line.old.here.len) ⊎ (line.old.aside ≡ []) }
+    ensures later { A.later machine.old machine.new }
+    ensures right { IsRight (A.is_state machine.new) (A.means machine.new) (A.rules machine.new) text.now line.new }
+    ensures on { OnOk result (MovesOver text.now (frontier_of line.old) 1 (frontier_of line.new)) }
+    ensures near { OnOk result ((n end : ℕ) → WillReach (A.means machine.old) (A.rules machine.old) text.now n end line.old
+        → 0 < line.old.here.len → (0 < n) × WillReach (A.means machine.new) (A.rules machine.new) text.now (n - 1) end line.new) }
+    ensures off { OnErr result (frontier_of line.new ≡ frontier_of line.old) }
+    ensures keeps { KeepsMarks (A.means machine.old) (A.rules machine.old) text.now line.old line.new }
+    ensures step { steps.new ≡ steps.old + 1 }
+{
+    // A text whose length is read is known to be in UTF-8.
+    let _len = text.len();
+    let at = line.frontier(false);
+    scan_token_into(text, at, token, steps)?;
+    take_here(alloc, machine, text, line, token)
+}
+
 /// Takes the token at the frontier, and parts the line there. Marks aside that it passes are dropped.
 fn take<A: Machine, L: Ledger>(
     alloc: Global,
@@ -95,9 +126,70 @@ fn take<A: Machine, L: Ledger>(
     let _len = text.len();
     kept.line.arrive(kept.joined);
     kept.joined = false;
-    let at = kept.line.frontier(false);
-    scan_token_into(text, at, token, steps)?;
-    take_here(alloc, machine, text, &mut kept.line, token)
+    cut_and_take(alloc, machine, text, &mut kept.line, token, steps)
+}
+
+/// Takes tokens where no mark is aside, until so many are taken, or none is left.
+fn take_rest<A: Machine, L: Ledger>(
+    alloc: Global,
+    machine: &mut A,
+    text: &Text,
+    line: &mut Line<A::State>,
+    token: &mut Token,
+    taken: &mut u64,
+    n: u64,
+    steps: &mut Steps<L>,
+) -> Result<(), NoMemory>
+    requires right { IsRight (A.is_state machine.old) (A.means machine.old) (A.rules machine.old) text.now line.old }
+    requires most { taken.old ≤ n }
+    requires none_aside { line.old.aside ≡ [] }
+    ensures later { A.later machine.old machine.new }
+    ensures right { IsRight (A.is_state machine.new) (A.means machine.new) (A.rules machine.new) text.now line.new }
+    ensures more { taken.old ≤ taken.new }
+    ensures most { taken.new ≤ n }
+    ensures steps { steps.new + taken.old ≡ steps.old + taken.new }
+    ensures frontier { frontier_of line.old ≤ frontier_of line.new }
+    ensures on { OnOk result (MovesOver text.now (frontier_of line.old) (taken.new - taken.old) (frontier_of line.new)) }
+    ensures enough { OnOk result ((taken.new ≡ n) ⊎ (frontier_of line.new ≡ length text.now)) }
+    ensures none_aside { line.new.aside ≡ [] }
+    ensures keeps { KeepsMarks (A.means machine.old) (A.rules machine.old) text.now line.old line.new }
+{
+    let len = text.len();
+    while line.frontier(false) < len && *taken < n {
+        *taken += 1;
+        cut_and_take(alloc, machine, text, line, token, steps)?;
+    }
+    Ok(())
+}
+
+/// Parts the line at the frontier, and takes tokens where no mark is aside.
+fn part_and_take_rest<A: Machine, L: Ledger>(
+    alloc: Global,
+    machine: &mut A,
+    text: &Text,
+    kept: &mut Kept<A::State>,
+    token: &mut Token,
+    taken: &mut u64,
+    n: u64,
+    steps: &mut Steps<L>,
+) -> Result<(), NoMemory>
+    requires right { IsRight (A.is_state machine.old) (A.means machine.old) (A.rules machine.old) text.now kept.old }
+    requires most { taken.old ≤ n }
+    requires none_aside { kept.old.aside ≡ [] }
+    ensures later { A.later machine.old machine.new }
+    ensures right { IsRight (A.is_state machine.new) (A.means machine.new) (A.rules machine.new) text.now kept.new }
+    ensures more { taken.old ≤ taken.new }
+    ensures most { taken.new ≤ n }
+    ensures steps { steps.new + taken.old ≡ steps.old + taken.new }
+    ensures frontier { frontier_of kept.old ≤ frontier_of kept.new }
+    ensures on { OnOk result (MovesOver text.now (frontier_of kept.old) (taken.new - taken.old) (frontier_of kept.new)) }
+    ensures enough { OnOk result ((taken.new ≡ n) ⊎ (frontier_of kept.new ≡ length text.now)) }
+    ensures none_aside { kept.new.aside ≡ [] }
+    ensures keeps { KeepsMarks (A.means machine.old) (A.rules machine.old) text.now kept.old kept.new }
+{
+    kept.line.arrive(kept.joined);
+    kept.joined = false;
+    take_rest(alloc, machine, text, &mut kept.line, token, taken, n, steps)
 }
 
 impl<A: Machine> Marks<A> {
@@ -184,6 +276,44 @@ impl<A: Machine> Marks<A> {
         Ok(())
     }
 
+    /// Takes tokens where no mark is aside, until `n` are taken with those before, or none is left. So the usual way asks nothing of
+    /// what is aside, and counts outside of memory.
+    fn finish<L: Ledger>(
+        &mut self,
+        machine: &mut A,
+        text: &Text,
+        n: u64,
+        steps: &mut Steps<L>,
+    ) -> Result<(), NoMemory>
+        requires right { IsRight (A.is_state machine.old) (A.means machine.old) (A.rules machine.old) text.now self.old.kept }
+        requires most { self.old.taken ≤ n }
+        requires none_aside { self.old.kept.aside ≡ [] }
+        ensures later { A.later machine.old machine.new }
+        ensures right { IsRight (A.is_state machine.new) (A.means machine.new) (A.rules machine.new) text.now self.new.kept }
+        ensures more { self.old.taken ≤ self.new.taken }
+        ensures most { self.new.taken ≤ n }
+        ensures steps { steps.new + self.old.taken ≡ steps.old + self.new.taken }
+        ensures frontier { frontier_of self.old.kept ≤ frontier_of self.new.kept }
+        ensures on { OnOk result (MovesOver text.now (frontier_of self.old.kept) (self.new.taken - self.old.taken) (frontier_of self.new.kept)) }
+        ensures enough { OnOk result ((self.new.taken ≡ n) ⊎ (frontier_of self.new.kept ≡ length text.now)) }
+        ensures none_aside { self.new.kept.aside ≡ [] }
+        ensures keeps { KeepsMarks (A.means machine.old) (A.rules machine.old) text.now self.old.kept self.new.kept }
+    {
+        let mut taken = self.taken;
+        let done = part_and_take_rest(
+            self.alloc,
+            machine,
+            text,
+            &mut self.kept,
+            &mut self.token,
+            &mut taken,
+            n,
+            steps,
+        );
+        self.taken = taken;
+        done
+    }
+
     /// Takes `n` tokens, or all that are left where there are fewer. Where the frontier reaches a mark aside in a state that means
     /// the same, the row of that mark is valid again, and the frontier goes on to its end without tokens.
     pub fn slice<L: Ledger>(
@@ -213,6 +343,9 @@ impl<A: Machine> Marks<A> {
         self.taken = 0;
         rejoin(machine, &mut self.kept);
         while self.kept.frontier() < len && self.taken < n {
+            if self.kept.none_aside() {
+                return self.finish(machine, text, n, steps);
+            }
             self.taken += 1;
             self.go_on(machine, text, steps)?;
         }

@@ -1,9 +1,10 @@
-use Rattle.std.proofs.Common.{◌≡◌, ℕ, ◌-◌, inr, length, subst, sym, arith}
+use Rattle.std.proofs.Common.{◌≡◌, ℕ, ◌+◌, ◌-◌, ◌≤◌, inr, length, subst, sym, arith}
 use Rattle.nx_marks.specs.Bound.{ReachesIn, WillReach}
 use Rattle.nx_marks.specs.Chain.{frontier_of}
 use Rattle.nx_marks.specs.Frontier.{MovesOver}
+use Rattle.nx_marks.proofs.Finishing.{none_near, over_finished}
 use Rattle.nx_marks.proofs.Keeping.{keeps_later}
-use Rattle.nx_marks.proofs.Moving.{moves_on, over_between, over_grows, over_reaches, smaller, within, rejoined, reached, border_of, end_border, from_border, over_joined, none_behind, none_aside}
+use Rattle.nx_marks.proofs.Moving.{moves_on, over_between, over_grows, over_reaches, smaller, within, rejoined, reached, border_of, end_border, from_border, over_joined, none_behind, none_aside, on_ok}
 use Rattle.nx_marks.proofs.marks.Marks.slice.Goals as goal
 
 pub loop-self-init : goal.loop-self-init
@@ -129,3 +130,61 @@ returns-after-loop-self-clause-none_aside g c = λ all.
     let m = g.A.Machine in
     let b = c.loop-self.machine in
     none_aside (m.is_state b) (m.means b) (m.rules b) c.args.text.now c.loop-self.self.kept c.loop-self.invariant.right all c.loop-self.invariant.settled
+
+pub finish-requires-clause-none_aside : goal.finish-requires-clause-none_aside
+finish-requires-clause-none_aside g c = c.none_aside.ensures c.if-none_aside.true
+
+pub returns-then-none_aside-clause-later : goal.returns-then-none_aside-clause-later
+returns-then-none_aside-clause-later g c = g.met.A.Machine.laws.chain _ _ _ c.loop-self.invariant.later c.finish.ensures.later
+
+pub returns-then-none_aside-clause-steps : goal.returns-then-none_aside-clause-steps
+returns-then-none_aside-clause-steps g c = let before = c.loop-self.invariant.counted in let more = c.finish.ensures.steps in omega arith
+
+pub returns-then-none_aside-clause-frontier : goal.returns-then-none_aside-clause-frontier
+returns-then-none_aside-clause-frontier g c =
+    let far = over_reaches c.args.text.now _ _ _ c.loop-self.invariant.over in
+    let on = c.finish.ensures.frontier in
+    omega arith
+
+pub returns-then-none_aside-clause-on : goal.returns-then-none_aside-clause-on
+returns-then-none_aside-clause-on g c =
+    let t = c.args.text.now in
+    let more = c.finish.ensures.more in
+    let all : c.loop-self.self.taken + (c.finish.new.self.taken - c.loop-self.self.taken) ≡ c.finish.new.self.taken = omega arith in
+    let P : ℕ → Type 0 = λ n. MovesOver t (frontier_of c.args.self.now.kept) n (frontier_of c.finish.new.self.kept) in
+    on_ok _ _ c.finish.result (λ on. subst P all (moves_on t _ c.loop-self.self.taken (frontier_of c.loop-self.self.kept) (c.finish.new.self.taken - c.loop-self.self.taken) _ c.loop-self.invariant.over on)) c.finish.ensures.on
+
+pub returns-then-none_aside-clause-joined : goal.returns-then-none_aside-clause-joined
+returns-then-none_aside-clause-joined g c =
+    let m = g.A.Machine in
+    let a = c.args.machine.now in
+    let b = c.loop-self.machine in
+    let t = c.args.text.now in
+    let utf8 = c.len-len.ensures.utf8 in
+    let k = c.args.self.now.kept in
+    let j = c.loop-self.self.kept in
+    let none = c.none_aside.ensures c.if-none_aside.true in
+    on_ok _ _ c.finish.result (λ on count end w le. over_finished t end count c.loop-self.self.taken c.finish.new.self.taken (frontier_of j) (frontier_of c.finish.new.self.kept) utf8
+    (end_border (m.is_state a) (m.means a) (m.rules a) (g.met.A.Machine.rule_laws a) t utf8 k count end c.requires.right w)
+    (border_of (m.is_state b) (m.means b) (m.rules b) (g.met.A.Machine.rule_laws b) t utf8 j c.loop-self.invariant.right)
+    (c.loop-self.invariant.joined count end w) (none_near (m.means b) (m.rules b) t (count - c.loop-self.self.taken) end j none (c.loop-self.invariant.near count end w))
+    c.finish.ensures.more on le) c.finish.ensures.on
+
+pub returns-then-none_aside-clause-few : goal.returns-then-none_aside-clause-few
+returns-then-none_aside-clause-few g c =
+    let m = g.A.Machine in
+    let b = c.finish.new.machine in
+    let P = (count end : ℕ) → WillReach (g.A.Machine.means c.args.machine.now) (g.A.Machine.rules c.args.machine.now) c.args.text.now count end c.args.self.now.kept → count ≤ c.finish.new.self.taken → MovesOver c.args.text.now end (c.finish.new.self.taken - count) (frontier_of c.finish.new.self.kept) in
+    on_ok P _ c.finish.result (λ joined count w. none_behind c.args.text.now count c.finish.new.self.taken (frontier_of c.finish.new.self.kept) c.len-len.ensures.utf8
+    (within (m.is_state b) (m.means b) (m.rules b) (g.met.A.Machine.rule_laws b) c.args.text.now c.len-len.ensures.utf8 c.finish.new.self.kept c.finish.ensures.right) (joined count (length c.args.text.now) w)) (returns-then-none_aside-clause-joined g c)
+
+pub returns-then-none_aside-clause-none_aside : goal.returns-then-none_aside-clause-none_aside
+returns-then-none_aside-clause-none_aside g c = λ all. c.finish.ensures.none_aside
+
+pub returns-then-none_aside-clause-settled : goal.returns-then-none_aside-clause-settled
+returns-then-none_aside-clause-settled g c = on_ok _ _ c.finish.result (λ on. inr c.finish.ensures.none_aside) c.finish.ensures.on
+
+pub returns-then-none_aside-clause-keeps : goal.returns-then-none_aside-clause-keeps
+returns-then-none_aside-clause-keeps g c =
+    let m = g.A.Machine in
+    keeps_later m.later m.is_state m.means m.rules g.met.A.Machine.laws c.args.machine.now c.loop-self.machine c.args.text.now c.args.self.now.kept c.loop-self.self.kept c.finish.new.self.kept c.loop-self.invariant.later c.requires.right c.loop-self.invariant.keeps c.finish.ensures.keeps
