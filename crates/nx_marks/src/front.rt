@@ -57,7 +57,8 @@ fn settle<S: Drop>(below: &mut Tree<S>, top: &mut Option<Single<S>>)
     }
 }
 
-/// Has the last mark at hand, out of the tree.
+/// Has the last mark at hand, out of the tree, where it mostly is.
+#[inline(always)]
 fn raise<S: Drop>(below: &mut Tree<S>, top: &mut Option<Single<S>>)
     requires { 0 < length (below.old ++ option_to_list top.old) }
     ensures all { below.new ++ option_to_list top.new ≡ below.old ++ option_to_list top.old }

@@ -89,7 +89,8 @@ impl<S: Drop> Tree<S> {
         only(first)
     }
 
-    /// Takes the last mark away.
+    /// Takes the last mark away. It stands outside of the loop over tokens, where it is seldom called.
+    #[inline(never)]
     pub(crate) fn pop_last(&mut self) -> Single<S>
         requires { 0 < length self.old }
         ensures { self.old ≡ self.new ++ result ∷ [] }
