@@ -34,6 +34,10 @@ AreOnce texts = (i j : ℕ) → i < length texts → j < length texts → slice_
 abbrev pub IsAtMostOneMore : List (List ℕ) → List (List ℕ) → List ℕ → Type 0
 IsAtMostOneMore old new text = (new ≡ old) ⊎ (new ≡ old ++ text ∷ [])
 
+-- the texts as they were, then the name's namespace where it is new, then its local part where it is
+abbrev pub AreAtMostTwoMore : List (List ℕ) → List (List ℕ) → Name → Type 0
+AreAtMostTwoMore old new name = (between : List (List ℕ)) × (IsAtMostOneMore old between name.ns × IsAtMostOneMore between new name.local)
+
 -- ---- later memories
 
 -- the texts that were there have their numbers

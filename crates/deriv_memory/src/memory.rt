@@ -2,7 +2,7 @@
 
 ghost use Rattle.std.specs.Prelude.{◌≡◌, ℕ, [], Some, None, Ok, Option, IfOk, IfSome, IfNone, OnOk, OnErr, IsTrue};
 ghost use Rattle.deriv_memory.specs.declared.asked.Asked.{Asked as TheAsked};
-ghost use Rattle.deriv_memory.specs.Remembered.{noted, IsText, IsName, AreOnce, IsAtMostOneMore, LaterMemory, IsNoted};
+ghost use Rattle.deriv_memory.specs.Remembered.{noted, IsText, IsName, AreOnce, IsAtMostOneMore, AreAtMostTwoMore, LaterMemory, IsNoted};
 
 use crate::asked::Asked;
 use crate::guesses::Guesses;
@@ -68,6 +68,16 @@ impl Memory {
         if self.has_number(text, guess) {
             return Some(guess);
         }
+        self.searched_text(text)
+    }
+
+    // The number of a text, by its hash. Out of line, so that a text that is guessed sets up no frame for it.
+    #[inline(never)]
+    fn searched_text(&self, text: &[u8]) -> Option<usize>
+        ensures once { AreOnce self.now.texts }
+        ensures found { IfSome result (IsText self.now.texts text.now) }
+        ensures none { IfNone result ((i : ℕ) → IsText self.now.texts text.now i → ⊥) }
+    {
         self.texts.get_index_of(text)
     }
 
@@ -116,6 +126,8 @@ impl Memory {
         ensures later { LaterMemory self.old self.new }
         ensures answers { self.new.answers ≡ self.old.answers }
         ensures made { IfOk result (IsName self.new.texts name.now) }
+        ensures only { AreAtMostTwoMore self.old.texts self.new.texts name.now }
+        ensures known { (numbers : ℕ × ℕ) → IsName self.old.texts name.now numbers → (result ≡ Ok numbers) × (self.new ≡ self.old) }
     {
         let ns = self.keep_text(alloc, name.ns.as_slice())?;
         let local = self.keep_text(alloc, name.local.as_slice())?;
@@ -135,10 +147,18 @@ impl Memory {
     pub fn recalled(&self, call: Asked) -> Option<Option<usize>>
         ensures { result ≡ noted self.now call }
     {
-        if let Some(answer) = self.at_place(&call) {
-            return Some(answer);
+        match self.at_place(&call) {
+            Some(answer) => Some(answer),
+            None => self.searched(&call),
         }
-        match self.answers.get(&call) {
+    }
+
+    // The answer that was noted of a call, by its hash. Out of line, as with texts.
+    #[inline(never)]
+    fn searched(&self, call: &Asked) -> Option<Option<usize>>
+        ensures { result ≡ noted self.now call.now }
+    {
+        match self.answers.get(call) {
             Some(answer) => Some(*answer),
             None => None,
         }

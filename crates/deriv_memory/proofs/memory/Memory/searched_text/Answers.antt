@@ -1,6 +1,6 @@
 use Rattle.std.proofs.Common.{ℕ, Vec, Global}
 use Rattle.deriv_memory.proofs.Texts.{found, not_found}
-use Rattle.deriv_memory.proofs.memory.Memory.text_number.Goals as goal
+use Rattle.deriv_memory.proofs.memory.Memory.searched_text.Goals as goal
 
 pub returns-clause-found : goal.returns-clause-found
 returns-clause-found c =
