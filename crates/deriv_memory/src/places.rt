@@ -1,31 +1,34 @@
 //! Where answers are looked for first.
 //!
-//! States are numbers from 0, so a list by states leads to their answers, and no hash is made. A place is a guess, and whoever takes
-//! it looks at what stands there: so no clause speaks of places, and none of them can be wrong.
+//! States are numbers from 0, so a list by states leads to their answers, and no hash is made. Most states have few calls with
+//! names, and some have many, so these share one table. A place is a guess, and whoever takes it looks at what stands there: so no
+//! clause speaks of places, and none of them can be wrong.
 
 use crate::asked::Asked;
 use crate::guesses::narrowed;
 use nx_base::memory::NoMemory;
 use std::alloc::Global;
 
-/// How many guesses a state has for its calls with names.
-const NAMED: usize = 4;
+/// How many guesses there are for calls with names.
+const NAMED: usize = 16_384;
 
-/// The places of one state's answers: a guess for each call that has no name, and some for those that have one, which the numbers
-/// of names are dealt out to.
+/// How far the guesses of one state are from those of the next.
+const STRIDE: usize = 10_007;
+
+/// The places of one state's answers: a guess for each call that has no name.
 #[derive(Clone, Copy)]
 struct Row {
     tag_end: u32,
     leave: u32,
     blank: u32,
     solid: u32,
-    named: [u32; NAMED],
 }
 
-/// The places of answers among all answers, by states.
+/// The places of answers among all answers: by states, and of calls with names by state and name.
 #[derive(Drop)]
 pub struct Places {
     rows: Vec<Row>,
+    named: Vec<u32>,
 }
 
 // No answer yet: each guess is the first place.
@@ -34,46 +37,48 @@ const FIRST: Row = Row {
     leave: 0,
     blank: 0,
     solid: 0,
-    named: [0; NAMED],
 };
 
 // Another number for a name, so that its blank values and its other ones have a guess each.
 fn beside(local: usize) -> usize {
-    local ^ 1
+    local ^ (NAMED / 2)
+}
+
+// The guess that a name has on a state. Two may have one.
+fn dealt(state: usize, local: usize) -> usize {
+    (state.wrapping_mul(STRIDE) ^ local) % NAMED
+}
+
+// The guess for a call with a name; none where it has no name.
+fn guess_of(call: &Asked) -> Option<usize> {
+    match call {
+        Asked::Enter(state, _, local) => Some(dealt(*state, *local)),
+        Asked::BlankValue(state, _, local) => Some(dealt(*state, beside(*local))),
+        Asked::SolidValue(state, _, local) => Some(dealt(*state, *local)),
+        _ => None,
+    }
 }
 
 impl Row {
-    // The guess for a call on this state.
+    // The guess for a call on this state that has no name.
     fn of(&self, call: &Asked) -> u32 {
         match call {
             Asked::TagEnd(_) => self.tag_end,
             Asked::Leave(_) => self.leave,
             Asked::Blank(_) => self.blank,
             Asked::Solid(_) => self.solid,
-            Asked::Enter(_, _, local) => self.named[*local % NAMED],
-            Asked::BlankValue(_, _, local) => self.named[beside(*local) % NAMED],
-            Asked::SolidValue(_, _, local) => self.named[*local % NAMED],
+            _ => 0,
         }
     }
 
-    // From now on this is the guess for names of the number's kind, unless they have one: names that come often mostly come early.
-    fn put_named(&mut self, local: usize, place: u32) {
-        let guess = &mut self.named[local % NAMED];
-        if *guess == 0 {
-            *guess = place;
-        }
-    }
-
-    // From now on this is the guess for this call, or for calls with names of its kind.
+    // From now on this is the guess for this call.
     fn put(&mut self, call: &Asked, place: u32) {
         match call {
             Asked::TagEnd(_) => self.tag_end = place,
             Asked::Leave(_) => self.leave = place,
             Asked::Blank(_) => self.blank = place,
             Asked::Solid(_) => self.solid = place,
-            Asked::Enter(_, _, local) => self.put_named(*local, place),
-            Asked::BlankValue(_, _, local) => self.put_named(beside(*local), place),
-            Asked::SolidValue(_, _, local) => self.put_named(*local, place),
+            _ => {}
         }
     }
 }
@@ -83,22 +88,47 @@ impl Places {
     pub fn new(alloc: Global) -> Places {
         Places {
             rows: Vec::new(alloc),
+            named: Vec::new(alloc),
         }
     }
 
-    /// Where the answer of a call may stand; none where nothing was put of so high a state.
+    /// Where the answer of a call may stand; none where nothing was put of so high a state, or of a name.
     pub fn of(&self, call: &Asked) -> Option<usize> {
-        let row = self.rows.as_slice().get(call.state())?;
-        Some(row.of(call) as usize)
+        let place = match guess_of(call) {
+            Some(guess) => *self.named.as_slice().get(guess)?,
+            None => self.rows.as_slice().get(call.state())?.of(call),
+        };
+        Some(place as usize)
     }
 
     /// From now on the answer of this call is looked for at this place; that of a call with a name, where its guess was free.
     pub fn put(&mut self, call: &Asked, place: usize) -> Result<(), NoMemory> {
+        match guess_of(call) {
+            Some(guess) => self.put_named(guess, narrowed(place)),
+            None => self.put_plain(call, narrowed(place)),
+        }
+    }
+
+    // From now on this is the guess for calls with names that have it, unless there is one: names that come often mostly come early.
+    fn put_named(&mut self, guess: usize, place: u32) -> Result<(), NoMemory> {
+        if self.named.is_empty() {
+            self.named.resize(NAMED, 0)?;
+        }
+        if let Some(kept) = self.named.get_mut(guess) {
+            if *kept == 0 {
+                *kept = place;
+            }
+        }
+        Ok(())
+    }
+
+    // From now on this is the guess for this call, which has no name.
+    fn put_plain(&mut self, call: &Asked, place: u32) -> Result<(), NoMemory> {
         let state = call.state();
         while self.rows.len() <= state {
             self.rows.push(FIRST)?;
         }
-        self.rows[state].put(call, narrowed(place));
+        self.rows[state].put(call, place);
         Ok(())
     }
 }
