@@ -60,17 +60,6 @@ fn guess_of(call: &Asked) -> Option<usize> {
 }
 
 impl Row {
-    // The guess for a call on this state that has no name.
-    fn of(&self, call: &Asked) -> u32 {
-        match call {
-            Asked::TagEnd(_) => self.tag_end,
-            Asked::Leave(_) => self.leave,
-            Asked::Blank(_) => self.blank,
-            Asked::Solid(_) => self.solid,
-            _ => 0,
-        }
-    }
-
     // From now on this is the guess for this call.
     fn put(&mut self, call: &Asked, place: u32) {
         match call {
@@ -92,11 +81,30 @@ impl Places {
         }
     }
 
-    /// Where the answer of a call may stand; none where nothing was put of so high a state, or of a name.
+    // The guesses of a state.
+    fn row(&self, state: usize) -> Option<&Row> {
+        self.rows.as_slice().get(state)
+    }
+
+    // The guess of that number for calls with names.
+    fn named(&self, guess: usize) -> Option<u32> {
+        match self.named.as_slice().get(guess) {
+            Some(place) => Some(*place),
+            None => None,
+        }
+    }
+
+    /// Where the answer of a call may stand; none where nothing was put of so high a state, or of a name. One `match` tells a
+    /// call's form and whether it has a name.
     pub fn of(&self, call: &Asked) -> Option<usize> {
-        let place = match guess_of(call) {
-            Some(guess) => *self.named.as_slice().get(guess)?,
-            None => self.rows.as_slice().get(call.state())?.of(call),
+        let place = match call {
+            Asked::TagEnd(state) => self.row(*state)?.tag_end,
+            Asked::Leave(state) => self.row(*state)?.leave,
+            Asked::Blank(state) => self.row(*state)?.blank,
+            Asked::Solid(state) => self.row(*state)?.solid,
+            Asked::Enter(state, _, local) => self.named(dealt(*state, *local))?,
+            Asked::BlankValue(state, _, local) => self.named(dealt(*state, beside(*local)))?,
+            Asked::SolidValue(state, _, local) => self.named(dealt(*state, *local))?,
         };
         Some(place as usize)
     }
