@@ -2,52 +2,21 @@
 
 ghost use Rattle.std.specs.Prelude.{◌≡◌, ◌<◌, length, IfOk, if◌then◌else◌};
 ghost use Rattle.rng_types.specs.Spaces.{words};
-ghost use Rattle.rng_core.specs.Patterns.{typed, literal, empty, not_allowed};
+ghost use Rattle.rng_core.specs.Patterns.{empty, not_allowed};
 ghost use Rattle.rng_kept.specs.Nullable.{nullable as is_nullable};
 ghost use Rattle.rng_kept.specs.Strings as s;
 ghost use Rattle.rng_kept.specs.SolidStrings as solid_strings;
-ghost use Rattle.deriv_pattern.specs.Leaves.{IsInOrder};
 ghost use Rattle.deriv_pattern.specs.Choosing.{tests_of};
 ghost use Rattle.deriv_nodes.specs.Numbers.{at, Later, IsAt};
 
 use crate::node::Node;
 use crate::nodes::Nodes;
-use deriv_pattern::leaves::{has_member, has_one_token, has_solid, is_blank, is_data, is_value};
+use deriv_pattern::leaves::{
+    has_member, has_one_token, is_data, is_value, takes_data, takes_value,
+};
 use nx_base::memory::NoMemory;
-use nx_base::sequence::Bytes;
-use rng_types::datatype::{Datatype, Excepts};
 use rng_types::spaces::first_word;
 use std::alloc::Global;
-
-/// Whether a type and its excepts take the text, or some text that isn't blank.
-fn takes_data(
-    alloc: Global,
-    solid: bool,
-    text: &str,
-    datatype: &Datatype,
-    excepts: &Excepts,
-) -> Result<bool, NoMemory>
-    requires { IsInOrder (typed datatype.now excepts.now) }
-    ensures { IfOk result (λ found. found ≡ (tests_of solid text.now).of_data datatype.now excepts.now) }
-{
-    if solid {
-        has_solid(alloc, datatype, excepts)
-    } else {
-        Ok(is_data(datatype, excepts, text))
-    }
-}
-
-/// Whether the text has a literal's value, or some text that isn't blank has it.
-fn takes_value(solid: bool, text: &str, datatype: &Datatype, wanted: &Bytes) -> bool
-    requires { IsInOrder (literal datatype.now wanted.now) }
-    ensures { result ≡ (tests_of solid text.now).of_value datatype.now wanted.now }
-{
-    if solid {
-        !is_blank(wanted.as_slice())
-    } else {
-        is_value(datatype, wanted, text)
-    }
-}
 
 impl Nodes {
     /// Behind a word of a list, in which no list stands.

@@ -32,6 +32,10 @@ IsInOrder (choice p q) = IsInOrder p × IsInOrder q
 IsInOrder (group p q) = IsInOrder p × IsInOrder q
 IsInOrder (interleave p q) = IsInOrder p × IsInOrder q
 
+-- the contents of definitions are so
+abbrev pub ContentsAreInOrder : List Definition → Type 0
+ContentsAreInOrder g = AllByRecursion (λ d. IsInOrder d.content) g
+
 -- the patterns of a sound grammar are so
 abbrev pub SoundAreInOrder : Type 0
 SoundAreInOrder = (count : ℕ) (p : Pattern) → IsSoundPattern count p → IsInOrder p

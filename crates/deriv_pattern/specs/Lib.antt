@@ -2,3 +2,4 @@ pub mod Leaves
 pub mod Opened
 pub mod Choosing
 pub mod Mentions
+pub mod Steps

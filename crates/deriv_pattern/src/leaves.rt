@@ -9,9 +9,11 @@ ghost use Rattle.rng_types.specs.MemberTest.{has_member as has_member_of, most_e
 ghost use Rattle.rng_types.specs.OneToken.{one_token_of};
 ghost use Rattle.rng_types.specs.WellMade.{is_well_made, is_sound_except};
 ghost use Rattle.rng_core.specs.Meaning.{pattern_of};
+ghost use Rattle.rng_core.specs.Patterns.{typed, literal};
 ghost use Rattle.rng_kept.specs.Nullable.{nullable as is_nullable};
 ghost use Rattle.rng_kept.specs.Strings as strings;
 ghost use Rattle.rng_kept.specs.SolidStrings as solid;
+ghost use Rattle.deriv_pattern.specs.Choosing.{tests_of};
 ghost use Rattle.deriv_pattern.specs.Leaves.{IsInOrder};
 
 use crate::small::nullable;
@@ -95,6 +97,36 @@ pub(crate) fn is_solid(datatype: &Datatype, wanted: &Bytes) -> bool
     ensures { result ≡ solid.solid_tests.of_value datatype.now wanted.now }
 {
     !is_blank(wanted.as_slice())
+}
+
+/// Whether a type and its excepts take the text, or some text that isn't blank.
+pub fn takes_data(
+    alloc: Global,
+    solid: bool,
+    text: &str,
+    datatype: &Datatype,
+    excepts: &Excepts,
+) -> Result<bool, NoMemory>
+    requires { IsInOrder (typed datatype.now excepts.now) }
+    ensures { IfOk result (λ found. found ≡ (tests_of solid text.now).of_data datatype.now excepts.now) }
+{
+    if solid {
+        has_solid(alloc, datatype, excepts)
+    } else {
+        Ok(is_data(datatype, excepts, text))
+    }
+}
+
+/// Whether the text has a literal's value, or some text that isn't blank has it.
+pub fn takes_value(solid: bool, text: &str, datatype: &Datatype, wanted: &Bytes) -> bool
+    requires { IsInOrder (literal datatype.now wanted.now) }
+    ensures { result ≡ (tests_of solid text.now).of_value datatype.now wanted.now }
+{
+    if solid {
+        is_solid(datatype, wanted)
+    } else {
+        is_value(datatype, wanted, text)
+    }
 }
 
 /// Whether some text of one token has the value.

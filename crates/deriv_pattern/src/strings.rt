@@ -1,11 +1,7 @@
 //! What is left of a pattern behind a string: a given one, or some one that isn't blank.
 
-ghost use Rattle.std.specs.Prelude.{◌≡◌, ◌≤◌, length, IfOk, IsTrue};
-ghost use Rattle.std.specs.List.{list_all};
-ghost use Rattle.std.specs.Str.{is_utf8};
+ghost use Rattle.std.specs.Prelude.{◌≡◌, IfOk};
 ghost use Rattle.rng_types.specs.Spaces.{words};
-ghost use Rattle.rng_types.specs.Types.{Accepts};
-ghost use Rattle.rng_types.specs.WellMade.{is_well_made, is_sound_except};
 ghost use Rattle.rng_core.specs.Meaning.{pattern_of};
 ghost use Rattle.rng_core.specs.Patterns.{Pattern};
 ghost use Rattle.rng_kept.specs.Nullable.{nullable as is_nullable};
@@ -14,13 +10,11 @@ ghost use Rattle.deriv_pattern.specs.Leaves.{IsInOrder};
 ghost use Rattle.deriv_pattern.specs.Choosing.{tests_of};
 
 use crate::boxes::{Made, boxed_copy, boxed_end, boxed_not_allowed, unboxed};
-use crate::leaves::{has_solid, has_words, is_data, is_solid, is_value};
+use crate::leaves::{has_words, is_data, is_value, takes_data, takes_value};
 use crate::parts::{either_side, first_of_many, first_side, one_of_interleave};
 use crate::small::{either, nullable};
 use nx_base::memory::NoMemory;
-use nx_base::sequence::Bytes;
 use rng_core::grammar::Pat;
-use rng_types::datatype::{Datatype, Excepts};
 use rng_types::spaces::first_word;
 use std::alloc::Global;
 
@@ -92,39 +86,6 @@ fn words_match(alloc: Global, text: &str, body: &Pat) -> Result<bool, NoMemory>
         rest = more;
     }
     is_passed(Ok(left))
-}
-
-/// Whether a type and its excepts take the text, or some text that isn't blank.
-fn takes_data(
-    alloc: Global,
-    solid: bool,
-    text: &str,
-    datatype: &Datatype,
-    excepts: &Excepts,
-) -> Result<bool, NoMemory>
-    requires few { length excepts.now ≤ 128 }
-    requires made { IsTrue (is_well_made datatype.now) }
-    requires sound { IsTrue (list_all (is_sound_except datatype.now) excepts.now) }
-    ensures { IfOk result (λ found. found ≡ (tests_of solid text.now).of_data datatype.now excepts.now) }
-{
-    if solid {
-        has_solid(alloc, datatype, excepts)
-    } else {
-        Ok(is_data(datatype, excepts, text))
-    }
-}
-
-/// Whether the text has a literal's value, or some text that isn't blank has it.
-fn takes_value(solid: bool, text: &str, datatype: &Datatype, wanted: &Bytes) -> bool
-    requires text { IsTrue (is_utf8 wanted.now) }
-    requires accepted { Accepts datatype.now wanted.now }
-    ensures { result ≡ (tests_of solid text.now).of_value datatype.now wanted.now }
-{
-    if solid {
-        is_solid(datatype, wanted)
-    } else {
-        is_value(datatype, wanted, text)
-    }
 }
 
 /// Whether the words of the text match the body of a list, or those of some text that isn't blank do.

@@ -13,11 +13,11 @@ use Rattle.rng_kept.specs.Merging.{can_join_ways, joined_outer, joined_way, with
 use Rattle.rng_kept.specs.Entering.{content_of, rest_at, has_number, tag_at_top, tag_of_both, tag_of_loose, others, enter_outer, enter_way, skip_outer, skip_way}
 use Rattle.rng_kept.specs.Tags.{tag_of, attribute_way, any_value_way, children_of, tag_end_way, missing_way}
 use Rattle.rng_kept.specs.Content.{is_dead_outer, among_of, loose_after, outer_after, chars_way, outer_after_any, any_string_way, may_leave, leave_outer, leave_way, leave_skip_outer, leave_skip_way}
-use Rattle.deriv_pattern.specs.Leaves.{IsInOrder, RestsAreInOrder, LeftInOrder}
-use Rattle.deriv_plain.specs.declared.step.Step.{Step}
-use Rattle.deriv_plain.specs.declared.step.Step.TheVariants as step
-use Rattle.deriv_plain.specs.Order.{OuterIsInOrder, WayIsInOrder, AreInOrder, ContentsAreInOrder, StepIsInOrder}
-use Rattle.deriv_plain.specs.Steps.{way_step}
+use Rattle.deriv_pattern.specs.Leaves.{IsInOrder, ContentsAreInOrder, RestsAreInOrder, LeftInOrder}
+use Rattle.deriv_pattern.specs.Steps.{way_step}
+use Rattle.deriv_pattern.specs.declared.step.Step.{Step}
+use Rattle.deriv_pattern.specs.declared.step.Step.TheVariants as step
+use Rattle.deriv_plain.specs.Order.{OuterIsInOrder, WayIsInOrder, AreInOrder, StepIsInOrder}
 
 -- either list, by a test
 either_way : (c : Bool) (x y : Residual) → AreInOrder x → AreInOrder y → AreInOrder (if c then x else y)

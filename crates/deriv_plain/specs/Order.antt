@@ -2,13 +2,12 @@
 use Rattle.std.specs.Prelude.{List, [], ◌∷◌, map}
 use Rattle.std.specs.List.{AllByRecursion}
 use Rattle.rng_core.specs.Meaning.{definition_of}
-use Rattle.rng_core.specs.Patterns.{Definition}
 use Rattle.rng_kept.specs.Residuals.{Outer, document, inside, Way, among, in_tag, Residual}
-use Rattle.deriv_pattern.specs.Leaves.{IsInOrder}
+use Rattle.deriv_pattern.specs.Leaves.{IsInOrder, ContentsAreInOrder}
 use Rattle.deriv_plain.specs.declared.ways.OneWay.{OneWay}
 use Rattle.deriv_plain.specs.Ways.{residual_of}
-use Rattle.deriv_plain.specs.declared.step.Step.{Step}
-use Rattle.deriv_plain.specs.declared.step.Step.TheVariants as step
+use Rattle.deriv_pattern.specs.declared.step.Step.{Step}
+use Rattle.deriv_pattern.specs.declared.step.Step.TheVariants as step
 
 abbrev pub OuterIsInOrder : Outer → Type 0
 OuterIsInOrder (document p) = IsInOrder p
@@ -24,10 +23,6 @@ AreInOrder x = AllByRecursion WayIsInOrder x
 -- what a state of the matcher is
 abbrev pub IsState : List OneWay → Type 0
 IsState ways = AreInOrder (residual_of ways)
-
--- the contents of definitions are in order
-abbrev pub ContentsAreInOrder : List Definition → Type 0
-ContentsAreInOrder g = AllByRecursion (λ d. IsInOrder d.content) g
 
 -- what an element's name leads to is in order
 abbrev pub StepIsInOrder : Step → Type 0

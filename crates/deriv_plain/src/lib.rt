@@ -24,7 +24,7 @@ mod entering;
 mod merging;
 pub mod plain;
 mod required;
-pub mod step;
+mod step;
 mod tags;
 pub mod ways;
 

@@ -10,13 +10,14 @@ ghost use Rattle.rng_kept.specs.Tags as tags;
 ghost use Rattle.rng_live.specs.Calls.{Answers, Gives};
 ghost use Rattle.deriv_nodes.specs.Numbers.{at};
 ghost use Rattle.deriv_states.specs.Places.{LaterPlaces};
-ghost use Rattle.deriv_states.specs.Steps.{way_step, HasContents};
+ghost use Rattle.deriv_pattern.specs.Steps.{way_step};
+ghost use Rattle.deriv_states.specs.Steps.{HasContents};
 ghost use Rattle.deriv_pool.specs.Meaning.{IsState, means_in};
 
 use crate::known::known;
+use deriv_pattern::step::Step;
 use deriv_states::branch::{Branch, Row};
 use deriv_states::states::States;
-use deriv_states::step::Step;
 use nx_base::memory::NoMemory;
 use nx_base::name::Name;
 use rng_core::grammar::Def;

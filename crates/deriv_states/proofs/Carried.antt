@@ -9,8 +9,8 @@ use Rattle.deriv_nodes.specs.Numbers.{at}
 use Rattle.deriv_nodes.specs.Opened.{openings_at, AreNodes, AreOpened}
 use Rattle.deriv_nodes.proofs.Opening.{nodes_stay, openings_stay, opened_stay}
 use Rattle.deriv_states.specs.declared.branch.Branch.{Branch}
-use Rattle.deriv_states.specs.declared.step.Step.{Step}
-use Rattle.deriv_states.specs.declared.step.Step.TheVariants as step
+use Rattle.deriv_pattern.specs.declared.step.Step.{Step}
+use Rattle.deriv_pattern.specs.declared.step.Step.TheVariants as step
 use Rattle.deriv_states.specs.Places.{Places, LaterPlaces, AreContents, IsThere, way_in}
 use Rattle.deriv_states.specs.Steps.{HasContents}
 use Rattle.deriv_states.proofs.Places.{way_steady, there_wider}

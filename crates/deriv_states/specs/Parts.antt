@@ -1,8 +1,7 @@
 -- How outers and states are put together of numbers.
 use Rattle.std.specs.Prelude.{ℕ, ◌<◌, List, [], ◌∷◌, length, map}
 use Rattle.std.specs.List.{AllByRecursion}
-use Rattle.rng_core.specs.Patterns.{Pattern, Definition}
-use Rattle.deriv_pattern.specs.Leaves.{IsInOrder}
+use Rattle.rng_core.specs.Patterns.{Pattern}
 use Rattle.rng_kept.specs.Residuals.{Outer, document, inside, Residual}
 use Rattle.deriv_nodes.specs.Numbers.{at}
 use Rattle.deriv_nodes.specs.Reading.{AreOnce}
@@ -61,7 +60,3 @@ places_of patterns arounds rows contents = record {
   states = states_of patterns (outers_of patterns arounds) rows;
   contents = contents_in patterns contents;
 }
-
--- the contents of definitions are in order, so that it can be told of each leaf which strings it takes
-abbrev pub ContentsAreInOrder : List Definition → Type 0
-ContentsAreInOrder g = AllByRecursion (λ d. IsInOrder d.content) g

@@ -13,6 +13,6 @@ mod content;
 mod entering;
 mod merging;
 pub mod states;
-pub mod step;
+mod step;
 mod tags;
 pub mod telling;

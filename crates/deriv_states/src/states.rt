@@ -15,11 +15,11 @@ ghost use Rattle.rng_kept.specs.Entering as entering;
 ghost use Rattle.rng_kept.specs.Merging as merging;
 ghost use Rattle.rng_kept.specs.Required as required;
 ghost use Rattle.rng_kept.specs.Residuals as residual;
-ghost use Rattle.deriv_pattern.specs.Leaves.{IsInOrder};
+ghost use Rattle.deriv_pattern.specs.Leaves.{ContentsAreInOrder, IsInOrder};
 ghost use Rattle.deriv_nodes.specs.Numbers.{at, IsAt};
 ghost use Rattle.deriv_nodes.specs.Opened.{openings_at, AreNodes, AreOpened};
 ghost use Rattle.deriv_nodes.specs.Telling as telling;
-ghost use Rattle.deriv_states.specs.Parts.{outer_made, state_made, ContentsAreInOrder, IsAroundBelow, IsRowBelow};
+ghost use Rattle.deriv_states.specs.Parts.{outer_made, state_made, IsAroundBelow, IsRowBelow};
 ghost use Rattle.deriv_states.specs.Places.{AreContents, IsOuter, IsState, IsThere, LaterPlaces, outer_in, state_in, way_in};
 ghost use Rattle.deriv_states.specs.Tables.{AreApart};
 

@@ -3,39 +3,14 @@
 ghost use Rattle.std.specs.Prelude.{◌≡◌, ◌<◌, length, IfOk, []};
 ghost use Rattle.rng_kept.specs.Merging as merging;
 ghost use Rattle.deriv_states.specs.Places.{IsState, IsThere, LaterPlaces, state_in, way_in};
-ghost use Rattle.deriv_states.specs.Steps.{way_step, HasContents};
+ghost use Rattle.deriv_pattern.specs.Steps.{way_step};
+ghost use Rattle.deriv_states.specs.Steps.{HasContents};
 
 use crate::branch::{Branch, Row};
 use crate::states::States;
+use deriv_pattern::step::Step;
 use nx_base::memory::NoMemory;
-use nx_base::name::Name;
-use rng_core::grammar::Def;
 use std::alloc::Global;
-
-/// What a matcher goes on by.
-#[derive(Clone, Copy)]
-pub enum Step<'a> {
-    /// An element's name; the definitions are those of the schema.
-    Enter(&'a [Def], &'a Name),
-    /// Children that are left out and an element's name.
-    EnterSkip(&'a [Def], &'a Name),
-    /// An attribute: its name and its value.
-    Attribute(&'a Name, &'a str),
-    /// An attribute of the name, whatever its value.
-    AttributeAny(&'a Name),
-    /// The end of a start tag.
-    TagEnd,
-    /// Attributes that are missing and the end of a start tag.
-    TagEndMissing,
-    /// A string.
-    Chars(&'a str),
-    /// Some string that isn't blank.
-    CharsAny,
-    /// An element's end.
-    Leave,
-    /// Children that are left out and an element's end.
-    LeaveSkip,
-}
 
 impl States {
     /// The ways to go on behind a step from one way.

@@ -2,7 +2,7 @@ use Rattle.std.proofs.Common.{◌≡◌, [], sym, ap, subst, ◌∙◌}
 use Rattle.rng_kept.specs.Residuals.{Residual}
 use Rattle.rng_kept.specs.Merging.{stepped}
 use Rattle.deriv_plain.specs.Order.{AreInOrder}
-use Rattle.deriv_plain.specs.Steps.{way_step}
+use Rattle.deriv_pattern.specs.Steps.{way_step}
 use Rattle.deriv_plain.specs.Ways.{residual_of}
 use Rattle.deriv_plain.proofs.Steady.{stepped_in_order, step_in_order}
 use Rattle.deriv_plain.proofs.plain.given.Goals as goal

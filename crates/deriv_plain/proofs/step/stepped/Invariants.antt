@@ -2,7 +2,7 @@
 use Rattle.std.proofs.Common.{◌≡◌, [], length}
 use Rattle.rng_kept.specs.Merging.{stepped}
 use Rattle.deriv_plain.specs.Order.{AreInOrder}
-use Rattle.deriv_plain.specs.Steps.{way_step}
+use Rattle.deriv_pattern.specs.Steps.{way_step}
 use Rattle.deriv_plain.specs.Ways.{residual_of}
 use Rattle.deriv_plain.proofs.step.stepped.Given as goal
 

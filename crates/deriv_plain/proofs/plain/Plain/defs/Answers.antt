@@ -5,7 +5,7 @@ use Rattle.std.specs.Coded.{le_prop}
 use Rattle.rng_core.specs.declared.grammar.Def.{Def}
 use Rattle.rng_core.specs.declared.grammar.Grammar.{Grammar}
 use Rattle.rng_core.specs.Meaning.{definition_of}
-use Rattle.deriv_plain.specs.Order.{ContentsAreInOrder}
+use Rattle.deriv_pattern.specs.Leaves.{ContentsAreInOrder}
 use Rattle.deriv_pattern.proofs.Props.{contents_alike, sound_contents}
 use Rattle.deriv_plain.proofs.plain.Plain.defs.Goals as goal
 

@@ -4,7 +4,7 @@ use Rattle.rng_core.specs.declared.grammar.Grammar.{Grammar}
 use Rattle.rng_core.specs.Meaning.{definition_of}
 use Rattle.deriv_pattern.proofs.Props.{sound_contents}
 use Rattle.rng_live.specs.Schemas.{schema_language}
-use Rattle.deriv_states.specs.Parts.{ContentsAreInOrder}
+use Rattle.deriv_pattern.specs.Leaves.{ContentsAreInOrder}
 use Rattle.deriv_states.specs.Places.{AreContents}
 use Rattle.deriv_pool.proofs.Remembering.{none_noted}
 use Rattle.deriv_pool.proofs.pool.Pool.new.Goals as goal

@@ -2,7 +2,7 @@
 use Rattle.std.proofs.Common.{◌≡◌, ◌++◌, length, map}
 use Rattle.rng_core.specs.Meaning.{definition_of}
 use Rattle.rng_core.specs.Patterns.{Definition}
-use Rattle.deriv_states.specs.Parts.{ContentsAreInOrder}
+use Rattle.deriv_pattern.specs.Leaves.{ContentsAreInOrder}
 use Rattle.deriv_states.proofs.states.States.new.Given as goal
 
 abbrev pub invariant-loop-def : goal.invariant-loop-def

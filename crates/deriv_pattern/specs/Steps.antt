@@ -1,12 +1,12 @@
--- The steps of a way to go on.
-use Rattle.std.specs.Prelude.{List, map, IsUtf8}
+-- The steps of a way to go on: what is left behind it, by the residuals of each kind of step.
+use Rattle.std.specs.Prelude.{map}
 use Rattle.rng_core.specs.Meaning.{definition_of}
 use Rattle.rng_kept.specs.Residuals.{Way, Residual}
 use Rattle.rng_kept.specs.Entering.{enter_way, skip_way}
 use Rattle.rng_kept.specs.Tags.{attribute_way, any_value_way, tag_end_way, missing_way}
 use Rattle.rng_kept.specs.Content.{chars_way, any_string_way, leave_way, leave_skip_way}
-use Rattle.deriv_plain.specs.declared.step.Step.{Step}
-use Rattle.deriv_plain.specs.declared.step.Step.TheVariants as step
+use Rattle.deriv_pattern.specs.declared.step.Step.{Step}
+use Rattle.deriv_pattern.specs.declared.step.Step.TheVariants as step
 
 abbrev pub way_step : Step → Way → Residual
 way_step (step.Enter defs name) = enter_way (map definition_of defs.now) name.now
