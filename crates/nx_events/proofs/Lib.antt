@@ -47,3 +47,4 @@ pub mod OpenItems
 pub mod TagPlaces
 pub mod Prefixes
 pub mod PlainTokens
+pub mod PlainAttributes

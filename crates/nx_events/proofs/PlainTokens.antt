@@ -32,17 +32,17 @@ use Rattle.nx_events.proofs.PlainRuns.{plain_told, plain_string_of}
 use Rattle.nx_events.proofs.PlainTags.{no_declarations, plain_name_is, plain_open, plain_resolved}
 
 -- what a token gives and where it leads, by its kind
-gives_by : (state : EventState) (token : Token) (kind : TokenKind) (all : List Item) → token.kind ≡ kind → items_by_kind kind state token ≡ all → items_of_token state token ≡ all
+pub gives_by : (state : EventState) (token : Token) (kind : TokenKind) (all : List Item) → token.kind ≡ kind → items_by_kind kind state token ≡ all → items_of_token state token ≡ all
 unfolding items_of_token
 gives_by state token kind all is e = ap (λ k. items_by_kind k state token) is ∙ e
 
-leads_by : (state : EventState) (token : Token) (kind : TokenKind) (to : EventState) → token.kind ≡ kind → state_by_kind kind state token ≡ to → state_behind state token ≡ to
+pub leads_by : (state : EventState) (token : Token) (kind : TokenKind) (to : EventState) → token.kind ≡ kind → state_by_kind kind state token ≡ to → state_behind state token ≡ to
 unfolding state_behind
 leads_by state token kind to is e = ap (λ k. state_by_kind k state token) is ∙ e
 
 -- ---- a start tag that is a plain name alone
 
-default_uri : (scope : List Binding) → Some (unwrap_or (last_uri scope []) []) ≡ element_uri scope []
+pub default_uri : (scope : List Binding) → Some (unwrap_or (last_uri scope []) []) ≡ element_uri scope []
 unfolding element_uri
 default_uri scope = refl
 
@@ -141,7 +141,7 @@ unfolding run_items
 run_faultless at None = refl
 run_faultless at (Some run) = elim (cases_Bool (length run.string == 0)) [ inl e ↦ rw e refl | inr e ↦ rw e refl ]
 
-behind_run : (state : EventState) (token : Token) (all : List Item) → faults_among all ≡ [] → faults_among (run_items token.from state.run ++ all) ≡ []
+pub behind_run : (state : EventState) (token : Token) (all : List Item) → faults_among all ≡ [] → faults_among (run_items token.from state.run ++ all) ≡ []
 behind_run state token all e = rw (flat_map-append fault_in (run_items token.from state.run) all, run_faultless token.from state.run, e) refl
 
 pub start_faultless : (state : EventState) (token : Token) (written : List ℕ) → IsPlainStart state token written → faults_among (items_of_token state token) ≡ []

@@ -43,6 +43,7 @@ pub mod Plain
 pub mod PlainNames
 pub mod PlainTags
 pub mod PlainTokens
+pub mod PlainAttributes
 pub mod NameBytes
 pub mod SeenNames
 pub mod Places

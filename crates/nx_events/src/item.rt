@@ -200,6 +200,15 @@ impl Items {
         self.keep_bytes(name.local);
     }
 
+    /// Keeps the memory of a name that is over, with that of its namespace.
+    pub fn keep_expanded(&mut self, name: Name)
+        ensures { self.new ≡ self.old }
+    {
+        let Name { ns, local } = name;
+        self.keep_bytes(ns);
+        self.keep_bytes(local);
+    }
+
     // Keeps the memory of a name or a value that is over.
     fn keep_bytes(&mut self, bytes: Bytes)
         ensures { self.new ≡ self.old }

@@ -55,6 +55,17 @@ fn is_plain_group(bytes: &[u8]) -> bool
     all
 }
 
+// Whether all bytes stand for themselves wherever they are read, which is told in the same way.
+fn is_value_group(bytes: &[u8]) -> bool
+    ensures { result ≡ true → (k : ℕ) → k < length bytes.now → is_plain (slice_index bytes.now k) ≡ true }
+{
+    let mut all = true;
+    for b in bytes {
+        all &= is_plain(*b);
+    }
+    all
+}
+
 // The same of more bytes. Those of the last group may be of the one before it too.
 fn are_plain_groups(bytes: &[u8]) -> bool
     requires { 16 ≤ length bytes.now }
@@ -81,6 +92,32 @@ fn are_plain_lines(bytes: &[u8]) -> bool
     are_plain_groups(bytes)
 }
 
+// The same of more bytes wherever they are read.
+fn are_value_groups(bytes: &[u8]) -> bool
+    requires { 16 ≤ length bytes.now }
+    ensures { result ≡ true → prefix_len is_plain bytes.now ≡ length bytes.now }
+{
+    let last = bytes.len() - GROUP;
+    let mut n = 0;
+    while n < last {
+        if !is_value_group(&bytes[n..n + GROUP]) {
+            return false;
+        }
+        n += GROUP;
+    }
+    is_value_group(&bytes[last..])
+}
+
+// Whether all bytes stand for themselves wherever they are read.
+fn are_plain_values(bytes: &[u8]) -> bool
+    ensures { result ≡ true → prefix_len is_plain bytes.now ≡ length bytes.now }
+{
+    if bytes.len() < GROUP {
+        return plain_len(Reading::Value, bytes) == bytes.len();
+    }
+    are_value_groups(bytes)
+}
+
 /// Whether all bytes stand for themselves in this reading. Of nearly all tokens they do.
 pub(crate) fn are_plain(reading: Reading, bytes: &[u8]) -> bool
     ensures { result ≡ true → prefix_len (is_plain_in reading) bytes.now ≡ length bytes.now }
@@ -88,6 +125,6 @@ pub(crate) fn are_plain(reading: Reading, bytes: &[u8]) -> bool
     match reading {
         Reading::Plain => are_plain_lines(bytes),
         Reading::Text => are_plain_lines(bytes),
-        Reading::Value => plain_len(reading, bytes) == bytes.len(),
+        Reading::Value => are_plain_values(bytes),
     }
 }

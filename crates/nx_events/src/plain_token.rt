@@ -14,6 +14,7 @@ ghost use Rattle.nx_events.specs.Runs.{run_back};
 use crate::end_tag::close;
 use crate::item::Items;
 use crate::nesting::is_end_of_innermost;
+use crate::plain_tag::plain_tag;
 use crate::reading::Reading;
 use crate::stage::{is_behind, is_inside};
 use crate::state::EventState;
@@ -112,6 +113,21 @@ pub fn add_characters(state: &mut EventState, bytes: &[u8]) -> Result<(), NoMemo
     Ok(())
 }
 
+// Passes a start tag with one or two attributes, if it is one of which one look tells what it gives, and answers whether it did.
+fn pass_plain_tag(state: &mut EventState, token: &Token) -> Result<bool, NoMemory>
+    requires { token.now.kind ≡ kinds.Start }
+    ensures behind { IfOk result (λ passed. passed ≡ true → state.new ≡ state_behind state.old token.now) }
+    ensures faults { IfOk result (λ passed. passed ≡ true → faults_among (items_of_token state.old token.now) ≡ []) }
+    ensures stays { IfOk result (λ passed. passed ≡ false → state.new ≡ state.old) }
+    ensures unchanged { OnErr result (state.new ≡ state.old) }
+{
+    let Some(tag) = plain_tag(state, token) else {
+        return Ok(false);
+    };
+    begin_element(state, tag.written)?;
+    Ok(true)
+}
+
 /// Passes a token if one look tells that it gives no fault, and answers whether it did. Where it didn't, or was refused, the state is as
 /// before.
 pub(crate) fn pass_plain(state: &mut EventState, token: &Token) -> Result<bool, NoMemory>
@@ -125,7 +141,7 @@ pub(crate) fn pass_plain(state: &mut EventState, token: &Token) -> Result<bool, 
     match token.kind {
         TokenKind::Start => {
             let Some(written) = plain_start(state, token) else {
-                return Ok(false);
+                return pass_plain_tag(state, token);
             };
             begin_element(state, written)?;
             Ok(true)

@@ -29,11 +29,11 @@ pub struct Attribute {
     pub value: Span,
 }
 
-// Where the opening quote of an attribute at the front stands, and how long its value is.
+/// Where the opening quote of an attribute at the front stands, and how long its value is.
 #[derive(Clone, Copy)]
-struct Extent {
-    quote: usize,
-    value: usize,
+pub(crate) struct Extent {
+    pub(crate) quote: usize,
+    pub(crate) value: usize,
 }
 
 /// The name that a part of a tag begins with.
@@ -64,8 +64,8 @@ pub(crate) fn end_name(bytes: &[u8]) -> &[u8]
     written_name(&bytes[2..])
 }
 
-// The extent of the attribute at the front, if there is one.
-fn attribute_extent(bytes: &[u8]) -> Option<Extent>
+/// The extent of the attribute at the front, if there is one.
+pub(crate) fn attribute_extent(bytes: &[u8]) -> Option<Extent>
     ensures { MatchOption result (begins_attribute bytes.now ≡ false) (λ e. (begins_attribute bytes.now ≡ true)
         × (e.quote ≡ quote_place bytes.now) × (e.value ≡ value_len bytes.now) × (e.quote + e.value + 2 ≤ length bytes.now)) }
 {
@@ -178,8 +178,8 @@ fn attributes_from(alloc: Global, at: usize, bytes: &[u8]) -> Result<Vec<Attribu
     Ok(out)
 }
 
-// Whether nothing but white space, `/` and `>` is there.
-fn are_between(bytes: &[u8]) -> bool
+/// Whether nothing but white space, `/` and `>` is there.
+pub(crate) fn are_between(bytes: &[u8]) -> bool
     ensures { result ≡ list_all is_between bytes.now }
 {
     bytes.iter().all(|b| is_between(*b))
