@@ -1,6 +1,6 @@
 -- Start tags with one or two attributes of which one look tells what they give.
-use Rattle.std.proofs.Common.{◌≡◌, ℕ, zero, suc, ◌+◌, ◌-◌, ◌<◌, ◌≤◌, Bool, true, false, cond, Option, Some, None, List, [], ◌∷◌, ◌++◌, length, length-drop, map, take, drop, get_or, refl, ap, sym, ◌∙◌, subst, arith, append_assoc, codes, IsUtf8}
-use Rattle.std.specs.Prelude.{◌==◌, ◌&&◌, ◌||◌, not, nat_eq, unwrap_or}
+use Rattle.std.proofs.Common.{◌≡◌, ℕ, zero, suc, ◌+◌, ◌-◌, ◌<◌, ◌≤◌, Bool, true, false, cond, Some, None, List, [], ◌∷◌, ◌++◌, length, length-drop, map, take, drop, get_or, refl, ap, sym, ◌∙◌, subst, arith, append_assoc, codes, IsUtf8}
+use Rattle.std.specs.Prelude.{◌&&◌, ◌||◌, not, nat_eq, unwrap_or}
 use Rattle.std.specs.List.{AllByRecursion, prefix_len, starts_with, list_all, position_or_len, before_first, after_first}
 use Rattle.std.specs.Str.{IsAscii, bytes_eq}
 use Rattle.std.proofs.lemmas.Bool.{lt-ltb}
@@ -17,20 +17,18 @@ use Rattle.nx_base.specs.declared.name.Name.{Name}
 use Rattle.nx_base.specs.declared.token.Token.{Token}
 use Rattle.nx_base.specs.declared.token.TokenKind.TheVariants as kinds
 use Rattle.nx_events.specs.Among.{faults_among}
-use Rattle.nx_events.specs.CharacterFaults.{character_faults}
 use Rattle.nx_events.specs.Declarations.{is_declaration, declaration_flaw, flaw_faults, binding_unless, faults_at, bindings_at, declaration_faults, bindings}
 use Rattle.nx_events.specs.Elements.{flawed_as, declared_or_flaw, element_resolved, element_items, has_name, new_or_flaw, attribute_resolved, resolved_if_attribute, attribute_declared, attribute_item, kept_name, attribute_items}
 use Rattle.nx_events.specs.Faults.{faults_as_items}
-use Rattle.nx_events.specs.Items.{token_span, is_behind, own_bindings, start_items, opened, items_of_token, state_behind}
+use Rattle.nx_events.specs.Items.{token_span, is_behind, own_bindings, opened, items_of_token}
 use Rattle.nx_events.specs.Names.{is_qname, is_ncname, is_colon, has_colon, prefix_of, local_of}
 use Rattle.nx_events.specs.OpenItems.{open_items}
 use Rattle.nx_events.specs.Plain.{is_plain}
-use Rattle.nx_events.specs.PlainAttributes.{attribute_name, attribute_event, namespace_if, one_if, listed, IsPlainOpening, IsNameOf, IsFront, IsReadAs, AreReadAs}
+use Rattle.nx_events.specs.PlainAttributes.{attribute_name, attribute_event, namespace_if, IsPlainOpening, IsNameOf, IsFront, IsReadAs, AreReadAs}
 use Rattle.nx_events.specs.PlainNames.{is_plain_name}
 use Rattle.nx_events.specs.PlainTokens.{unprefixed_name, element_begun}
 use Rattle.nx_events.specs.Runs.{run_items}
 use Rattle.nx_events.specs.Scopes.{xml_uri, last_uri, bound_uri, attribute_uri, named_by, expand_attribute}
-use Rattle.nx_events.specs.Strings.{string_of}
 use Rattle.nx_events.specs.Tags.{is_between, ends_name, written_name, written_value, quote_place, value_len, attribute_len, begins_attribute, attribute_at, front_attribute, front_len, attributes_from, start_name, tag_attributes}
 use Rattle.nx_events.specs.declared.flaw.Resolved.{Resolved}
 use Rattle.nx_events.specs.declared.flaw.Resolved.TheVariants.{Named}

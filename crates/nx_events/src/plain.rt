@@ -55,17 +55,6 @@ fn is_plain_group(bytes: &[u8]) -> bool
     all
 }
 
-// Whether all bytes stand for themselves wherever they are read, which is told in the same way.
-fn is_value_group(bytes: &[u8]) -> bool
-    ensures { result ≡ true → (k : ℕ) → k < length bytes.now → is_plain (slice_index bytes.now k) ≡ true }
-{
-    let mut all = true;
-    for b in bytes {
-        all &= is_plain(*b);
-    }
-    all
-}
-
 // The same of more bytes. Those of the last group may be of the one before it too.
 fn are_plain_groups(bytes: &[u8]) -> bool
     requires { 16 ≤ length bytes.now }
@@ -90,6 +79,17 @@ fn are_plain_lines(bytes: &[u8]) -> bool
         return plain_lines_len(bytes) == bytes.len();
     }
     are_plain_groups(bytes)
+}
+
+// Whether all bytes stand for themselves wherever they are read. They are looked at in the same way.
+fn is_value_group(bytes: &[u8]) -> bool
+    ensures { result ≡ true → (k : ℕ) → k < length bytes.now → is_plain (slice_index bytes.now k) ≡ true }
+{
+    let mut all = true;
+    for b in bytes {
+        all &= is_plain(*b);
+    }
+    all
 }
 
 // The same of more bytes wherever they are read.

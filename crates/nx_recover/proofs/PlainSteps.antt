@@ -1,5 +1,5 @@
 -- Tokens of which one look tells what they give, where the schema admits all of that.
-use Rattle.std.proofs.Common.{◌≡◌, ℕ, Bool, true, false, ◌+◌, ◌-◌, List, [], ◌∷◌, ◌++◌, length, Option, Some, None, refl, ap, sym, subst, ◌∙◌}
+use Rattle.std.proofs.Common.{◌≡◌, ℕ, Bool, true, false, ◌+◌, ◌-◌, List, [], ◌∷◌, ◌++◌, length, map, Option, Some, None, refl, ap, sym, subst, ◌∙◌}
 use Rattle.std.specs.Prelude.{◌==◌, if◌then◌else◌, IfSome, IsUtf8, option_map}
 use Rattle.std.specs.List.{AllByRecursion}
 use Rattle.nx_base.specs.Rules.{LaterLaws}
@@ -9,14 +9,16 @@ use Rattle.nx_base.specs.declared.name.Name.{Name}
 use Rattle.nx_base.specs.declared.token.Token.{Token}
 use Rattle.nx_base.specs.PrintedNames.{name_text}
 use Rattle.nx_events.specs.Items.{items_of_token, state_behind}
+use Rattle.nx_events.specs.PlainAttributes.{attribute_name, attribute_event, IsPlainOpening}
 use Rattle.nx_events.specs.PlainTokens.{IsPlainStart, IsPlainEnd, IsPlainText, unprefixed_name, element_begun, innermost_ended, characters_added}
 use Rattle.nx_events.specs.Prefixes.{run_string}
 use Rattle.nx_events.specs.Runs.{run_items}
 use Rattle.nx_events.specs.Texts.{RunIsText, StateIsText}
 use Rattle.nx_events.specs.declared.item.Event.{Event}
-use Rattle.nx_events.specs.declared.item.Event.TheVariants.{Enter, TagEnd, Chars, Leave}
+use Rattle.nx_events.specs.declared.item.Event.TheVariants.{Enter, Att, TagEnd, Chars, Leave}
 use Rattle.nx_events.specs.declared.item.Item.{Item}
 use Rattle.nx_events.specs.declared.item.Item.TheVariants as items
+use Rattle.nx_events.specs.declared.plain_tag.PlainAttribute.{PlainAttribute}
 use Rattle.nx_events.specs.declared.state.EventState.{EventState}
 use Rattle.nx_events.specs.declared.state.Run.{Run}
 use Rattle.rng_core.specs.Patterns.{Language}
@@ -24,7 +26,7 @@ use Rattle.rng_kept.specs.Content.{chars, chars_any, leave, leave_skip}
 use Rattle.rng_kept.specs.Entering.{enter}
 use Rattle.rng_kept.specs.Merging.{answered}
 use Rattle.rng_kept.specs.Residuals.{Residual}
-use Rattle.rng_kept.specs.Tags.{tag_end, tag_end_missing}
+use Rattle.rng_kept.specs.Tags.{attribute_of, attribute_any, tag_end, tag_end_missing}
 use Rattle.rng_live.specs.Calls.{Answers}
 use Rattle.nx_recover.specs.Aside.{without_innermost}
 use Rattle.nx_recover.specs.Details.{names_text}
@@ -32,10 +34,10 @@ use Rattle.nx_recover.specs.Faults.{flaw_at}
 use Rattle.nx_recover.specs.Items.{form_along, found_along}
 use Rattle.nx_recover.specs.Later.{states_later, stack_of_same}
 use Rattle.nx_recover.specs.Outcomes.{flaw}
-use Rattle.nx_recover.specs.PlainSteps.{then_answered, behind_run, inside_of, outside_of, IsAdmitted}
+use Rattle.nx_recover.specs.PlainSteps.{then_answered, behind_run, behind_attributes, inside_of, outside_of, IsAdmitted}
 use Rattle.nx_recover.specs.Required.{required_names}
 use Rattle.nx_recover.specs.States.{View, IsOpen, AreStates, stack, form, view_of}
-use Rattle.nx_recover.specs.Table.{Form, Done, done, done_by, opens, goes_on_by, or_made_up, or_left_out, charred, tag_ended, left}
+use Rattle.nx_recover.specs.Table.{Form, Done, done, done_by, opens, goes_on_by, or_made_up, or_left_out, attributed, charred, tag_ended, left}
 use Rattle.nx_recover.specs.declared.levels.Open.{Open}
 use Rattle.nx_recover.specs.declared.levels.Open.TheVariants.{In}
 use Rattle.nx_recover.specs.declared.state.RecoverState.{RecoverState}
@@ -74,6 +76,12 @@ chars_admitted : (g : Language) (x y : Residual) (os : List (Open Residual)) (te
 unfolding done_by charred
 chars_admitted g x y os text e = ap (λ o. goes_on_by (Some x) os (or_left_out o (answered (chars_any x)) (flaw kinds.BadValue []) (flaw kinds.TextNotAllowed []))) e
 
+attribute_admitted : (g : Language) (x y : Residual) (os : List (Open Residual)) (n : Name) (v : List ℕ) → answered (attribute_of n v x) ≡ Some y →
+    done_by g (record { here = Some x; elements = os }) (Att n v) ≡ done (Some y) os None
+unfolding done_by attributed
+attribute_admitted g x y os n v e =
+    ap (λ o. goes_on_by (Some x) os (or_left_out o (answered (attribute_any n x)) (flaw kinds.BadValue (name_text n)) (flaw kinds.UnknownAttribute (name_text n)))) e
+
 tag_end_admitted : (g : Language) (x y : Residual) (os : List (Open Residual)) → answered (tag_end x) ≡ Some y →
     done_by g (record { here = Some x; elements = os }) TagEnd ≡ done (Some y) os None
 unfolding done_by tag_ended
@@ -109,16 +117,36 @@ leads_by_run g x z os qs at (Some run) f rest e k = by_test (length run.string =
     by_test true e = k x e
     by_test false e = by_chars (answered (chars run.string x)) refl e
 
-leads_inside : (g : Language) (x z : Residual) (os : List (Open Residual)) (n : Name) (s t : Span) → inside_of g n x ≡ Some z →
-    Leads g x os (items.Event (Enter n) s ∷ items.Event TagEnd t ∷ []) z (In n ∷ os)
-leads_inside g x z os n s t e = by_enter (answered (enter g.definitions n x)) refl e
+leads_attributes : (g : Language) (x z : Residual) (os : List (Open Residual)) (its : List (PlainAttribute × Span)) (t : Span) →
+    behind_attributes (map (λ (it : PlainAttribute × Span). it.0) its) x ≡ Some z → Leads g x os (map attribute_event its ++ items.Event TagEnd t ∷ []) z os
+leads_attributes g x z os [] t e = leads_on g x z z os os os TagEnd t [] (tag_end_admitted g x z os e) (leads_nowhere g z os)
+leads_attributes g x z os (it ∷ more) t e = by_attribute (answered (attribute_of (attribute_name it.0) it.0.value.now x)) refl e (λ y k. leads_attributes g y z os more t k)
   where
-    by_enter : (o : Option Residual) → answered (enter g.definitions n x) ≡ o → then_answered o (λ y. answered (tag_end y)) ≡ Some z →
-        Leads g x os (items.Event (Enter n) s ∷ items.Event TagEnd t ∷ []) z (In n ∷ os)
+    rest : List Item
+    rest = map attribute_event more ++ items.Event TagEnd t ∷ []
+
+    others : Residual → Option Residual
+    others = behind_attributes (map (λ (i : PlainAttribute × Span). i.0) more)
+
+    by_attribute : (o : Option Residual) → answered (attribute_of (attribute_name it.0) it.0.value.now x) ≡ o → then_answered o others ≡ Some z →
+        ((y : Residual) → others y ≡ Some z → Leads g y os rest z os) → Leads g x os (items.Event (Att (attribute_name it.0) it.0.value.now) it.1 ∷ rest) z os
+    by_attribute None a k f = absurd (let bad : None ≡ Some z = k in cc)
+    by_attribute (Some y) a k f =
+        leads_on g x y z os os os (Att (attribute_name it.0) it.0.value.now) it.1 rest (attribute_admitted g x y os (attribute_name it.0) it.0.value.now a) (f y k)
+
+leads_inside : (g : Language) (x z : Residual) (os : List (Open Residual)) (n : Name) (its : List (PlainAttribute × Span)) (s t : Span) →
+    inside_of g n (map (λ (it : PlainAttribute × Span). it.0) its) x ≡ Some z →
+    Leads g x os (items.Event (Enter n) s ∷ (map attribute_event its ++ items.Event TagEnd t ∷ [])) z (In n ∷ os)
+leads_inside g x z os n its s t e = by_enter (answered (enter g.definitions n x)) refl e
+  where
+    rest : List Item
+    rest = map attribute_event its ++ items.Event TagEnd t ∷ []
+
+    by_enter : (o : Option Residual) → answered (enter g.definitions n x) ≡ o → then_answered o (behind_attributes (map (λ (it : PlainAttribute × Span). it.0) its)) ≡ Some z →
+        Leads g x os (items.Event (Enter n) s ∷ rest) z (In n ∷ os)
     by_enter None a e = absurd (let bad : None ≡ Some z = e in cc)
     by_enter (Some y) a e =
-        leads_on g x y z os (In n ∷ os) (In n ∷ os) (Enter n) s (items.Event TagEnd t ∷ []) (enter_admitted g x y os n a)
-        (leads_on g y z z (In n ∷ os) (In n ∷ os) (In n ∷ os) TagEnd t [] (tag_end_admitted g y z (In n ∷ os) e) (leads_nowhere g z (In n ∷ os)))
+        leads_on g x y z os (In n ∷ os) (In n ∷ os) (Enter n) s rest (enter_admitted g x y os n a) (leads_attributes g y z (In n ∷ os) its t e)
 
 leads_outside : (g : Language) (x z : Residual) (os : List (Open Residual)) (n : Name) (s : Span) → outside_of x ≡ Some z →
     Leads g x (In n ∷ os) (items.Event Leave s ∷ []) z os
@@ -139,6 +167,10 @@ run_is_text state run h e =
     by_run None h = tt
     by_run (Some run) h = by_test (length run.string == 0) run.string h
 
+-- a start tag without attributes is one with none
+pub without_attributes : (state : EventState) (token : Token) (written : List ℕ) → IsPlainStart state token written → IsPlainOpening state token written []
+without_attributes state token written h = record { spanned = []; are = refl; items = h.items; behind = h.behind; text = tt }
+
 module _ {D S : Type 0} {later : D → D → Type 0} {is_state : D → S → Type 0} {means : D → S → Residual} {language : D → Language} (laws : LaterLaws later is_state means language) {a b : D} (on : later a b) where
   -- what is left means what is answered, so all along the token's items nothing is wrong
   passed_by : (s t : RecoverState S) (token : Token) (x z : Residual) (here : S) (os ps : List (Open Residual)) (all : List Item) →
@@ -156,39 +188,42 @@ module _ {D S : Type 0} {later : D → D → Type 0} {is_state : D → S → Typ
       }
 
   -- what is answered behind a run is answered behind the whole
-  pub behind_chars : (run : Option (List ℕ)) (text : List ℕ) (name : Name) (x : Residual) (before : S) (first : Option S) (P : S → Type 0) (f : S → Residual) (given : Option S) →
+  pub behind_chars : (run : Option (List ℕ)) (text : List ℕ) (name : Name) (its : List PlainAttribute) (x : Residual) (before : S) (first : Option S) (P : S → Type 0) (f : S → Residual) (given : Option S) →
       run ≡ Some text → Answers (is_state b) (means b) (answered (chars text x)) first → first ≡ Some before →
-      Answers P f (inside_of (language b) name (means b before)) given → Answers P f (behind_run run (inside_of (language a) name) x) given
-  behind_chars run text name x before first P f given r k is h = record {
+      Answers P f (inside_of (language b) name its (means b before)) given → Answers P f (behind_run run (inside_of (language a) name its) x) given
+  behind_chars run text name its x before first P f given r k is h = record {
     state = h.state;
-    meaning = h.meaning ∙ ap (λ g. inside_of g name (means b before)) (laws.rule a b on)
-        ∙ first_answered (answered (chars text x)) (means b before) (inside_of (language a) name) (sym (ap (option_map (means b)) is) ∙ k.meaning)
-        ∙ ap (λ o. behind_run o (inside_of (language a) name) x) (sym r);
+    meaning = h.meaning ∙ ap (λ g. inside_of g name its (means b before)) (laws.rule a b on)
+        ∙ first_answered (answered (chars text x)) (means b before) (inside_of (language a) name its) (sym (ap (option_map (means b)) is) ∙ k.meaning)
+        ∙ ap (λ o. behind_run o (inside_of (language a) name its) x) (sym r);
   }
 
-  pub start_passes : (s t : RecoverState S) (written : List ℕ) (name : Name) (run : Option (List ℕ)) (here inside : S) (given : Option S) →
+  pub start_passes : (s t : RecoverState S) (written : List ℕ) (name : Name) (its : List PlainAttribute) (run : Option (List ℕ)) (here inside : S) (given : Option S) →
       AreStates (is_state a) (view_of s.levels) → s.levels.here ≡ Some here → run ≡ run_string s.events.run → name ≡ unprefixed_name s.events.scope written →
-      Answers (is_state b) (means b) (behind_run run (inside_of (language a) name) (means a here)) given → given ≡ Some inside →
+      Answers (is_state b) (means b) (behind_run run (inside_of (language a) name its) (means a here)) given → given ≡ Some inside →
       t.events ≡ element_begun s.events written → t.levels.here ≡ Some inside → t.levels.elements.items ≡ s.levels.elements.items ++ In name ∷ [] →
-      (token : Token) → IsPlainStart s.events token written → IsAdmitted (is_state b) (means a) (means b) (language a) s t token
-  start_passes s t written name run here inside given h at r n k is events now elements token plain =
+      (token : Token) → IsPlainOpening s.events token written its → IsAdmitted (is_state b) (means a) (means b) (language a) s t token
+  start_passes s t written name its run here inside given h at r n k is events now elements token plain =
       let old : List (Open S) = s.levels.elements.items in
       let os = stack (means a) old in
       let same = stack_of_same laws on (view_of s.levels) h in
-      let answer : behind_run (run_string s.events.run) (inside_of (language a) name) (means a here) ≡ Some (means b inside) =
-      ap (λ o. behind_run o (inside_of (language a) name) (means a here)) (sym r) ∙ sym k.meaning ∙ ap (option_map (means b)) is in
+      let listed = map (λ (it : PlainAttribute × Span). it.0) plain.spanned in
+      let answer : behind_run (run_string s.events.run) (inside_of (language a) name listed) (means a here) ≡ Some (means b inside) =
+      ap (λ (l : List PlainAttribute). behind_run (run_string s.events.run) (inside_of (language a) name l) (means a here)) plain.are
+      ∙ ap (λ o. behind_run o (inside_of (language a) name its) (means a here)) (sym r) ∙ sym k.meaning ∙ ap (option_map (means b)) is in
       let P : Option S → Type 0 = λ o. IfSome o (is_state b) in
       let A : List (Open S) → Type 0 = λ l. AllByRecursion (IsOpen (is_state b)) l in
       let span : Span = record { from = token.from; to = token.from + length token.bytes } in
       let run_given = run_items token.from s.events.run in
+      let rest : List Item = map attribute_event plain.spanned ++ items.Event TagEnd span ∷ [] in
       passed_by s t token (means a here) (means b inside) here os (In name ∷ os)
-      (run_given ++ items.Event (Enter name) span ∷ items.Event TagEnd span ∷ [])
+      (run_given ++ items.Event (Enter name) span ∷ rest)
       (record { here = subst P (sym now) (subst P is k.state); elements = subst A (sym elements) (all_joined (IsOpen (is_state b)) old (In name ∷ []) (states_later laws on (view_of s.levels) h).elements (tt, tt)) })
       (events ∙ sym plain.behind)
-      (plain.items ∙ ap (λ (m : Name). run_given ++ items.Event (Enter m) span ∷ items.Event TagEnd span ∷ []) (sym n))
+      (plain.items ∙ ap (λ (m : Name). run_given ++ items.Event (Enter m) span ∷ rest) (sym n))
       (form_is (means a) (view_of s.levels) (Some (means a here)) os (ap (option_map (means a)) at) refl)
-      (leads_by_run (language a) (means a here) (means b inside) os (In name ∷ os) token.from s.events.run (inside_of (language a) name) _ answer
-      (λ y e. leads_inside (language a) y (means b inside) os name span span e))
+      (leads_by_run (language a) (means a here) (means b inside) os (In name ∷ os) token.from s.events.run (inside_of (language a) name listed) _ answer
+      (λ y e. leads_inside (language a) y (means b inside) os name plain.spanned span span e))
       (form_is (means b) (view_of t.levels) (Some (means b inside)) (In name ∷ os) (ap (option_map (means b)) now)
       (ap (stack (means b)) elements ∙ stack_more (means b) old (In name) ∙ ap (λ (l : List (Open Residual)). In name ∷ l) same))
 

@@ -1,14 +1,19 @@
 -- What is left behind a token of which one look tells what it gives, where the schema admits all of that.
-use Rattle.std.specs.Prelude.{◌≡◌, ℕ, List, [], Option, Some, None}
+use Rattle.std.specs.Prelude.{◌≡◌, ℕ, List, [], ◌∷◌, Option, Some, None}
+use Rattle.std.specs.List.{AllByRecursion}
+use Rattle.std.specs.Str.{IsUtf8}
 use Rattle.nx_base.specs.declared.name.Name.{Name}
 use Rattle.nx_base.specs.declared.token.Token.{Token}
 use Rattle.nx_events.specs.Items.{items_of_token, state_behind}
+use Rattle.nx_events.specs.PlainAttributes.{attribute_name, listed}
+use Rattle.nx_events.specs.declared.plain_tag.PlainAttribute.{PlainAttribute}
+use Rattle.nx_events.specs.declared.plain_tag.PlainAttributes.{PlainAttributes}
 use Rattle.rng_core.specs.Patterns.{Language}
 use Rattle.rng_kept.specs.Content.{chars, leave}
 use Rattle.rng_kept.specs.Entering.{enter}
 use Rattle.rng_kept.specs.Merging.{answered}
 use Rattle.rng_kept.specs.Residuals.{Residual}
-use Rattle.rng_kept.specs.Tags.{tag_end}
+use Rattle.rng_kept.specs.Tags.{attribute_of, tag_end}
 use Rattle.nx_recover.specs.Items.{form_along, found_along}
 use Rattle.nx_recover.specs.States.{AreStates, form, view_of}
 use Rattle.nx_recover.specs.declared.state.RecoverState.{RecoverState}
@@ -22,9 +27,23 @@ abbrev pub behind_run : Option (List ℕ) → (Residual → Option Residual) →
 behind_run None f x = f x
 behind_run (Some text) f x = then_answered (answered (chars text x)) f
 
--- the start of an element, and the end of its tag
-abbrev pub inside_of : Language → Name → Residual → Option Residual
-inside_of g n x = then_answered (answered (enter g.definitions n x)) (λ y. answered (tag_end y))
+-- attributes, and the end of their tag
+abbrev pub behind_attributes : List PlainAttribute → Residual → Option Residual
+behind_attributes [] x = answered (tag_end x)
+behind_attributes (it ∷ others) x = then_answered (answered (attribute_of (attribute_name it) it.value.now x)) (behind_attributes others)
+
+-- those of a tag that has some
+abbrev pub listed_if : Option PlainAttributes → List PlainAttribute
+listed_if None = []
+listed_if (Some attributes) = listed attributes
+
+-- their values are UTF-8
+abbrev pub AreTexts : List PlainAttribute → Type 0
+AreTexts its = AllByRecursion (λ (it : PlainAttribute). IsUtf8 it.value.now) its
+
+-- the start of an element with these attributes, and the end of its tag
+abbrev pub inside_of : Language → Name → List PlainAttribute → Residual → Option Residual
+inside_of g n its x = then_answered (answered (enter g.definitions n x)) (behind_attributes its)
 
 -- the end of an element
 abbrev pub outside_of : Residual → Option Residual

@@ -4,11 +4,14 @@
 ghost use Rattle.std.specs.Prelude.{◌≡◌, ◌++◌, ◌∷◌, ◌+◌, ◌<◌, ◌≤◌, ◌^◌, [], true, false, length, IsUtf8, IfOk, IfSome, OnErr, option_copied};
 ghost use Rattle.rng_live.specs.Calls.{Answers};
 ghost use Rattle.nx_base.specs.declared.token.Token.{Token};
-ghost use Rattle.nx_events.specs.PlainTokens.{IsPlainStart, IsPlainEnd};
+ghost use Rattle.nx_events.specs.PlainAttributes.{attribute_name, one_if, IsPlainOpening};
+ghost use Rattle.nx_events.specs.PlainTokens.{IsPlainEnd};
 ghost use Rattle.nx_events.specs.Runs.{run_back};
 ghost use Rattle.nx_events.specs.Texts.{StateIsText};
 ghost use Rattle.nx_recover.specs.Aside.{without_innermost};
-ghost use Rattle.nx_recover.specs.PlainSteps.{behind_run, inside_of, outside_of, IsAdmitted};
+ghost use Rattle.nx_recover.specs.PlainSteps.{behind_run, behind_attributes, listed_if, AreTexts, inside_of, outside_of, IsAdmitted};
+ghost use Rattle.rng_kept.specs.Merging.{answered};
+ghost use Rattle.rng_kept.specs.Tags.{attribute_of};
 ghost use Rattle.nx_recover.specs.States.{AreStates, view_of};
 ghost use Rattle.nx_recover.specs.declared.levels.Open.TheVariants.{In};
 
@@ -19,6 +22,7 @@ use nx_base::memory::NoMemory;
 use nx_base::name::Name;
 use nx_base::token::{Token, TokenKind};
 use nx_events::item::Items;
+use nx_events::plain_tag::{PlainAttribute, PlainAttributes, attribute_name, plain_tag};
 use nx_events::plain_token::{
     add_characters, begin_element, end_innermost, ended_run, is_plain_end, is_plain_text,
     plain_start, unprefixed_name,
@@ -26,21 +30,102 @@ use nx_events::plain_token::{
 use rng_live::matcher::Matcher;
 use std::alloc::Global;
 
+// Behind an attribute.
+fn behind_attribute<M: Matcher>(
+    alloc: Global,
+    matcher: &mut M,
+    memory: &mut Items,
+    in_tag: &M::State,
+    attribute: &PlainAttribute<'_>,
+) -> Result<Option<M::State>, NoMemory>
+    requires state { M.is_state matcher.old in_tag.now }
+    requires text { IsUtf8 attribute.now.value.now }
+    ensures later { M.later matcher.old matcher.new }
+    ensures gives { IfOk result (Answers (M.is_state matcher.new) (M.means matcher.new)
+        (answered (attribute_of (attribute_name attribute.now) attribute.now.value.now (M.means matcher.old in_tag.now)))) }
+    ensures memory { memory.new ≡ memory.old }
+{
+    let name = attribute_name(alloc, memory, attribute)?;
+    let behind = matcher.attribute(alloc, in_tag, &name, attribute.value)?;
+    memory.keep_expanded(name);
+    Ok(behind)
+}
+
+// Behind the second attribute of a tag, if there is one, and the end of the tag.
+fn behind_second<M: Matcher>(
+    alloc: Global,
+    matcher: &mut M,
+    memory: &mut Items,
+    in_tag: &M::State,
+    second: &Option<PlainAttribute<'_>>,
+) -> Result<Option<M::State>, NoMemory>
+    requires state { M.is_state matcher.old in_tag.now }
+    requires text { AreTexts (one_if second.now) }
+    ensures later { M.later matcher.old matcher.new }
+    ensures gives { IfOk result (Answers (M.is_state matcher.new) (M.means matcher.new)
+        (behind_attributes (one_if second.now) (M.means matcher.old in_tag.now))) }
+    ensures memory { memory.new ≡ memory.old }
+{
+    let Some(attribute) = second else {
+        let inside = matcher.tag_end(alloc, in_tag)?;
+        return Ok(inside);
+    };
+    match behind_attribute(alloc, matcher, memory, in_tag, attribute)? {
+        Some(behind) => {
+            let inside = matcher.tag_end(alloc, &behind)?;
+            Ok(inside)
+        }
+        None => Ok(None),
+    }
+}
+
+// Behind the attributes of a tag, if there are some, and the end of the tag.
+fn behind_attributes<M: Matcher>(
+    alloc: Global,
+    matcher: &mut M,
+    memory: &mut Items,
+    in_tag: &M::State,
+    attributes: &Option<PlainAttributes<'_>>,
+) -> Result<Option<M::State>, NoMemory>
+    requires state { M.is_state matcher.old in_tag.now }
+    requires text { AreTexts (listed_if attributes.now) }
+    ensures later { M.later matcher.old matcher.new }
+    ensures gives { IfOk result (Answers (M.is_state matcher.new) (M.means matcher.new)
+        (behind_attributes (listed_if attributes.now) (M.means matcher.old in_tag.now))) }
+    ensures memory { memory.new ≡ memory.old }
+{
+    let Some(some) = attributes else {
+        let inside = matcher.tag_end(alloc, in_tag)?;
+        return Ok(inside);
+    };
+    match behind_attribute(alloc, matcher, memory, in_tag, &some.first)? {
+        Some(behind) => {
+            let inside = behind_second(alloc, matcher, memory, &behind, &some.second)?;
+            Ok(inside)
+        }
+        None => Ok(None),
+    }
+}
+
 // Behind the start of an element and the end of its tag.
 fn inside_of<M: Matcher>(
     alloc: Global,
     matcher: &mut M,
+    memory: &mut Items,
     here: &M::State,
     name: &Name,
+    attributes: &Option<PlainAttributes<'_>>,
 ) -> Result<Option<M::State>, NoMemory>
-    requires { M.is_state matcher.old here.now }
+    requires here { M.is_state matcher.old here.now }
+    requires text { AreTexts (listed_if attributes.now) }
     ensures later { M.later matcher.old matcher.new }
     ensures gives { IfOk result (Answers (M.is_state matcher.new) (M.means matcher.new)
-        (inside_of (M.language matcher.old) name.now (M.means matcher.old here.now))) }
+        (inside_of (M.language matcher.old) name.now (listed_if attributes.now) (M.means matcher.old here.now))) }
+    ensures memory { memory.new ≡ memory.old }
 {
     match matcher.enter(alloc, here, name)? {
         Some(in_tag) => {
-            let inside = matcher.tag_end(alloc, &in_tag)?;
+            let inside = behind_attributes(alloc, matcher, memory, &in_tag, attributes)?;
             Ok(inside)
         }
         None => Ok(None),
@@ -51,23 +136,27 @@ fn inside_of<M: Matcher>(
 fn behind_start<M: Matcher>(
     alloc: Global,
     matcher: &mut M,
+    memory: &mut Items,
     here: &M::State,
     run: Option<&[u8]>,
     name: &Name,
+    attributes: &Option<PlainAttributes<'_>>,
 ) -> Result<Option<M::State>, NoMemory>
     requires here { M.is_state matcher.old here.now }
     requires text { IfSome (option_copied run) IsUtf8 }
+    requires values { AreTexts (listed_if attributes.now) }
     ensures later { M.later matcher.old matcher.new }
     ensures gives { IfOk result (Answers (M.is_state matcher.new) (M.means matcher.new)
-        (behind_run (option_copied run.entry) (inside_of (M.language matcher.old) name.now) (M.means matcher.old here.now))) }
+        (behind_run (option_copied run.entry) (inside_of (M.language matcher.old) name.now (listed_if attributes.now)) (M.means matcher.old here.now))) }
+    ensures memory { memory.new ≡ memory.old }
 {
     let Some(text) = run else {
-        let inside = inside_of(alloc, matcher, here, name)?;
+        let inside = inside_of(alloc, matcher, memory, here, name, attributes)?;
         return Ok(inside);
     };
     match matcher.chars(alloc, here, text)? {
         Some(before) => {
-            let inside = inside_of(alloc, matcher, &before, name)?;
+            let inside = inside_of(alloc, matcher, memory, &before, name, attributes)?;
             Ok(inside)
         }
         None => Ok(None),
@@ -100,19 +189,22 @@ fn behind_end<M: Matcher>(
     }
 }
 
-// Takes a start tag that is this plain name alone, and answers whether all that it gives is admitted. Where it isn't, the state is as
-// before.
+// Takes a start tag that is this name and these attributes, and answers whether all that it gives is admitted. Where it isn't, the state is
+// as before.
 fn take_start<M: Matcher>(
     alloc: Global,
     matcher: &mut M,
     memory: &mut Items,
     state: &mut RecoverState<M::State>,
     written: &[u8],
+    attributes: &Option<PlainAttributes<'_>>,
 ) -> Result<bool, NoMemory>
     requires states { AreStates (M.is_state matcher.old) (view_of state.old.levels) }
     requires text { StateIsText state.old.events }
+    requires values { AreTexts (listed_if attributes.now) }
     ensures later { M.later matcher.old matcher.new }
-    ensures taken { IfOk result (λ taken. taken ≡ true → (token : Token) → IsPlainStart state.old.events token written.now →
+    ensures taken { IfOk result (λ taken. taken ≡ true → (token : Token) →
+        IsPlainOpening state.old.events token written.now (listed_if attributes.now) →
         IsAdmitted (M.is_state matcher.new) (M.means matcher.old) (M.means matcher.new) (M.language matcher.old) state.old state.new token) }
     ensures stays { IfOk result (λ taken. taken ≡ false → state.new ≡ state.old) }
     ensures same_events { OnErr result (state.new.events ≡ state.old.events) }
@@ -124,7 +216,7 @@ fn take_start<M: Matcher>(
     };
     let run = ended_run(&state.events);
     let mut name = unprefixed_name(alloc, memory, &state.events, written)?;
-    let admitted = behind_start(alloc, matcher, here, run, &name)?;
+    let admitted = behind_start(alloc, matcher, memory, here, run, &name, attributes)?;
     let Some(inside) = admitted else {
         memory.keep_name(name);
         return Ok(false);
@@ -212,8 +304,18 @@ pub fn step_plain<M: Matcher>(
 {
     match token.kind {
         TokenKind::Start => match plain_start(&state.events, token) {
-            Some(written) => take_start(alloc, matcher, memory, state, written),
-            None => Ok(false),
+            Some(written) => take_start(alloc, matcher, memory, state, written, &None),
+            None => match plain_tag(&state.events, token) {
+                Some(tag) => take_start(
+                    alloc,
+                    matcher,
+                    memory,
+                    state,
+                    tag.written,
+                    &Some(tag.attributes),
+                ),
+                None => Ok(false),
+            },
         },
         TokenKind::End => {
             if is_plain_end(&state.events, token) {
