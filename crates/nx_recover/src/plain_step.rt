@@ -275,8 +275,7 @@ fn take_end<M: Matcher>(
         return Ok(false);
     };
     end_innermost(&mut state.events);
-    let around = state.levels.elements.len() - 1;
-    state.levels.elements.truncate(around);
+    state.levels.elements.pop();
     state.levels.here = Some(outside);
     Ok(true)
 }
