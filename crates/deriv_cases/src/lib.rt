@@ -11,7 +11,8 @@
 //! strings and names of the case among theirs. Moves are followed by those trees whose events, with attributes in any order, begin
 //! with what the moves take or may add. The answer is the first move that no tree follows; required are the attributes that stand in
 //! the rest of the tag in each tree that follows. Answers that a matcher didn't give at first were worked out by hand besides, and so
-//! were all of `SINGLE_CALLS`, `ANY_ORDER` and `growth`.
+//! were all of `SINGLE_CALLS`, `ANY_ORDER` and `growth`, and in `CASES` those of moves in the wrong place, of wide spaces, of text that
+//! isn't ASCII, and of attributes of two namespaces.
 #![tactic(auto)]
 
 #[cfg(test)]

@@ -2,153 +2,234 @@
 //! another one does.
 
 use crate::matchers::{Made, matcher_of};
-use crate::reader::answer;
+use crate::reader::{answer, number_told};
+use nx_base::memory::NoMemory;
 use rng_live::matcher::Matcher;
 use std::alloc::Global;
 use std::test::Fail;
 
-/// The schemas, of elements a and b and the attribute x; between two is a blank line.
-const SCHEMAS: &str = r##"
+/// How many of the lists of five are followed, the events that they are made of, and the schema, of elements a and b and the
+/// attribute x. Which attributes are required is asked as an event is. Between two is a blank line. The counts are those of a program
+/// that wrote down all trees.
+pub(crate) const FIVE_EVENTS: &str = r##"
+0 of <a|<b|@x="v"|>|"t"|</|required
 element a { empty }
 
+2 of <a|<b|@x="v"|>|"t"|</|required
 element a { text }
 
+1 of <a|<b|@x="v"|>|"t"|</|required
 element a { attribute x { text }, element b { empty }* }
 
+10 of <a|<b|@x="v"|>|"t"|</|required
 element a { attribute x { "v" }?, (text | element b { text })* }
 
+2 of <a|<b|@x="v"|>|"t"|</|required
 element a { (attribute x { text } | attribute x { "w" }), ("t" | element b { empty }) }
 
+2 of <a|<b|@x="v"|>|"t"|</|required
 element a { list { "t"+ } | element b { attribute x { text } } | element b { empty } }
 
+12 of <a|<b|@x="v"|>|"t"|</|required
 start = p  p = element a { p? & element b { text }? & text }
 
+7 of <a|<b|@x="v"|>|"t"|</|required
 start = p | q  p = element a { (p | q)*, element b { empty } }  q = element a { text | (p | q)* }
 "##;
 
-/// The events that lists over these are made of, and how many the longest have.
-const EVENTS: &str = r##"<a|<b|@x="v"|>|"t"|</"##;
-
-const LENGTH: usize = 5;
-
-/// Schemas behind the events that lists over each are made of: all names that it mentions, as elements and as attributes, strings and
-/// values that are blank, and the text x.
-const MENTIONED: &str = r##"
-<doc|<em|<id|<para|<title|@doc=" "|@doc="x"|@em=" "|@em="x"|@id=" "|@id="x"|@para=" "|@para="x"|@title=" "|@title="x"|>|" "|"x"|</
+/// The same for lists of four. Their events are all names that a schema mentions, as elements and as attributes, strings and values
+/// that are blank, and the text x. The counts were worked out by hand.
+pub(crate) const FOUR_EVENTS: &str = r##"
+2 of <doc|<em|<id|<para|<title|@doc=" "|@doc="x"|@em=" "|@em="x"|@id=" "|@id="x"|@para=" "|@para="x"|@title=" "|@title="x"|>|" "|"x"|</|required
 start = element doc { attribute id { xsd:NCName }, element title { text }, element para { (text | element em { text })* }* }
 
-<a|@a=" "|@a="x"|>|" "|"x"|</
+2 of <a|@a=" "|@a="x"|>|" "|"x"|</|required
 element a { empty }
 
-<a|<b|@a=" "|@a="x"|>|" "|"x"|</
+2 of <a|<b|@a=" "|@a="x"|>|" "|"x"|</|required
 start = element a { b? }  b = element b { b }
 
-<r|<x|<y|@r=" "|@r="x"|@x=" "|@x="x"|@y=" "|@y="x"|>|" "|"x"|</
+5 of <r|<x|<y|@r=" "|@r="x"|@x=" "|@x="x"|@y=" "|@y="x"|>|" "|"x"|</|required
 element r { element x { text } & element y { text } }
 
-<n|@n=" "|@n="x"|>|" "|"x"|"7"|</
+4 of <n|@n=" "|@n="x"|>|" "|"x"|"7"|</|required
 element n { xsd:int { minInclusive = "5" } }
 
-<a|<x|<y|@a=" "|@a="x"|@x=" "|@x="x"|@y=" "|@y="x"|>|" "|"x"|</
+8 of <a|<x|<y|@a=" "|@a="x"|@x=" "|@x="x"|@y=" "|@y="x"|>|" "|"x"|</|required
 element a { attribute x { text }, attribute y { text } }
 "##;
 
-/// The longest lists over these have so many.
-const MENTIONED_LENGTH: usize = 4;
+/// What stands behind a list that is followed.
+const FOLLOWED: &str = " => -";
 
-/// What the one matcher answers to events; they are added where the other one answers otherwise.
-fn told<A: Matcher, B: Matcher>(
-    alloc: Global,
-    one: &mut A,
-    other: &mut B,
-    events: &str,
-    wrong: &mut String,
-) -> Result<String, Fail> {
-    let told = answer(alloc, one, events)?;
-    let again = answer(alloc, other, events)?;
-    if told.as_str() != again.as_str() {
-        write!(wrong, "{events} => {told}, but: {again}\n")?;
+/// Adds what is answered to events; false where memory is wanting.
+fn tell<M: Matcher>(alloc: Global, matcher: &mut M, events: &str, told: &mut String) -> bool {
+    match answer(alloc, matcher, events) {
+        Ok(answer) => write!(told, "{events} => {answer}\n").is_ok(),
+        Err(NoMemory) => false,
     }
-    Ok(told)
 }
 
-/// A list with one event more; none where that one isn't followed. Which attributes are required behind it is asked, too.
-fn longer<A: Matcher, B: Matcher>(
+/// Adds what is answered to a list with one event more.
+fn tell_longer<M: Matcher>(
     alloc: Global,
-    one: &mut A,
-    other: &mut B,
+    matcher: &mut M,
     list: &str,
     event: &str,
-    wrong: &mut String,
-) -> Result<Option<String>, Fail> {
-    let events = format!(in alloc; "{list}{event}")?;
-    if told(alloc, one, other, events.as_str(), wrong)?.as_str() != "-" {
-        return Ok(None);
+    told: &mut String,
+) -> bool {
+    match format!(in alloc; "{list}  {event}") {
+        Ok(events) => tell(alloc, matcher, events.as_str(), told),
+        Err(_) => false,
     }
-    let question = format!(in alloc; "{events}  required")?;
-    let _required = told(alloc, one, other, question.as_str(), wrong)?;
-    Ok(Some(format!(in alloc; "{events}  ")?))
 }
 
-/// Those lists with one event more that are followed, in place of the lists.
-fn all_longer<A: Matcher, B: Matcher>(
+/// Adds what is answered to a list with each event more.
+fn tell_each<M: Matcher>(
     alloc: Global,
-    one: &mut A,
-    other: &mut B,
-    lists: Vec<String>,
+    matcher: &mut M,
+    list: &str,
     events: &str,
-    wrong: &mut String,
-) -> Result<Vec<String>, Fail> {
-    let mut followed = Vec::new(alloc);
-    for list in lists {
-        for event in events.split("|") {
-            if let Some(more) = longer(alloc, one, other, list.as_str(), event, wrong)? {
-                followed.push(more)?;
+    told: &mut String,
+) -> bool {
+    for event in events.split("|") {
+        if !tell_longer(alloc, matcher, list, event, told) {
+            return false;
+        }
+    }
+    true
+}
+
+/// Adds what is answered to those of the lists that are followed, with each event more.
+fn tell_all<M: Matcher>(
+    alloc: Global,
+    matcher: &mut M,
+    lists: &str,
+    events: &str,
+    told: &mut String,
+) -> bool {
+    for line in lists.lines() {
+        if let Some(list) = line.strip_suffix(FOLLOWED) {
+            if !tell_each(alloc, matcher, list, events, told) {
+                return false;
             }
         }
     }
-    Ok(followed)
+    true
 }
 
-/// How many lists of so many events are followed over a schema; those to which the matchers answer otherwise are added.
-fn compare_lists<A: Made, B: Made>(
+/// Those lists with one event more: a line for each, with what is answered.
+fn longer<M: Matcher>(alloc: Global, matcher: &mut M, lists: &str, events: &str) -> Option<String> {
+    let mut told = String::new(alloc);
+    if tell_all(alloc, matcher, lists, events, &mut told) {
+        Some(told)
+    } else {
+        None
+    }
+}
+
+/// Whether this is what is answered to lists with one event more.
+fn is_told<M: Matcher>(
     alloc: Global,
-    schema: &str,
+    matcher: &mut M,
+    lists: &str,
+    events: &str,
+    told: &str,
+) -> bool {
+    match longer(alloc, matcher, lists, events) {
+        Some(again) => again.as_str() == told,
+        None => false,
+    }
+}
+
+/// Those lists with one event more, where two matchers answer to them alike.
+fn longer_of_both<A: Matcher, B: Matcher>(
+    alloc: Global,
+    one: &mut A,
+    other: &mut B,
+    lists: &str,
+    events: &str,
+) -> Option<String> {
+    let told = longer(alloc, one, lists, events)?;
+    if is_told(alloc, other, lists, events, told.as_str()) {
+        Some(told)
+    } else {
+        None
+    }
+}
+
+/// The lists of so many events, where two matchers answer alike to them and to all that are shorter.
+fn longest_of_both<A: Matcher, B: Matcher>(
+    alloc: Global,
+    one: &mut A,
+    other: &mut B,
     events: &str,
     length: usize,
-    wrong: &mut String,
-) -> Result<usize, Fail> {
-    let mut one = matcher_of::<A>(alloc, schema).ok_or("refused")?;
-    let mut other = matcher_of::<B>(alloc, schema).ok_or("refused")?;
-    let mut lists = Vec::new(alloc);
-    lists.push(String::new(alloc))?;
+) -> Option<String> {
+    let mut lists = format!(in alloc; "copy{FOLLOWED}").ok()?;
     for _ in 0..length {
-        lists = all_longer(alloc, &mut one, &mut other, lists, events, wrong)?;
+        lists = longer_of_both(alloc, one, other, lists.as_str(), events)?;
     }
-    Ok(lists.len())
+    Some(lists)
 }
 
-/// For each schema how many of the longest lists are followed, and then the lists to which the matchers answer otherwise.
-pub(crate) fn compared_lists<A: Made, B: Made>(alloc: Global) -> Result<String, Fail> {
-    let mut counts = String::new(alloc);
-    let mut wrong = String::new(alloc);
-    for schema in SCHEMAS.trim().split("\n\n") {
-        let count = compare_lists::<A, B>(alloc, schema, EVENTS, LENGTH, &mut wrong)?;
-        write!(counts, "{count} ")?;
+/// How many of the lists are followed.
+fn followed(lists: &str) -> usize {
+    let mut count = 0usize;
+    for line in lists.lines() {
+        if line.ends_with(FOLLOWED) {
+            count = count.saturating_add(1);
+        }
     }
-    counts.push_str(wrong.as_str())?;
-    Ok(counts)
+    count
 }
 
-/// The same over the schemas that have events of their own.
-pub(crate) fn compared_mentioned<A: Made, B: Made>(alloc: Global) -> Result<String, Fail> {
-    let mut counts = String::new(alloc);
-    let mut wrong = String::new(alloc);
-    for group in MENTIONED.trim().split("\n\n") {
-        let (events, schema) = group.split_once("\n").ok_or("no schema")?;
-        let count = compare_lists::<A, B>(alloc, schema, events, MENTIONED_LENGTH, &mut wrong)?;
-        write!(counts, "{count} ")?;
+fn is_number(alloc: Global, number: usize, wanted: &str) -> bool {
+    match number_told(alloc, number) {
+        Ok(told) => told.as_str() == wanted,
+        Err(NoMemory) => false,
     }
-    counts.push_str(wrong.as_str())?;
-    Ok(counts)
+}
+
+/// Whether two matchers answer alike to all lists of up to so many events and to what is required behind them, and follow so many of
+/// the longest.
+fn are_alike<A: Matcher, B: Matcher>(
+    alloc: Global,
+    one: &mut A,
+    other: &mut B,
+    count: &str,
+    events: &str,
+    length: usize,
+) -> bool {
+    match longest_of_both(alloc, one, other, events, length) {
+        Some(lists) => {
+            is_number(alloc, followed(lists.as_str()), count)
+                && longer_of_both(alloc, one, other, lists.as_str(), "required").is_some()
+        }
+        None => false,
+    }
+}
+
+/// The same for the matchers of a schema, with the count and the events in front of it.
+fn are_made_alike<A: Made, B: Made>(alloc: Global, group: &str, length: usize) -> Option<bool> {
+    let (head, schema) = group.split_once("\n")?;
+    let (count, events) = head.split_once(" of ")?;
+    let mut one = matcher_of::<A>(alloc, schema)?;
+    let mut other = matcher_of::<B>(alloc, schema)?;
+    Some(are_alike(alloc, &mut one, &mut other, count, events, length))
+}
+
+/// Those schemas of a table whose matchers don't answer alike, or otherwise than it is counted.
+pub(crate) fn wrong_lists<A: Made, B: Made>(
+    alloc: Global,
+    table: &str,
+    length: usize,
+) -> Result<String, Fail> {
+    let mut wrong = String::new(alloc);
+    for group in table.trim().split("\n\n") {
+        if are_made_alike::<A, B>(alloc, group, length) != Some(true) {
+            write!(wrong, "{group}\n")?;
+        }
+    }
+    Ok(wrong)
 }

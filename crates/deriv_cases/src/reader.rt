@@ -28,14 +28,20 @@ use nx_base::name::{Name, Names};
 use nx_base::sequence::Bytes;
 use rng_live::matcher::Matcher;
 use std::alloc::Global;
-use std::test::Fail;
+
+/// What comes of a name.
+#[derive(Clone, Copy)]
+enum Named<'t> {
+    Known,
+    Enter,
+    SkipTo,
+    Attribute(&'t str),
+    AnyValue,
+}
 
 /// An event, or another move.
 enum Move<'t> {
-    Enter(&'t str),
-    SkipTo(&'t str),
-    Attribute(&'t str, &'t str),
-    AnyValue(&'t str),
+    Named(Named<'t>, &'t str),
     TagEnd,
     MissingAttributes,
     Chars(&'t str),
@@ -51,19 +57,22 @@ fn quoted(text: &str) -> Option<&str> {
 
 fn attribute(text: &str) -> Option<Move<'_>> {
     if let Some(name) = text.strip_prefix("?") {
-        return Some(Move::AnyValue(name));
+        return Some(Move::Named(Named::AnyValue, name));
     }
     let (name, value) = text.split_once("=")?;
-    Some(Move::Attribute(name, quoted(value)?))
+    Some(Move::Named(Named::Attribute(quoted(value)?), name))
 }
 
 /// The move that holds a name or a text.
 fn longer_move(event: &str) -> Option<Move<'_>> {
+    if let Some(name) = event.strip_prefix("!") {
+        return Some(Move::Named(Named::Known, name));
+    }
     if let Some(name) = event.strip_prefix("<?") {
-        return Some(Move::SkipTo(name));
+        return Some(Move::Named(Named::SkipTo, name));
     }
     if let Some(name) = event.strip_prefix("<") {
-        return Some(Move::Enter(name));
+        return Some(Move::Named(Named::Enter, name));
     }
     if let Some(text) = event.strip_prefix("@") {
         return attribute(text);
@@ -131,8 +140,49 @@ fn word_told(alloc: Global, word: &str) -> Result<String, NoMemory> {
     Ok(String::from_str(alloc, word)?)
 }
 
-fn number_told(alloc: Global, number: usize) -> Result<String, NoMemory> {
+pub(crate) fn number_told(alloc: Global, number: usize) -> Result<String, NoMemory> {
     Ok(format!(in alloc; "{number}")?)
+}
+
+/// The state behind what comes of a name. The frame that begins with a known one has no state before it.
+fn behind_name<M: Matcher>(
+    alloc: Global,
+    matcher: &mut M,
+    state: &M::State,
+    by: Named<'_>,
+    name: &Name,
+) -> Result<Option<M::State>, NoMemory>
+    requires { M.is_state matcher.old state.now }
+    ensures { IfOk result (λ next. IfSome next (M.is_state matcher.new)) }
+{
+    match by {
+        Named::Known => matcher.begin_known(alloc, name),
+        Named::Enter => matcher.enter(alloc, state, name),
+        Named::SkipTo => matcher.enter_skip(alloc, state, name),
+        Named::Attribute(value) => matcher.attribute(alloc, state, name, value.as_bytes()),
+        Named::AnyValue => matcher.attribute_any(alloc, state, name),
+    }
+}
+
+/// The same, and the name is let go.
+fn moved_by_name<M: Matcher>(
+    alloc: Global,
+    matcher: &mut M,
+    state: &M::State,
+    by: Named<'_>,
+    name: Result<Name, NoMemory>,
+) -> Result<Option<M::State>, NoMemory>
+    requires { M.is_state matcher.old state.now }
+    ensures { IfOk result (λ next. IfSome next (M.is_state matcher.new)) }
+{
+    match name {
+        Ok(name) => {
+            let next = behind_name(alloc, matcher, state, by, &name);
+            drop(name);
+            next
+        }
+        Err(fault) => Err(fault),
+    }
 }
 
 /// The state behind a move.
@@ -146,16 +196,10 @@ fn moved<M: Matcher>(
     ensures { IfOk result (λ next. IfSome next (M.is_state matcher.new)) }
 {
     match by {
-        Move::Enter(name) => matcher.enter(alloc, state, &name_of(alloc, name)?),
-        Move::SkipTo(name) => matcher.enter_skip(alloc, state, &name_of(alloc, name)?),
-        Move::Attribute(name, value) => {
-            let name = name_of(alloc, name)?;
-            matcher.attribute(alloc, state, &name, text_of(alloc, value)?.as_slice())
-        }
-        Move::AnyValue(name) => matcher.attribute_any(alloc, state, &name_of(alloc, name)?),
+        Move::Named(by, name) => moved_by_name(alloc, matcher, state, by, name_of(alloc, name)),
         Move::TagEnd => matcher.tag_end(alloc, state),
         Move::MissingAttributes => Ok(Some(matcher.tag_end_missing(alloc, state)?)),
-        Move::Chars(text) => matcher.chars(alloc, state, text_of(alloc, text)?.as_slice()),
+        Move::Chars(text) => matcher.chars(alloc, state, text.as_bytes()),
         Move::AnyString => matcher.chars_any(alloc, state),
         Move::Leave => matcher.leave(alloc, state),
         Move::MissingContent => Ok(Some(matcher.leave_skip(alloc, state)?)),
@@ -177,18 +221,14 @@ fn same_copy<M: Matcher>(
     if same { Ok(Some(copy)) } else { Ok(None) }
 }
 
-/// What is answered to events behind a state, of which the first has this number.
-fn answer_behind<M: Matcher>(
+/// What a matcher answers to events.
+pub(crate) fn answer<M: Matcher>(
     alloc: Global,
     matcher: &mut M,
-    begun: M::State,
     events: &str,
-    first: usize,
-) -> Result<String, NoMemory>
-    requires { M.is_state matcher.old begun }
-{
-    let mut state = begun;
-    let mut number = first;
+) -> Result<String, NoMemory> {
+    let mut state = matcher.begin(alloc)?;
+    let mut number = 1usize;
     for event in events.split("  ") {
         if event == "required" {
             return names_told(alloc, matcher.required(alloc, &state));
@@ -205,34 +245,6 @@ fn answer_behind<M: Matcher>(
     word_told(alloc, "-")
 }
 
-/// What is answered to a name with which a frame begins, and to events behind that.
-fn answer_known<M: Matcher>(
-    alloc: Global,
-    matcher: &mut M,
-    events: &str,
-) -> Result<String, NoMemory> {
-    let (name, others) = events.split_once("  ").unwrap_or((events, "copy"));
-    match matcher.begin_known(alloc, &name_of(alloc, name)?)? {
-        Some(state) => answer_behind(alloc, matcher, state, others, 2),
-        None => number_told(alloc, 1),
-    }
-}
-
-/// What a matcher answers to events.
-pub(crate) fn answer<M: Matcher>(
-    alloc: Global,
-    matcher: &mut M,
-    events: &str,
-) -> Result<String, NoMemory> {
-    match events.strip_prefix("!") {
-        Some(known) => answer_known(alloc, matcher, known),
-        None => {
-            let state = matcher.begin(alloc)?;
-            answer_behind(alloc, matcher, state, events, 1)
-        }
-    }
-}
-
 /// Whether a matcher answers this to events.
 pub(crate) fn answers<M: Matcher>(
     alloc: Global,
@@ -246,16 +258,16 @@ pub(crate) fn answers<M: Matcher>(
     }
 }
 
-/// The state behind events, all of which are to be followed.
+/// The state behind events; none where one of them isn't followed.
 pub(crate) fn state_behind<M: Matcher>(
     alloc: Global,
     matcher: &mut M,
     events: &str,
-) -> Result<M::State, Fail> {
-    let mut state = matcher.begin(alloc)?;
+) -> Option<M::State> {
+    let mut state = matcher.begin(alloc).ok()?;
     for event in events.split("  ") {
-        let by = move_of(event).ok_or("no event")?;
-        state = moved(alloc, matcher, &state, by)?.ok_or("not followed")?;
+        let by = move_of(event)?;
+        state = moved(alloc, matcher, &state, by).ok()??;
     }
-    Ok(state)
+    Some(state)
 }

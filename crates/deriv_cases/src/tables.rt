@@ -83,6 +83,42 @@ element a { empty }
   <u:a => 1
   copy  <a  copy  >  copy  </  copy => -
 
+# moves in the wrong place
+element a { attribute x { text }?, (text | element b { empty })* }
+  <?a  @?x  >  "?"  <b  >  </  </ => -
+  <a  <?b => 2
+  <a  "?" => 2
+  <a  </?  > => 3
+  <a  </?  </ => 3
+  <a  >  > => 3
+  <a  >  >?  </ => 4
+  <a  >?  > => 3
+  <a  >  @?x => 3
+  <a  >?  @?x => 3
+  <a  >  </  <?b => 4
+  <a  >  </  "?" => 4
+  <a  >  </  </?  <a => 5
+  "?" => 1
+  </?  <a => 2
+  >?  <a => 2
+
+# no-break and wide spaces aren't blank
+element a { element b { empty } }
+  <a  >  " "  <b  >  </  </ => -
+  <a  >  " " => 3
+  <a  >  "　" => 3
+  <a  >  "é" => 3
+
+# text that isn't ASCII
+element a { attribute ü { "é" }, "日本 語" }
+  <a  @ü="é"  >  "日本 語"  </ => -
+  <a  @ü=" é "  >  " 日本 語 "  </ => -
+  <a  @ü="e" => 2
+  <a  @u="é" => 2
+  <a  @ü="é"  >  "日本語" => 4
+  <a  @ü="é " => 2
+  <a  required => ü
+
 # text
 element a { text }
   <a  >  </ => -
@@ -367,6 +403,18 @@ namespace u = "u" element a { attribute u:* { text }* & attribute x { text } & e
   <a  > => 2
   <a  @x="1"  >  </ => 4
   <a  @x="1"  >?  <b => -
+
+namespace u = "u" namespace v = "v" element a { (attribute u:* { text }+ | attribute v:* { text })+ }
+  <a  > => 2
+  <a  @u:p="1"  >  </ => -
+  <a  @v:p="1"  @v:q="2"  >  </ => -
+  <a  @u:p="1"  @v:q="2"  @u:r="3"  >  </ => -
+  <a  @x="1" => 2
+  <a  @u:p="1"  @x="2" => 3
+  <a  @v:p="1"  >  "x" => 4
+  <a  @?v:p  @?u:q  > => -
+  <a  required => nothing
+  <a  >?  </ => -
 
 # references
 start = p  p = element p { p* }

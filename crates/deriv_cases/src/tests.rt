@@ -1,4 +1,4 @@
-use crate::lists::{compared_lists, compared_mentioned};
+use crate::lists::{FIVE_EVENTS, FOUR_EVENTS, wrong_lists};
 use crate::matchers::{Made, matcher_of};
 use crate::reader::answers;
 use crate::tables::{ANY_ORDER, CASES, SINGLE_CALLS};
@@ -53,10 +53,15 @@ fn wrong_cases<M: Made>(alloc: Global, table: &str) -> Result<String, Fail> {
     Ok(wrong)
 }
 
-fn compare<M: Made>(rt: &impl Abort, alloc: Global, table: &str) -> Result<(), Fail> {
-    let wrong = wrong_cases::<M>(alloc, table)?;
+/// What is told of wrong answers is nothing.
+fn none_is_wrong(rt: &impl Abort, wrong: Result<String, Fail>) -> Result<(), Fail> {
+    let wrong = wrong?;
     assert_eq!(rt; wrong.as_str(), "");
     Ok(())
+}
+
+fn compare<M: Made>(rt: &impl Abort, alloc: Global, table: &str) -> Result<(), Fail> {
+    none_is_wrong(rt, wrong_cases::<M>(alloc, table))
 }
 
 #[test]
@@ -89,18 +94,12 @@ fn pool_answers_cases(rt: HostRuntime) -> Result<(), Fail> {
     compare::<Pool>(&rt, rt.alloc(), CASES)
 }
 
-/// The counts are those of a program that wrote down all trees.
 #[test]
 fn plain_and_pool_answer_all_lists_alike(rt: HostRuntime) -> Result<(), Fail> {
-    let told = compared_lists::<Plain, Pool>(rt.alloc())?;
-    assert_eq!(rt; told.as_str(), "0 2 1 10 2 2 12 7 ");
-    Ok(())
+    none_is_wrong(&rt, wrong_lists::<Plain, Pool>(rt.alloc(), FIVE_EVENTS, 5))
 }
 
-/// The counts were worked out by hand.
 #[test]
 fn plain_and_pool_answer_lists_of_mentioned_names_alike(rt: HostRuntime) -> Result<(), Fail> {
-    let told = compared_mentioned::<Plain, Pool>(rt.alloc())?;
-    assert_eq!(rt; told.as_str(), "2 2 2 5 4 8 ");
-    Ok(())
+    none_is_wrong(&rt, wrong_lists::<Plain, Pool>(rt.alloc(), FOUR_EVENTS, 4))
 }

@@ -1,4 +1,4 @@
-use Rattle.deriv_cases.proofs.reader.answer_behind.Given as goal
+use Rattle.deriv_cases.proofs.reader.answer.Given as goal
 
 abbrev pub invariant-loop-event : goal.invariant-loop-event
 invariant-loop-event g l =
