@@ -127,7 +127,7 @@ fn answer(alloc: Global, step: &Step, ways: &Ways) -> Result<Option<Ways>, NoMem
     Ok(as_answer(given(alloc, step, ways)?))
 }
 
-/// Behind an attribute. A value that is no text isn't given.
+/// Behind an attribute. A value that is no text is answered as want of memory.
 fn behind_attribute(
     alloc: Global,
     ways: &Ways,
@@ -144,7 +144,7 @@ fn behind_attribute(
     }
 }
 
-/// Behind a string. One that is no text isn't given.
+/// Behind a string. One that is no text is answered as want of memory.
 fn behind_chars(alloc: Global, ways: &Ways, text: &[u8]) -> Result<Option<Ways>, NoMemory>
     requires { IsState ways.now }
     ensures { IfOk result (Answers IsState residual_of (merging.answered (content.chars text.now (residual_of ways.now)))) }
