@@ -9,10 +9,11 @@
 //! The answers were worked out by the match relation of ISO/IEC 19757-2 and without derivatives. Another program, which isn't
 //! kept, wrote down all trees of up to six nodes that a schema matches, and larger ones where a case asks for them, with the
 //! strings and names of the case among theirs. Moves are followed by those trees whose events, with attributes in any order, begin
-//! with what the moves take or may add. The answer is the first move that no tree follows; required are the attributes that stand in
-//! the rest of the tag in each tree that follows. Answers that a matcher didn't give at first were worked out by hand besides, and so
-//! were all of `SINGLE_CALLS`, `ANY_ORDER` and `growth`, and in `CASES` those of moves in the wrong place, of wide spaces, of text that
-//! isn't ASCII, and of attributes of two namespaces.
+//! with what the moves take or may add. The answer is the first move that no tree follows; where that is `>?` or `</?`, which are
+//! always answered, it is the move behind it. Required are the attributes that stand in the rest of the tag in each tree that follows.
+//! Answers that a matcher didn't give at first were worked out by hand besides. By hand alone were worked out all of `SINGLE_CALLS`,
+//! `ANY_ORDER` and `growth`, and in `CASES` the rows of moves in the wrong place, of wide spaces, of text that isn't ASCII, and of
+//! attributes of two namespaces.
 #![tactic(auto)]
 
 #[cfg(test)]

@@ -62,10 +62,12 @@ element a { attribute x { text }, attribute y { text } }
 /// What stands behind a list that is followed.
 const FOLLOWED: &str = " => -";
 
-/// Adds what is answered to events; false where memory is wanting.
+/// Adds what is answered to events; false where one of them is none, or memory is wanting.
 fn tell<M: Matcher>(alloc: Global, matcher: &mut M, events: &str, told: &mut String) -> bool {
     match answer(alloc, matcher, events) {
-        Ok(answer) => write!(told, "{events} => {answer}\n").is_ok(),
+        Ok(answer) => {
+            answer.as_str() != "no event" && write!(told, "{events} => {answer}\n").is_ok()
+        }
         Err(NoMemory) => false,
     }
 }

@@ -221,6 +221,14 @@ fn same_copy<M: Matcher>(
     if same { Ok(Some(copy)) } else { Ok(None) }
 }
 
+/// The move of this number that an event tells. A known name stands in front of all others.
+fn move_at(number: usize, event: &str) -> Option<Move<'_>> {
+    if number > 1 && event.starts_with("!") {
+        return None;
+    }
+    move_of(event)
+}
+
 /// What a matcher answers to events.
 pub(crate) fn answer<M: Matcher>(
     alloc: Global,
@@ -233,7 +241,7 @@ pub(crate) fn answer<M: Matcher>(
         if event == "required" {
             return names_told(alloc, matcher.required(alloc, &state));
         }
-        let Some(by) = move_of(event) else {
+        let Some(by) = move_at(number, event) else {
             return word_told(alloc, "no event");
         };
         match moved(alloc, matcher, &state, by)? {

@@ -34,7 +34,7 @@ AreOnce texts = (i j : ℕ) → i < length texts → j < length texts → slice_
 abbrev pub IsAtMostOneMore : List (List ℕ) → List (List ℕ) → List ℕ → Type 0
 IsAtMostOneMore old new text = (new ≡ old) ⊎ (new ≡ old ++ text ∷ [])
 
--- the texts as they were, then the name's namespace where it is new, then its local part where it is
+-- the texts as they were, or with the name's namespace at the end, or its local part, or both in this order
 abbrev pub AreAtMostTwoMore : List (List ℕ) → List (List ℕ) → Name → Type 0
 AreAtMostTwoMore old new name = (between : List (List ℕ)) × (IsAtMostOneMore old between name.ns × IsAtMostOneMore between new name.local)
 

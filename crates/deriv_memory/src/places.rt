@@ -12,7 +12,8 @@ use std::alloc::Global;
 /// How many guesses there are for calls with names.
 const NAMED: usize = 16_384;
 
-/// How far the guesses of one state are from those of the next.
+/// How far the guesses of one state are from those of the next. It is odd, so that for one name as many states in a row as there are
+/// guesses have a guess each.
 const STRIDE: usize = 10_007;
 
 /// The places of one state's answers: a guess for each call that has no name.
@@ -94,8 +95,8 @@ impl Places {
         }
     }
 
-    /// Where the answer of a call may stand; none where nothing was put of so high a state, or of a name. One `match` tells a
-    /// call's form and whether it has a name.
+    /// Where the answer of a call may stand; none where nothing was put of so high a state, or of a name. The guess for a name
+    /// is that of `guess_of`; one `match` tells a call's form and whether it has one.
     pub fn of(&self, call: &Asked) -> Option<usize> {
         let place = match call {
             Asked::TagEnd(state) => self.row(*state)?.tag_end,
@@ -117,7 +118,7 @@ impl Places {
         }
     }
 
-    // From now on this is the guess for calls with names that have it, unless there is one: names that come often mostly come early.
+    // From now on calls with this guess are looked for at the place, unless another came first: names that come often mostly come early.
     fn put_named(&mut self, guess: usize, place: u32) -> Result<(), NoMemory> {
         if self.named.is_empty() {
             self.named.resize(NAMED, 0)?;

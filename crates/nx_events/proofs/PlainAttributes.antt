@@ -35,7 +35,7 @@ use Rattle.nx_events.specs.declared.flaw.Resolved.TheVariants.{Named}
 use Rattle.nx_events.specs.declared.item.Item.{Item}
 use Rattle.nx_events.specs.declared.item.Item.TheVariants as items
 use Rattle.nx_events.specs.declared.item.Event.TheVariants.{Enter, Att, TagEnd}
-use Rattle.nx_events.specs.declared.plain_tag.PlainAttribute.{PlainAttribute}
+use Rattle.nx_events.specs.declared.plain_opening.PlainAttribute.{PlainAttribute}
 use Rattle.nx_events.specs.declared.reading.Reading.TheVariants.{Value}
 use Rattle.nx_events.specs.declared.scope.Binding.{Binding}
 use Rattle.nx_events.specs.declared.state.EventState.{EventState}
@@ -43,7 +43,7 @@ use Rattle.nx_events.specs.declared.tag.Attribute.{Attribute}
 use Rattle.nx_events.proofs.OpenItems.{start_tags_go_on, resolved_is}
 use Rattle.nx_events.proofs.PlainNames.{plain_name, plain_parts}
 use Rattle.nx_events.proofs.PlainRuns.{plain_told, plain_string_of}
-use Rattle.nx_events.proofs.PlainTags.{plain_resolved}
+use Rattle.nx_events.proofs.PlainTags.{plain_resolved, one_more}
 use Rattle.nx_events.proofs.PlainTokens.{gives_by, leads_by, default_uri, behind_run}
 use Rattle.nx_events.proofs.Tags.{none_between, none_among, attributes_step, tag_of_some}
 
@@ -112,9 +112,6 @@ others_pass : (t : Bool) (k n : ℕ) → cond t (1 + k) 0 ≡ suc n → k ≡ n
 others_pass true k n h = omega (arith, h)
 others_pass false k n h = absurd (omega (arith, h))
 
-one_passes : (t : Bool) (k n : ℕ) → t ≡ true → k ≡ n → cond t (1 + k) 0 ≡ suc n
-one_passes t k n h e = let next : 1 + k ≡ suc n = omega (arith, e) in ap (λ u. cond u (1 + k) 0) h ∙ next
-
 pub drop_passes : (p : ℕ → Bool) (n : ℕ) (xs : List ℕ) → prefix_len p xs ≡ length xs → prefix_len p (drop n xs) ≡ length (drop n xs)
 drop_passes p zero xs h = h
 drop_passes p (suc n) [] h = refl
@@ -124,7 +121,7 @@ take_passes : (p : ℕ → Bool) (n : ℕ) (xs : List ℕ) → prefix_len p xs �
 take_passes p zero xs h = refl
 take_passes p (suc n) [] h = refl
 take_passes p (suc n) (b ∷ xs) h =
-    one_passes (p b) (prefix_len p (take n xs)) (length (take n xs)) (first_passes (p b) (prefix_len p xs) (length xs) h)
+    one_more (p b) (prefix_len p (take n xs)) (length (take n xs)) (first_passes (p b) (prefix_len p xs) (length xs) h)
     (take_passes p n xs (others_pass (p b) (prefix_len p xs) (length xs) h))
 
 pub rest_passes : (p : ℕ → Bool) (n : ℕ) (xs : List ℕ) → prefix_len p xs ≡ length xs →

@@ -61,7 +61,7 @@ name_stays (b ∷ bytes) h =
     ap (λ u. u && list_all (λ c. is_plain c && not (ends_name c)) bytes) (start_stays b t.0) ∙ all_stay bytes t.1
 
 -- so the name ends at the `>` behind it, and all is plain
-one_more : (t : Bool) (k n : ℕ) → t ≡ true → k ≡ n → cond t (1 + k) 0 ≡ suc n
+pub one_more : (t : Bool) (k n : ℕ) → t ≡ true → k ≡ n → cond t (1 + k) 0 ≡ suc n
 one_more t k n h e = let next : 1 + k ≡ suc n = omega (arith, e) in ap (λ u. cond u (1 + k) 0) h ∙ next
 
 ends_behind : (name : List ℕ) → list_all (λ b. is_plain b && not (ends_name b)) name ≡ true →

@@ -38,7 +38,7 @@ pub mod TreeEvents
 pub mod Texts
 pub mod Spans
 pub mod Moves
--- ---- what private contracts cite
+-- ---- what private contracts cite, and those that nx_recover alone calls
 pub mod Plain
 pub mod PlainNames
 pub mod PlainTags

@@ -16,8 +16,8 @@ use Rattle.nx_events.specs.declared.flaw.Resolved.TheVariants.{Named}
 use Rattle.nx_events.specs.declared.item.Item.{Item}
 use Rattle.nx_events.specs.declared.item.Item.TheVariants as items
 use Rattle.nx_events.specs.declared.item.Event.TheVariants.{Enter, Att, TagEnd}
-use Rattle.nx_events.specs.declared.plain_tag.PlainAttribute.{PlainAttribute}
-use Rattle.nx_events.specs.declared.plain_tag.PlainAttributes.{PlainAttributes}
+use Rattle.nx_events.specs.declared.plain_opening.PlainAttribute.{PlainAttribute}
+use Rattle.nx_events.specs.declared.plain_opening.PlainAttributes.{PlainAttributes}
 use Rattle.nx_events.specs.declared.scope.Binding.{Binding}
 use Rattle.nx_events.specs.declared.state.EventState.{EventState}
 use Rattle.nx_events.specs.declared.tag.Attribute.{Attribute}
@@ -29,11 +29,12 @@ namespace_if is_xml = if is_xml then xml_uri else []
 abbrev pub attribute_name : PlainAttribute → Name
 attribute_name it = record { ns = namespace_if it.is_xml; local = it.local.now }
 
--- one or two of them, in order
+-- the second, if there is one
 abbrev pub one_if : Option PlainAttribute → List PlainAttribute
 one_if None = []
 one_if (Some it) = it ∷ []
 
+-- one or two of them, in order
 abbrev pub listed : PlainAttributes → List PlainAttribute
 listed attributes = attributes.first ∷ one_if attributes.second
 
@@ -41,7 +42,12 @@ listed attributes = attributes.first ∷ one_if attributes.second
 abbrev pub attribute_event : PlainAttribute × Span → Item
 attribute_event it = items.Event (Att (attribute_name it.0) it.0.value.now) it.1
 
--- a start tag that gives the run before it, the element of this name, these attributes and their end
+-- their values are UTF-8
+abbrev pub AreTexts : List PlainAttribute → Type 0
+AreTexts its = AllByRecursion (λ (it : PlainAttribute). IsUtf8 it.value.now) its
+
+-- a start tag that gives the run before it, the element of this name, these attributes and their end; their values are UTF-8, and have the
+-- spans that the items give
 pub record IsPlainOpening (state : EventState) (token : Token) (written : List ℕ) (attributes : List PlainAttribute) : Type 0 where
   pub spanned : List (PlainAttribute × Span)
   pub are : map (λ (it : PlainAttribute × Span). it.0) spanned ≡ attributes
@@ -50,7 +56,7 @@ pub record IsPlainOpening (state : EventState) (token : Token) (written : List �
       ++ (items.Event (Enter (unprefixed_name state.scope written)) (token_span token)
       ∷ (map attribute_event spanned ++ items.Event TagEnd (token_span token) ∷ []))
   pub behind : state_behind state token ≡ element_begun state written
-  pub text : AllByRecursion (λ (it : PlainAttribute). IsUtf8 it.value.now) attributes
+  pub text : AreTexts attributes
 
 -- a written name that is no declaration, and is this attribute's wherever it stands
 pub record IsNameOf (written : List ℕ) (it : PlainAttribute) : Type 0 where
@@ -65,13 +71,14 @@ pub record IsFront (bytes : List ℕ) (it : PlainAttribute) (rest : List ℕ) : 
   pub read : (at : ℕ) → attributes_from 0 at bytes
       ≡ attribute_at (at + 1) (drop 1 bytes) ∷ attributes_from 0 (at + 1 + attribute_len (drop 1 bytes)) rest
 
--- attributes that are read are these, behind those that kept these names
+-- an attribute that is read is this one, behind those that kept these names
 pub record IsReadAs (kept : List Name) (read : Attribute) (it : PlainAttribute) : Type 0 where
   pub named : IsNameOf read.name it
   pub string : read.string ≡ it.value.now
   pub text : IsUtf8 it.value.now
   pub new : has_name kept (attribute_name it) ≡ false
 
+-- attributes that are read are these, in order
 abbrev pub AreReadAs : List Name → List Attribute → List PlainAttribute → Type 0
 AreReadAs kept [] [] = Unit {0}
 AreReadAs kept (read ∷ others) (it ∷ more) = IsReadAs kept read it × AreReadAs (kept ++ attribute_name it ∷ []) others more

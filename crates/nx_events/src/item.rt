@@ -193,20 +193,20 @@ impl Items {
         self.items = items;
     }
 
-    /// Keeps the memory of a name that is over.
+    /// Keeps the memory of a name's local part; the name is over.
     pub fn keep_name(&mut self, name: Name)
         ensures { self.new ≡ self.old }
     {
         self.keep_bytes(name.local);
     }
 
-    /// Keeps the memory of a name that is over, with that of its namespace.
-    pub fn keep_expanded(&mut self, name: Name)
+    /// Keeps the memory of both parts of a name that is over, whose namespace was put in such memory, too.
+    pub fn keep_both_parts(&mut self, name: Name)
         ensures { self.new ≡ self.old }
     {
         let Name { ns, local } = name;
-        self.keep_bytes(ns);
         self.keep_bytes(local);
+        self.keep_bytes(ns);
     }
 
     // Keeps the memory of a name or a value that is over.

@@ -46,7 +46,7 @@ mod name_places;
 mod namespace;
 mod nesting;
 mod other_token;
-pub mod plain_tag;
+pub mod plain_opening;
 pub mod plain_token;
 pub mod prefix;
 pub mod reader;

@@ -19,8 +19,8 @@ pub(crate) enum Held {
     Heap(Vec<u8>),
 }
 
-/// The bytes of a name. Where they are few, as most names' are, they stand in the value itself: then the name takes no other memory, and is
-/// copied without asking for any. To a contract it is the bytes.
+/// The bytes of a name. Where they are few, as most names' are, they stand in the value itself: then a copy of the name asks for no
+/// memory. To a contract it is the bytes.
 #[derive(Drop)]
 pub struct NameBytes {
     alloc: Global,

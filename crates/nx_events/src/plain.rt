@@ -81,7 +81,7 @@ fn are_plain_lines(bytes: &[u8]) -> bool
     are_plain_groups(bytes)
 }
 
-// Whether all bytes stand for themselves wherever they are read. They are looked at in the same way.
+// Whether all bytes stand for themselves wherever they are read. Each is looked at, as in `is_plain_group`.
 fn is_value_group(bytes: &[u8]) -> bool
     ensures { result ≡ true → (k : ℕ) → k < length bytes.now → is_plain (slice_index bytes.now k) ≡ true }
 {
@@ -92,7 +92,7 @@ fn is_value_group(bytes: &[u8]) -> bool
     all
 }
 
-// The same of more bytes wherever they are read.
+// Whether sixteen bytes or more do so, group by group. The last group may share bytes with the one before it.
 fn are_value_groups(bytes: &[u8]) -> bool
     requires { 16 ≤ length bytes.now }
     ensures { result ≡ true → prefix_len is_plain bytes.now ≡ length bytes.now }

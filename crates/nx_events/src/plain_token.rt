@@ -1,5 +1,5 @@
-//! Tokens of which one look tells what they give: start tags that are a plain name alone, the end of the innermost element, and
-//! characters that stand for themselves. Most tokens are such. They give no fault and declare nothing, so who asks for faults alone
+//! Tokens of which one look tells what they give: start tags that are a plain name alone or have one or two plain attributes
+//! (`plain_opening`), the end of the innermost element, and characters that stand for themselves. Most tokens are such. They give no fault and declare nothing, so who asks for faults alone
 //! passes them at once, and who asks for events needs no list of them.
 
 ghost use Rattle.std.specs.Prelude.{◌≡◌, ◌+◌, ◌<◌, ◌≤◌, ◌^◌, [], true, false, length, IfOk, IfSome, OnOk, OnErr, option_copied};
@@ -14,7 +14,7 @@ ghost use Rattle.nx_events.specs.Runs.{run_back};
 use crate::end_tag::close;
 use crate::item::Items;
 use crate::nesting::is_end_of_innermost;
-use crate::plain_tag::plain_tag;
+use crate::plain_opening::plain_opening;
 use crate::reading::Reading;
 use crate::stage::{is_behind, is_inside};
 use crate::state::EventState;
@@ -114,14 +114,14 @@ pub fn add_characters(state: &mut EventState, bytes: &[u8]) -> Result<(), NoMemo
 }
 
 // Passes a start tag with one or two attributes, if it is one of which one look tells what it gives, and answers whether it did.
-fn pass_plain_tag(state: &mut EventState, token: &Token) -> Result<bool, NoMemory>
+fn pass_plain_opening(state: &mut EventState, token: &Token) -> Result<bool, NoMemory>
     requires { token.now.kind ≡ kinds.Start }
     ensures behind { IfOk result (λ passed. passed ≡ true → state.new ≡ state_behind state.old token.now) }
     ensures faults { IfOk result (λ passed. passed ≡ true → faults_among (items_of_token state.old token.now) ≡ []) }
     ensures stays { IfOk result (λ passed. passed ≡ false → state.new ≡ state.old) }
     ensures unchanged { OnErr result (state.new ≡ state.old) }
 {
-    let Some(tag) = plain_tag(state, token) else {
+    let Some(tag) = plain_opening(state, token) else {
         return Ok(false);
     };
     begin_element(state, tag.written)?;
@@ -141,7 +141,7 @@ pub(crate) fn pass_plain(state: &mut EventState, token: &Token) -> Result<bool, 
     match token.kind {
         TokenKind::Start => {
             let Some(written) = plain_start(state, token) else {
-                return pass_plain_tag(state, token);
+                return pass_plain_opening(state, token);
             };
             begin_element(state, written)?;
             Ok(true)

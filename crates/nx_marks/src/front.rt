@@ -57,7 +57,7 @@ fn settle<S: Drop>(below: &mut Tree<S>, top: &mut Option<Single<S>>)
     }
 }
 
-/// Has the last mark at hand, out of the tree, where it mostly is.
+/// Has the last mark at hand, where it mostly is; otherwise it is taken out of the tree.
 #[inline(always)]
 fn raise<S: Drop>(below: &mut Tree<S>, top: &mut Option<Single<S>>)
     requires { 0 < length (below.old ++ option_to_list top.old) }

@@ -71,8 +71,8 @@ fn take_here<A: Machine>(
     step(alloc, machine, text, line, token)
 }
 
-/// Cuts the token at the frontier, where the line is parted, and takes it. Marks aside that it passes are dropped. It stands in line in
-/// both loops over tokens, and so does what it calls here.
+/// Cuts the token at the frontier, where the line is parted, and takes it. Marks aside that it passes are dropped. It stands in line
+/// wherever a token is taken, and so does what it calls here.
 #[inline(always)]
 fn cut_and_take<A: Machine, L: Ledger>(
     alloc: Global,

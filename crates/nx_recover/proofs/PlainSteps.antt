@@ -18,7 +18,7 @@ use Rattle.nx_events.specs.declared.item.Event.{Event}
 use Rattle.nx_events.specs.declared.item.Event.TheVariants.{Enter, Att, TagEnd, Chars, Leave}
 use Rattle.nx_events.specs.declared.item.Item.{Item}
 use Rattle.nx_events.specs.declared.item.Item.TheVariants as items
-use Rattle.nx_events.specs.declared.plain_tag.PlainAttribute.{PlainAttribute}
+use Rattle.nx_events.specs.declared.plain_opening.PlainAttribute.{PlainAttribute}
 use Rattle.nx_events.specs.declared.state.EventState.{EventState}
 use Rattle.nx_events.specs.declared.state.Run.{Run}
 use Rattle.rng_core.specs.Patterns.{Language}

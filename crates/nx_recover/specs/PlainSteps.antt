@@ -1,13 +1,11 @@
 -- What is left behind a token of which one look tells what it gives, where the schema admits all of that.
 use Rattle.std.specs.Prelude.{◌≡◌, ℕ, List, [], ◌∷◌, Option, Some, None}
-use Rattle.std.specs.List.{AllByRecursion}
-use Rattle.std.specs.Str.{IsUtf8}
 use Rattle.nx_base.specs.declared.name.Name.{Name}
 use Rattle.nx_base.specs.declared.token.Token.{Token}
 use Rattle.nx_events.specs.Items.{items_of_token, state_behind}
 use Rattle.nx_events.specs.PlainAttributes.{attribute_name, listed}
-use Rattle.nx_events.specs.declared.plain_tag.PlainAttribute.{PlainAttribute}
-use Rattle.nx_events.specs.declared.plain_tag.PlainAttributes.{PlainAttributes}
+use Rattle.nx_events.specs.declared.plain_opening.PlainAttribute.{PlainAttribute}
+use Rattle.nx_events.specs.declared.plain_opening.PlainAttributes.{PlainAttributes}
 use Rattle.rng_core.specs.Patterns.{Language}
 use Rattle.rng_kept.specs.Content.{chars, leave}
 use Rattle.rng_kept.specs.Entering.{enter}
@@ -36,10 +34,6 @@ behind_attributes (it ∷ others) x = then_answered (answered (attribute_of (att
 abbrev pub listed_if : Option PlainAttributes → List PlainAttribute
 listed_if None = []
 listed_if (Some attributes) = listed attributes
-
--- their values are UTF-8
-abbrev pub AreTexts : List PlainAttribute → Type 0
-AreTexts its = AllByRecursion (λ (it : PlainAttribute). IsUtf8 it.value.now) its
 
 -- the start of an element with these attributes, and the end of its tag
 abbrev pub inside_of : Language → Name → List PlainAttribute → Residual → Option Residual

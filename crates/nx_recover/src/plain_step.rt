@@ -4,12 +4,12 @@
 ghost use Rattle.std.specs.Prelude.{◌≡◌, ◌++◌, ◌∷◌, ◌+◌, ◌<◌, ◌≤◌, ◌^◌, [], true, false, length, IsUtf8, IfOk, IfSome, OnErr, option_copied};
 ghost use Rattle.rng_live.specs.Calls.{Answers};
 ghost use Rattle.nx_base.specs.declared.token.Token.{Token};
-ghost use Rattle.nx_events.specs.PlainAttributes.{attribute_name, one_if, IsPlainOpening};
+ghost use Rattle.nx_events.specs.PlainAttributes.{attribute_name, one_if, AreTexts, IsPlainOpening};
 ghost use Rattle.nx_events.specs.PlainTokens.{IsPlainEnd};
 ghost use Rattle.nx_events.specs.Runs.{run_back};
 ghost use Rattle.nx_events.specs.Texts.{StateIsText};
 ghost use Rattle.nx_recover.specs.Aside.{without_innermost};
-ghost use Rattle.nx_recover.specs.PlainSteps.{behind_run, behind_attributes, listed_if, AreTexts, inside_of, outside_of, IsAdmitted};
+ghost use Rattle.nx_recover.specs.PlainSteps.{behind_run, behind_attributes, listed_if, inside_of, outside_of, IsAdmitted};
 ghost use Rattle.rng_kept.specs.Merging.{answered};
 ghost use Rattle.rng_kept.specs.Tags.{attribute_of};
 ghost use Rattle.nx_recover.specs.States.{AreStates, view_of};
@@ -22,7 +22,7 @@ use nx_base::memory::NoMemory;
 use nx_base::name::Name;
 use nx_base::token::{Token, TokenKind};
 use nx_events::item::Items;
-use nx_events::plain_tag::{PlainAttribute, PlainAttributes, attribute_name, plain_tag};
+use nx_events::plain_opening::{PlainAttribute, PlainAttributes, attribute_name, plain_opening};
 use nx_events::plain_token::{
     add_characters, begin_element, end_innermost, ended_run, is_plain_end, is_plain_text,
     plain_start, unprefixed_name,
@@ -47,7 +47,7 @@ fn behind_attribute<M: Matcher>(
 {
     let name = attribute_name(alloc, memory, attribute)?;
     let behind = matcher.attribute(alloc, in_tag, &name, attribute.value)?;
-    memory.keep_expanded(name);
+    memory.keep_both_parts(name);
     Ok(behind)
 }
 
@@ -304,7 +304,7 @@ pub fn step_plain<M: Matcher>(
     match token.kind {
         TokenKind::Start => match plain_start(&state.events, token) {
             Some(written) => take_start(alloc, matcher, memory, state, written, &None),
-            None => match plain_tag(&state.events, token) {
+            None => match plain_opening(&state.events, token) {
                 Some(tag) => take_start(
                     alloc,
                     matcher,

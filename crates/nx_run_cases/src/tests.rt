@@ -255,7 +255,7 @@ const SECTIONS: &[u8] =
     b"start = element doc { attribute id { xsd:NCName }, element title { text }, element para { (text | element em { text })* }* }";
 
 /// Scripts that hold documents against those schemas, what they print and how they end.
-pub(crate) const VALIDATED: [(&str, &str, Status); 28] = [
+pub(crate) const VALIDATED: [(&str, &str, Status); 29] = [
     (
         "schema \"s1.rnc\"\nerrors\n",
         "errors: 1\n0-0 NoRoot\n",
@@ -358,6 +358,11 @@ pub(crate) const VALIDATED: [(&str, &str, Status); 28] = [
     ),
     (
         "schema \"xy.rnc\"\ninsert 0 \"<a y='1' x='2'/>\"\nerrors\n",
+        "errors: 0\n",
+        Status::Done,
+    ),
+    (
+        "schema \"xy.rnc\"\ninsert 0 \"<a y='1' x='2'></a>\"\nerrors\n",
         "errors: 0\n",
         Status::Done,
     ),

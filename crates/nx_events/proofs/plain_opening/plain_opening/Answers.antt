@@ -1,7 +1,7 @@
 use Rattle.std.proofs.Common.{◌+◌, refl, sym, ◌∙◌}
 use Rattle.nx_events.specs.Plain.{is_plain}
 use Rattle.nx_events.proofs.PlainAttributes.{plain_opening_is, rest_passes}
-use Rattle.nx_events.proofs.plain_tag.plain_tag.Goals as goal
+use Rattle.nx_events.proofs.plain_opening.plain_opening.Goals as goal
 
 pub returns : goal.returns
 returns c = λ kind.

@@ -1,6 +1,6 @@
 use Rattle.std.proofs.Common.{refl, sym, ◌∙◌}
 use Rattle.nx_events.proofs.PlainAttributes.{plain_named, xml_named}
-use Rattle.nx_events.proofs.plain_tag.named.Goals as goal
+use Rattle.nx_events.proofs.plain_opening.named.Goals as goal
 
 pub returns-then-is_plain_name : goal.returns-then-is_plain_name
 returns-then-is_plain_name c =

@@ -1,6 +1,6 @@
 use Rattle.nx_events.specs.PlainAttributes.{listed}
 use Rattle.nx_events.proofs.PlainAttributes.{opening_faultless}
-use Rattle.nx_events.proofs.plain_token.pass_plain_tag.Goals as goal
+use Rattle.nx_events.proofs.plain_token.pass_plain_opening.Goals as goal
 
 pub returns-clause-faults : goal.returns-clause-faults
 returns-clause-faults c = λ _.

@@ -1,6 +1,6 @@
-//! Start tags with one or two attributes, of which one look tells what they give: the names are plain, an attribute's prefix is `xml` or none,
-//! and each byte stands for itself. Most start tags that aren't a name alone are such. So their attributes are asked about as they lie, and
-//! no list of them is made.
+//! Start tags with one or two attributes of which one look tells what they give: names are plain, but that an attribute's may have the
+//! prefix `xml`; nothing is declared, no name comes twice, and each byte stands for itself. In a book most start tags that aren't a name
+//! alone are such. A schema can be asked of their attributes as they lie, and no list of them is made.
 
 ghost use Rattle.std.specs.Prelude.{◌≡◌, ◌∷◌, [], ℕ, true, false, length, IfOk, IfSome};
 ghost use Rattle.std.specs.List.{prefix_len};
@@ -31,7 +31,7 @@ use std::alloc::Global;
 pub struct PlainAttribute<'t> {
     /// Whether its name has the prefix `xml`; else it has none.
     pub is_xml: bool,
-    /// What stands behind the prefix.
+    /// What stands behind the prefix, or the whole name.
     pub local: &'t [u8],
     /// What stands between the quotes, which is its own string.
     pub value: &'t [u8],
@@ -46,7 +46,7 @@ pub struct PlainAttributes<'t> {
 
 /// A start tag with such attributes.
 #[derive(Clone, Copy)]
-pub struct PlainTag<'t> {
+pub struct PlainOpening<'t> {
     /// The name as it is written.
     pub written: &'t [u8],
     pub attributes: PlainAttributes<'t>,
@@ -105,7 +105,7 @@ fn attribute_behind(bytes: &[u8]) -> Option<Front<'_>>
     })
 }
 
-// Whether the two have different names.
+// Whether the two surely have different names.
 fn are_apart(a: &PlainAttribute<'_>, b: &PlainAttribute<'_>) -> bool
     ensures { result ≡ true → has_name (attribute_name a.now ∷ []) (attribute_name b.now) ≡ false }
 {
@@ -137,8 +137,8 @@ fn attributes_in(bytes: &[u8]) -> Option<PlainAttributes<'_>>
     })
 }
 
-/// The name and the attributes of such a tag, in front of the root's end.
-pub fn plain_tag<'t>(state: &EventState, token: &'t Token) -> Option<PlainTag<'t>>
+/// The name and the attributes of a start tag (XML 1.0, 3.1) of which one look tells what it gives, in front of the root's end.
+pub fn plain_opening<'t>(state: &EventState, token: &'t Token) -> Option<PlainOpening<'t>>
     ensures { token.now.kind ≡ kinds.Start →
         IfSome result (λ tag. IsPlainOpening state.now token.now tag.written.now (listed tag.attributes)) }
 {
@@ -155,7 +155,7 @@ pub fn plain_tag<'t>(state: &EventState, token: &'t Token) -> Option<PlainTag<'t
         return None;
     }
     let attributes = attributes_in(&bytes[n..])?;
-    Some(PlainTag {
+    Some(PlainOpening {
         written,
         attributes,
     })

@@ -1,6 +1,6 @@
 use Rattle.std.proofs.Common.{refl, sym, ◌∙◌}
 use Rattle.nx_events.proofs.PlainAttributes.{front_found}
-use Rattle.nx_events.proofs.plain_tag.attribute_behind.Goals as goal
+use Rattle.nx_events.proofs.plain_opening.attribute_behind.Goals as goal
 
 pub returns : goal.returns
 returns c =

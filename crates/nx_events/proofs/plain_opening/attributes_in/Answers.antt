@@ -1,6 +1,6 @@
 use Rattle.std.proofs.Common.{sym, ◌∙◌}
 use Rattle.nx_events.proofs.PlainAttributes.{one_read, two_read}
-use Rattle.nx_events.proofs.plain_tag.attributes_in.Goals as goal
+use Rattle.nx_events.proofs.plain_opening.attributes_in.Goals as goal
 
 pub returns-then-are_between : goal.returns-then-are_between
 returns-then-are_between c = λ plain at.
