@@ -527,7 +527,7 @@ impl<S: Drop> Line<S> {
             return Err(NoMemory);
         }
         let mark = Mark {
-            state: Stored::new(alloc, state)?,
+            state: Stored::new(state),
             len: 0,
             tags: 0,
             faults: Faults::new(alloc),

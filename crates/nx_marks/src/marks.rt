@@ -206,7 +206,7 @@ impl<A: Machine> Marks<A> {
         let first = machine.start(alloc)?;
         Ok(Marks {
             alloc,
-            kept: Kept::start(alloc, Stored::new(alloc, first)?),
+            kept: Kept::start(alloc, Stored::new(first)),
             taken: 0,
             token: Token {
                 kind: TokenKind::Text,

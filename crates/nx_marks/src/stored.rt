@@ -1,4 +1,4 @@
-//! States on the heap.
+//! States of a machine, where they are kept.
 
 ghost use Rattle.std.specs.Prelude.{◌≡◌, ◌+◌, ◌-◌, ◌<◌, ◌≤◌, ◌^◌, ◌++◌, length, IfOk, OnOk, OnErr, IsUtf8};
 ghost use Rattle.nx_base.specs.Rules.{lexeme_of, IsLexeme};
@@ -11,10 +11,10 @@ use nx_base::token::Token;
 use std::alloc::Global;
 use std::marker::Model;
 
-/// A state that lies on the heap, so that a mark is moved as a few words. To a contract it is the state.
+/// A state as it is kept, in its mark: whoever moves marks moves their nodes, so it needs no memory of its own. To a contract it is the state.
 #[derive(Drop)]
 pub struct Stored<S> {
-    pub(crate) inner: Box<S>,
+    inner: S,
 }
 
 impl<S> Model for Stored<S> {
@@ -22,7 +22,7 @@ impl<S> Model for Stored<S> {
 
     ghost coded = { S.code };
 
-    ghost view = { λ stored. stored.inner.value };
+    ghost view = { λ stored. stored.inner };
 }
 
 impl<S> Stored<S> {
@@ -35,13 +35,11 @@ impl<S> Stored<S> {
 }
 
 impl<S: Drop> Stored<S> {
-    /// Puts a state on the heap.
-    pub(crate) fn new(alloc: Global, state: S) -> Result<Stored<S>, NoMemory>
-        ensures { IfOk result (λ stored. stored ≡ state) }
+    /// Keeps a state.
+    pub(crate) fn new(state: S) -> Stored<S>
+        ensures { result ≡ state }
     {
-        Ok(Stored {
-            inner: Box::new(alloc, state)?,
-        })
+        Stored { inner: state }
     }
 }
 
