@@ -2,7 +2,7 @@
 use Rattle.std.proofs.Common.{◌≡◌, ◌∙◌, ℕ, zero, suc, ◌+◌, ◌-◌, ◌<◌, ◌≤◌, Bool, true, false, cond, List, [], ◌∷◌, ◌++◌, length}
 use Rattle.std.proofs.Common.{take, drop, refl, sym, ap, ap₂, arith, append-nil, take_all}
 use Rattle.std.specs.Prelude.{◌==◌}
-use Rattle.std.proofs.lemmas.List.{length-drop, append_assoc, drop-append-le, take-append-drop, length-take-le}
+use Rattle.std.proofs.lemmas.List.{length-drop, append_assoc, drop-append-le, drop-drop, take-append-drop, length-take-le}
 use Rattle.std.proofs.Math.Seq.{drop-append-add}
 use Rattle.memchr.specs.Find.{Passes, Nowhere, NoneBefore, is_byte}
 use Rattle.nx_base.specs.Tokens.{bytes_up_to}
@@ -216,6 +216,29 @@ found_among byte zero xs room less = absurd (omega arith)
 found_among byte (suc n) [] room less = absurd (omega arith)
 found_among byte (suc n) (x ∷ xs) room less =
     front_step (x == byte) n (bytes_up_to byte (take n xs)) (bytes_up_to byte xs) (λ l. found_among byte n xs (omega arith) l) less
+
+-- the byte is looked for in the first lanes behind those that were passed
+module _ (byte passed near : ℕ) (bytes : List ℕ) (room : passed + 16 ≤ length bytes)
+    (is : near ≡ bytes_up_to byte (take 16 (take (length bytes - passed) (drop passed bytes))))
+    (so_far : passed + bytes_up_to byte (drop passed bytes) ≡ bytes_up_to byte bytes) where
+  here : near ≡ bytes_up_to byte (take 16 (drop passed bytes))
+  here = is ∙ ap (λ t. bytes_up_to byte (take 16 t)) (rest_of bytes passed)
+
+  pub near_found : near < 16 → passed + near ≡ bytes_up_to byte bytes
+  near_found less =
+      let len = length-drop passed bytes in
+      let e = found_among byte 16 (drop passed bytes) (omega (arith, len)) (omega (arith, here, less)) in
+      ap (λ k. passed + k) (here ∙ e) ∙ so_far
+
+  pub near_passed : 16 ≤ near → passed + 16 + bytes_up_to byte (drop (passed + 16) bytes) ≡ bytes_up_to byte bytes
+  near_passed more =
+      let rest = drop passed bytes in
+      let len = length-drop passed bytes in
+      let long : length (take 16 rest) ≡ 16 = length-take-le 16 rest (omega (arith, len)) in
+      let e = up_to_in_back byte (take 16 rest) (drop 16 rest) (omega (arith, long, here, more)) in
+      let whole : bytes_up_to byte (take 16 rest ++ drop 16 rest) ≡ bytes_up_to byte rest = ap (bytes_up_to byte) (take-append-drop 16 rest) in
+      let there : bytes_up_to byte (drop 16 rest) ≡ bytes_up_to byte (drop (passed + 16) bytes) = ap (bytes_up_to byte) (drop-drop 16 passed bytes) in
+      omega (arith, long, e, whole, there, so_far)
 
 -- what the mask of one load says
 one_more : (b : Bool) (n m : ℕ) → n ≡ m → cond (not b) (1 + n) 0 ≡ cond b 0 (m + 1)

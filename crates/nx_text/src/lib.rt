@@ -8,7 +8,7 @@ mod gap_buffer;
 pub mod law;
 mod line_feeds;
 mod places;
-mod search;
+pub mod search;
 pub mod text;
 
 pub use text::{Text, TextFault};

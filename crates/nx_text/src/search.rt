@@ -26,22 +26,37 @@ fn lanes_up_to(bytes: &[u8], byte: u8) -> usize
     }
 }
 
-/// How many bytes stand before the first such byte, or in all where there is none. Most texts are short: the byte is looked for in
-/// the first lanes before all others.
-fn up_to_byte(bytes: &[u8], byte: u8) -> usize
+/// How many bytes are looked at so before all others.
+const NEAR: usize = 64;
+
+/// The same where the byte is looked for in all bytes at once, as is worth its while in many of them.
+#[inline(never)]
+fn far_up_to(bytes: &[u8], byte: u8) -> usize
     ensures first { result ≡ bytes_up_to byte bytes.now }
     ensures within { result ≤ length bytes.now }
 {
-    if bytes.len() >= LANES {
-        let near = lanes_up_to(bytes, byte);
-        if near < LANES {
-            return near;
-        }
-    }
     match memchr(byte, bytes) {
         Some(before) => before,
         None => bytes.len(),
     }
+}
+
+/// How many bytes stand before the first such byte, or in all where there is none. Most texts are short: the byte is looked for in
+/// the first few lanes before all others.
+#[inline(always)]
+pub fn up_to_byte(bytes: &[u8], byte: u8) -> usize
+    ensures first { result ≡ bytes_up_to byte bytes.now }
+    ensures within { result ≤ length bytes.now }
+{
+    let mut passed = 0;
+    while passed < NEAR && bytes.len() - passed >= LANES {
+        let near = lanes_up_to(&bytes[passed..], byte);
+        if near < LANES {
+            return passed + near;
+        }
+        passed += LANES;
+    }
+    passed + far_up_to(&bytes[passed..], byte)
 }
 
 /// The bytes from an offset on, as far as they lie in one piece.

@@ -74,6 +74,22 @@ fn as_text(bytes: &[u8]) -> &str
     unsafe { str::from_utf8_unchecked(bytes) }
 }
 
+/// Puts bytes in the place of what a buffer held, in its room. Where it held as many or more they are written over the first of those,
+/// without a look at its room.
+#[inline(always)]
+fn fill(buffer: &mut Vec<u8>, bytes: &[u8]) -> Result<(), AllocError>
+    ensures { OnOk result (buffer.new.items ≡ bytes.now) }
+{
+    if bytes.len() <= buffer.len() {
+        buffer.truncate(bytes.len());
+        buffer.copy_from_slice(bytes);
+        Ok(())
+    } else {
+        buffer.clear();
+        buffer.extend_from_slice(bytes)
+    }
+}
+
 impl Text {
     /// The empty text.
     pub fn new(alloc: Global) -> Text
@@ -179,6 +195,19 @@ impl Text {
         let empty = Bytes::from_vec(self.bytes.no_items());
         let mut buffer = mem::replace(list, empty).into_vec();
         self.bytes.copy_range(from, to, &mut buffer)?;
+        *list = Bytes::from_vec(buffer);
+        Ok(())
+    }
+
+    /// Puts bytes, as those of a piece of the text, in the place of what a list held, in its room. Where there is no memory the list
+    /// may hold anything.
+    #[inline(always)]
+    pub fn copy_piece_into(&self, piece: &[u8], list: &mut Bytes) -> Result<(), NoMemory>
+        ensures { OnOk result (list.new ≡ piece.now) }
+    {
+        let empty = Bytes::from_vec(self.bytes.no_items());
+        let mut buffer = mem::replace(list, empty).into_vec();
+        fill(&mut buffer, piece)?;
         *list = Bytes::from_vec(buffer);
         Ok(())
     }
