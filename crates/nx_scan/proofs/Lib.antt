@@ -8,6 +8,7 @@ pub mod Fitting
 pub mod Joined
 pub mod Marks
 pub mod OwnBytes
+pub mod Pieces
 pub mod Reading
 pub mod Rows
 pub mod Runs

@@ -16,6 +16,7 @@ pub(crate) fn byte_is(text: &Text, at: usize, byte: u8) -> bool
 }
 
 /// Whether the mark stands at the byte offset `at`.
+#[inline(never)]
 pub(crate) fn stands_at(text: &Text, at: usize, mark: &[u8]) -> bool
     requires { at ≤ length text.now }
     ensures stands { result ≡ begins_with mark.now (drop at text.now) }

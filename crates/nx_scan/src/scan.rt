@@ -1,12 +1,13 @@
 //! The token at a place.
 
-ghost use Rattle.std.specs.Prelude.{◌≡◌, ◌+◌, ◌-◌, ◌<◌, ◌≤◌, ◌^◌, ◌==◌, ◌&&◌, length, drop, slice_index, IfOk, OnOk, IfSome};
+ghost use Rattle.std.specs.Prelude.{◌≡◌, ◌+◌, ◌-◌, ◌<◌, ◌≤◌, ◌^◌, ◌==◌, ◌&&◌, length, drop, slice_index, slice_range, IfOk, OnOk, IfSome};
 ghost use Rattle.std.specs.Bool.{OnTrue};
 ghost use Rattle.std.specs.Str.{IsUtf8};
 ghost use Rattle.nx_base.specs.Characters.{is_space};
 ghost use Rattle.nx_base.specs.Text.{IsPlace};
-ghost use Rattle.nx_base.specs.Tokens.{CutAt, cut, cut_as, begins_with, begins_declaration, order_mark, first_token, markup, instruction};
+ghost use Rattle.nx_base.specs.Tokens.{CutAt, cut, cut_as, bytes_up_to, begins_with, begins_declaration, order_mark, first_token, markup, instruction};
 ghost use Rattle.nx_base.specs.Tokens.{doctype, closed, unclosed, bad_rest, tag, tags, end_of};
+ghost use Rattle.nx_text.specs.Reading.{StandFrom};
 ghost use Rattle.nx_scan.specs.Ending.{EndsAt};
 
 use crate::doctype::doctype_end;
@@ -18,6 +19,7 @@ use nx_base::memory::NoMemory;
 use nx_base::sequence::Bytes;
 use nx_base::steps::Steps;
 use nx_base::token::{Token, TokenKind};
+use nx_text::search::up_to_byte;
 use nx_text::text::Text;
 use std::alloc::Global;
 use std::sync::ledger::Ledger;
@@ -163,25 +165,6 @@ fn tag_end(text: &Text, at: usize) -> End
     bad_end(text, part.place)
 }
 
-/// A tag that is a name alone, `<name>` or `</name>`, where all its characters have one byte and lie in one piece of the text. Most tags
-/// are such, and are read at once. A `<` stands at `at`.
-fn named_tag_end(text: &Text, at: usize) -> Option<End>
-    requires utf8 { IsUtf8 text.now }
-    requires within { at < length text.now }
-    requires fits { at + 1 < 2 ^ 64 }
-    requires open { slice_index text.now at ≡ 60 }
-    ensures { IfSome result (EndsAt text.now at (tag tags (drop at text.now))) }
-{
-    let piece = text.piece_at(at + 1);
-    if !piece.is_empty() && piece[0] == b'/' {
-        let close = closed_name(piece, 1)?;
-        Some(End::new(TokenKind::End, at + 1 + close + 1))
-    } else {
-        let close = closed_name(piece, 0)?;
-        Some(End::new(TokenKind::Start, at + 1 + close + 1))
-    }
-}
-
 /// A token that begins with `<`, which stands at `at`, by its mark.
 fn marked_end(text: &Text, at: usize) -> End
     requires utf8 { IsUtf8 text.now }
@@ -203,7 +186,8 @@ fn marked_end(text: &Text, at: usize) -> End
     }
 }
 
-/// A token that begins with `<`, which stands at `at`. Most are tags, where no byte of another mark follows.
+/// A token that begins with `<`, which stands at `at`.
+#[inline(never)]
 fn markup_end(text: &Text, at: usize) -> End
     requires utf8 { IsUtf8 text.now }
     requires within { at < length text.now }
@@ -216,9 +200,30 @@ fn markup_end(text: &Text, at: usize) -> End
     } else if byte_is(text, at + 1, b'?') {
         marked_end(text, at)
     } else {
-        match named_tag_end(text, at) {
-            Some(end) => end,
-            None => tag_end(text, at),
+        tag_end(text, at)
+    }
+}
+
+/// The same where these bytes stand behind the `<`. Most are tags that are a name alone, `<name>` or `</name>`, where all its characters
+/// have one byte and stand here, and are read at once.
+#[inline(always)]
+fn near_markup_end(text: &Text, at: usize, behind: &[u8]) -> End
+    requires utf8 { IsUtf8 text.now }
+    requires within { at < length text.now }
+    requires open { slice_index text.now at ≡ 60 }
+    requires behind { StandFrom text.now (at + 1) behind.now }
+    requires fits { at + 1 + length behind.now < 2 ^ 64 }
+    ensures { EndsAt text.now at (markup (drop at text.now)) result }
+{
+    if !behind.is_empty() && behind[0] == b'/' {
+        match closed_name(behind, 1) {
+            Some(close) => End::new(TokenKind::End, at + 1 + close + 1),
+            None => markup_end(text, at),
+        }
+    } else {
+        match closed_name(behind, 0) {
+            Some(close) => End::new(TokenKind::Start, at + 1 + close + 1),
+            None => markup_end(text, at),
         }
     }
 }
@@ -236,25 +241,75 @@ fn at_order_mark(text: &Text, at: usize) -> bool
     }
 }
 
-/// The token at a place in front of the end.
-fn token_end(text: &Text, at: usize) -> End
+/// Character data from `at` on, where no `<` stands.
+#[inline(never)]
+fn text_end(text: &Text, at: usize) -> End
+    requires { at ≤ length text.now }
+    ensures kind { result.kind ≡ TokenKind.Text }
+    ensures first { result.place ≡ at + bytes_up_to 60 (drop at text.now) }
+{
+    End::new(TokenKind::Text, find_byte(text, at, b'<'))
+}
+
+/// The token at a place in front of the end, where these bytes stand. They tell all of most tokens; what they don't tell is looked for
+/// in the text.
+#[inline(always)]
+fn token_end(text: &Text, at: usize, piece: &[u8]) -> End
     requires utf8 { IsUtf8 text.now }
     requires within { at < length text.now }
-    requires fits { at + 1 < 2 ^ 64 }
+    requires piece { StandFrom text.now at piece.now }
+    requires some { 0 < length piece.now }
+    requires fits { at + length piece.now < 2 ^ 64 }
     ensures { EndsAt text.now at (first_token (at == 0) (drop at text.now)) result }
 {
     if at_order_mark(text, at) {
-        End {
+        return End {
             kind: TokenKind::Bom,
             place: 3,
-        }
-    } else if byte_is(text, at, b'<') {
-        markup_end(text, at)
+        };
+    }
+    if piece[0] == b'<' {
+        return near_markup_end(text, at, &piece[1..]);
+    }
+    let len = up_to_byte(piece, b'<');
+    if len < piece.len() {
+        End::new(TokenKind::Text, at + len)
     } else {
-        End {
-            kind: TokenKind::Text,
-            place: find_byte(text, at, b'<'),
-        }
+        text_end(text, at)
+    }
+}
+
+/// Puts the bytes of a token that lies over the gap of the text in the place of what a list held.
+#[inline(never)]
+fn copy_far(text: &Text, at: usize, to: usize, list: &mut Bytes) -> Result<(), NoMemory>
+    requires from { IsPlace text.now at }
+    requires to { IsPlace text.now to }
+    requires ordered { at ≤ to }
+    ensures { OnOk result (list.new ≡ slice_range text.now at to) }
+{
+    text.copy_range_into(at, to, list)
+}
+
+/// Puts the bytes from one place to another in the place of what a list held, where these bytes stand at the first.
+#[inline(always)]
+fn copy_near(
+    text: &Text,
+    at: usize,
+    piece: &[u8],
+    to: usize,
+    list: &mut Bytes,
+) -> Result<(), NoMemory>
+    requires from { IsPlace text.now at }
+    requires to { IsPlace text.now to }
+    requires ordered { at ≤ to }
+    requires piece { StandFrom text.now at piece.now }
+    ensures { OnOk result (list.new ≡ slice_range text.now at to) }
+{
+    let len = to - at;
+    if len <= piece.len() {
+        text.copy_piece_into(&piece[..len], list)
+    } else {
+        copy_far(text, at, to, list)
     }
 }
 
@@ -304,9 +359,10 @@ pub fn scan_token_into<L: Ledger>(
     steps.tick();
     // A length that is read is known to be that of UTF-8, and to fit.
     let _len = text.len();
-    let end = token_end(text, at);
+    let piece = text.piece_at(at);
+    let end = token_end(text, at, piece);
     token.kind = end.kind;
     token.from = at;
-    text.copy_range_into(at, end.place, &mut token.bytes)?;
+    copy_near(text, at, piece, end.place, &mut token.bytes)?;
     Ok(())
 }

@@ -26,7 +26,7 @@ fn is_name_first(byte: u8) -> bool
     ensures low { OnTrue result (byte < 128) }
     ensures first { OnTrue result (IsTrue (is_name_start byte)) }
 {
-    matches!(byte, b'a'..=b'z' | b'A'..=b'Z' | b'_' | b':')
+    byte.is_ascii_lowercase() || matches!(byte, b'A'..=b'Z' | b'_' | b':')
 }
 
 /// Whether a name goes on with the byte, which is a character of its own.
@@ -46,6 +46,7 @@ fn is_in_value(byte: u8, quote: u8) -> bool
 }
 
 /// How many bytes of a name stand in front, looked at one by one.
+#[inline(never)]
 fn short_name_len(bytes: &[u8]) -> usize
     ensures len { result ≡ prefix_len is_name_byte bytes.now }
     ensures within { result ≤ length bytes.now }
@@ -54,6 +55,7 @@ fn short_name_len(bytes: &[u8]) -> usize
 }
 
 /// How many bytes of a name stand in front. Most names end in the first lanes.
+#[inline(always)]
 fn name_len(bytes: &[u8]) -> usize
     ensures len { result ≡ prefix_len is_name_byte bytes.now }
     ensures within { result ≤ length bytes.now }
@@ -70,6 +72,7 @@ fn name_len(bytes: &[u8]) -> usize
 
 /// The index of the `>` that closes a name which begins at `from`; none where something else stands there or behind the name, or one of
 /// its characters has more than one byte.
+#[inline(always)]
 pub(crate) fn closed_name(bytes: &[u8], from: usize) -> Option<usize>
     ensures { IfSome result (IsClosedName bytes.now from) }
 {

@@ -1,21 +1,30 @@
-use Rattle.std.proofs.Common.{sym, ◌∙◌}
-use Rattle.nx_scan.proofs.Marks.{byte-here}
-use Rattle.nx_scan.proofs.Rows.{token-order_mark, token-markup, token-text}
+use Rattle.std.proofs.Common.{sym, ◌∙◌, arith}
+use Rattle.std.proofs.lemmas.Bool.{eq-eqb, ne_eqb}
+use Rattle.nx_scan.proofs.Pieces.{first-is, found-here, text-ends}
+use Rattle.nx_scan.proofs.Rows.{token-order_mark, token-markup}
 use Rattle.nx_scan.proofs.scan.token_end.Goals as goal
-
-pub markup_end-requires-clause-open : goal.markup_end-requires-clause-open
-markup_end-requires-clause-open c = byte-here 60 c.args.text.now c.args.at (sym c.byte_is.ensures ∙ c.if-byte_is.true)
 
 pub returns-then-at_order_mark : goal.returns-then-at_order_mark
 returns-then-at_order_mark c =
     token-order_mark c.args.text.now c.args.at c.requires.utf8 (sym c.at_order_mark.ensures.begins ∙ c.if-at_order_mark.true)
 
-pub returns-then-byte_is : goal.returns-then-byte_is
-returns-then-byte_is c =
-    token-markup c.args.text.now c.args.at c.markup_end.result (sym c.at_order_mark.ensures.begins ∙ c.if-at_order_mark.false)
-    (sym c.byte_is.ensures ∙ c.if-byte_is.true) c.markup_end.ensures
+pub returns-then-piece-eq60 : goal.returns-then-piece-eq60
+returns-then-piece-eq60 c =
+    token-markup c.args.text.now c.args.at c.near_markup_end.result (sym c.at_order_mark.ensures.begins ∙ c.if-at_order_mark.false)
+    (first-is c.args.text.now c.args.piece.now c.args.at 60 c.requires.piece c.requires.some ∙ eq-eqb _ _ c.if-piece-eq60.true)
+    c.near_markup_end.ensures
 
-pub returns-else-byte_is : goal.returns-else-byte_is
-returns-else-byte_is c =
-    token-text c.args.text.now c.args.at c.find_byte.result (sym c.at_order_mark.ensures.begins ∙ c.if-at_order_mark.false)
-    (sym c.byte_is.ensures ∙ c.if-byte_is.false) c.find_byte.ensures.first c.find_byte.ensures.within c.find_byte.ensures.stands
+pub returns-then-len-piece : goal.returns-then-len-piece
+returns-then-len-piece c =
+    text-ends c.args.text.now c.args.at c.new.result (sym c.at_order_mark.ensures.begins ∙ c.if-at_order_mark.false)
+    (first-is c.args.text.now c.args.piece.now c.args.at 60 c.requires.piece c.requires.some ∙ ne_eqb _ _ c.if-piece-eq60.false)
+    (omega arith) c.new.ensures.kind
+    (c.new.ensures.place
+    ∙ found-here 60 c.args.text.now c.args.piece.now c.args.at c.up_to_byte-len.result c.requires.piece c.up_to_byte-len.ensures.first
+    c.if-len-piece.true)
+
+pub returns-else-len-piece : goal.returns-else-len-piece
+returns-else-len-piece c =
+    text-ends c.args.text.now c.args.at c.text_end.result (sym c.at_order_mark.ensures.begins ∙ c.if-at_order_mark.false)
+    (first-is c.args.text.now c.args.piece.now c.args.at 60 c.requires.piece c.requires.some ∙ ne_eqb _ _ c.if-piece-eq60.false)
+    (omega arith) c.text_end.ensures.kind c.text_end.ensures.first
