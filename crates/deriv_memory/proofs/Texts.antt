@@ -1,5 +1,5 @@
 -- Keys that hold texts, read as texts.
-use Rattle.std.proofs.Common.{◌≡◌, ℕ, zero, suc, ◌+◌, ◌<◌, ◌≤◌, List, [], ◌∷◌, length, map, refl, sym, ap, ◌∙◌, arith, Option, Some, None, slice_get, slice_index_or, get_or, Bool, true, false, not, cond, nat_eq, nat_lt, IfSome, IfNone, true≢false}
+use Rattle.std.proofs.Common.{◌≡◌, ◌↔◌, ℕ, zero, suc, ◌+◌, ◌<◌, ◌≤◌, List, [], ◌∷◌, length, map, refl, sym, ap, ◌∙◌, arith, Option, Some, None, slice_get, slice_index_or, get_or, Bool, true, false, not, cond, nat_eq, nat_lt, IfSome, IfNone, IsTrue, true≢false}
 use Rattle.std.specs.Cmp.Lexicographic.{pointwise, bytes_decides}
 use Rattle.std.specs.List.{IsDistinct, AllByRecursion, position, position_or_len}
 use Rattle.std.proofs.lemmas.Grind.{common_steps}
@@ -52,11 +52,12 @@ module _ {K : Type 0} (f : K → List ℕ) where
       let at = stored ks n k there in
       record { there = at.0; meaning = at.1 ∙ (sym ((bytes_decides own (f k)).0 same) ∙ is) }
 
-  -- a text that is compared with the key of a number
-  pub compared_text : (ks : List K) (n : ℕ) (k : K) (text own : List ℕ) (same : Bool) → slice_get ks n ≡ Some k → own ≡ f k
-      → same ≡ pointwise nat_eq text own → same ≡ true → IsText (map f ks) text n
-  compared_text ks n k text own same there is compared so =
-      text_stored ks n k text text refl there (ap (pointwise nat_eq text) (sym is) ∙ (sym compared ∙ so))
+  -- a text that equals the key of a number
+  pub equal_text : (ks : List K) (n : ℕ) (k : K) (text own : List ℕ) (same : Bool) → slice_get ks n ≡ Some k → own ≡ f k
+      → IsTrue same ↔ (text ≡ own) → IsTrue same → IsText (map f ks) text n
+  equal_text ks n k text own same there is told so =
+      let at = stored ks n k there in
+      record { there = at.0; meaning = at.1 ∙ (sym is ∙ sym (told.0 so)) }
 
   found_at : (texts : List (List ℕ)) (text : List ℕ) (r : Option ℕ) → r ≡ position (pointwise nat_eq text) texts → IfSome r (IsText texts text)
   found_at texts text None e = tt

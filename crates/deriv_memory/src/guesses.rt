@@ -22,11 +22,13 @@ pub fn narrowed(guess: usize) -> u32 {
 }
 
 // The kind of a text with these ends.
+#[inline(always)]
 fn kind(length: usize, first: u8, last: u8) -> usize {
     ((length % 8 * 32) ^ (first as usize) ^ (last as usize * 8)) % KINDS
 }
 
 // The kind of a text; none where it is empty.
+#[inline(always)]
 fn kind_of(text: &[u8]) -> Option<usize> {
     let first = text.first()?;
     let last = text.last()?;
@@ -42,6 +44,7 @@ impl Guesses {
     }
 
     /// The number that a text may have. The empty one, as no namespace, mostly was kept first.
+    #[inline(always)]
     pub fn of(&self, text: &[u8]) -> usize {
         match kind_of(text) {
             Some(kind) => self.at(kind),
@@ -50,6 +53,7 @@ impl Guesses {
     }
 
     // The guess for a kind.
+    #[inline(always)]
     fn at(&self, kind: usize) -> usize {
         match self.numbers.as_slice().get(kind) {
             Some(number) => *number as usize,

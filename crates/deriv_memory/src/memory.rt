@@ -8,6 +8,7 @@ use crate::asked::Asked;
 use crate::guesses::Guesses;
 use crate::places::Places;
 use indexmap::{IndexMap, IndexSet};
+use nx_base::equal::same_each;
 use nx_base::memory::NoMemory;
 use nx_base::name::Name;
 use std::alloc::Global;
@@ -47,18 +48,20 @@ impl Memory {
         }
     }
 
-    // Whether a text is the one that has this number.
+    // Whether a text is the one that has this number. Names are short, so bytes are compared one by one.
+    #[inline(always)]
     fn has_number(&self, text: &[u8], number: usize) -> bool
         ensures once { AreOnce self.now.texts }
         ensures has { IsTrue result → IsText self.now.texts text.now number }
     {
         match self.texts.get_index(number) {
-            Some(kept) => text == kept.as_slice(),
+            Some(kept) => same_each(text, kept.as_slice()),
             None => false,
         }
     }
 
     /// The number of a text, if it is kept.
+    #[inline(always)]
     pub fn text_number(&self, text: &[u8]) -> Option<usize>
         ensures once { AreOnce self.now.texts }
         ensures found { IfSome result (IsText self.now.texts text.now) }
