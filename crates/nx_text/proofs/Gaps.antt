@@ -2,7 +2,7 @@
 use Rattle.std.proofs.Common.{◌≡◌, ◌∙◌, ℕ, ◌+◌, ◌-◌, ◌<◌, ◌≤◌, List, [], ◌++◌, length, take, drop, sym, ap, ap₂, arith, append_assoc, drop_at}
 use Rattle.std.proofs.Common.{length-append, length-take-le, drop-drop, take_all}
 use Rattle.std.specs.Prelude.{slice_range}
-use Rattle.std.proofs.lemmas.List.{drop-append-le, take-append-le, drop-take, length-drop}
+use Rattle.std.proofs.lemmas.List.{drop-append-le, take-append-le, take-append-drop, drop-take, length-drop}
 use Rattle.std.proofs.Math.Seq.{paste, take-append_seam, drop-append-add, take-append-add, take-paste}
 use Rattle.std.proofs.lemmas.Slice.{drop-put_mid}
 use borrow.Rule.Slice.PartMut.{put_mid, same_len_mid, mid_len}
@@ -128,3 +128,14 @@ module _ {A : Type 0} where
       whole ∙ ap₂ (λ s t. take (length s - from) (drop from s) ++ take (to - start) t) is_front is_back
       ∙ ap (λ t. t ++ take (to - start) back) all ∙ ap (λ k. drop from front ++ take (to - k) back) (sym len)
       ∙ sym (range_of_both front back from to (omega arith) (omega arith))
+
+  -- the first items of a list whose front lies in two parts
+  pub front_of_parts : (a b n : ℕ) (xs first rest second : List A) → first ≡ take a xs → rest ≡ drop a xs → second ≡ take b rest
+      → a ≤ length xs → b ≤ length rest → n ≤ a + b → take n (first ++ second) ≡ take n xs
+  front_of_parts a b n xs first rest second f r s some more few =
+      let whole : (first ++ second) ++ drop b rest ≡ xs =
+      append_assoc first second (drop b rest) ∙ ap (λ t. first ++ (t ++ drop b rest)) s ∙ ap (λ t. first ++ t) (take-append-drop b rest)
+      ∙ ap₂ (λ t u. t ++ u) f r ∙ take-append-drop a xs in
+      let long : length (first ++ second) ≡ a + b =
+      length-append first second ∙ ap₂ (λ i j. i + j) (ap length f ∙ length-take-le a xs some) (ap length s ∙ length-take-le b rest more) in
+      sym (take-append-le n (first ++ second) (drop b rest) (omega (arith, long, few))) ∙ ap (take n) whole

@@ -4,6 +4,7 @@
 #![tactic(auto)]
 
 mod apart;
+mod fill;
 mod gap_buffer;
 pub mod law;
 mod line_feeds;

@@ -1,6 +1,6 @@
 //! A text that is edited at its places.
 
-ghost use Rattle.std.specs.Prelude.{◌≡◌, ◌+◌, ◌<◌, ◌≤◌, ◌^◌, ◌↔◌, [], ◌++◌, length, drop, encode_utf8, slice_get, slice_range};
+ghost use Rattle.std.specs.Prelude.{◌≡◌, ◌+◌, ◌<◌, ◌≤◌, ◌^◌, ◌↔◌, [], ◌++◌, length, take, drop, encode_utf8, slice_get, slice_range};
 ghost use Rattle.std.specs.Prelude.{IsTrue, IfOk, OnOk, OnSome, IfSome, MatchOption};
 ghost use Rattle.nx_text.specs.Borders.{IsNextBorder, IsPreviousBorder};
 ghost use Rattle.nx_text.specs.Places.{line_at, column_at};
@@ -11,6 +11,7 @@ ghost use Rattle.nx_text.specs.Editing.{Inserts, Deletes, IsRange};
 ghost use Rattle.nx_text.specs.Reading.{StandsAt, HasNoCharAt, StandFrom};
 
 use crate::apart::{self, next_border, previous_border};
+use crate::fill::filled;
 use crate::gap_buffer::GapBuffer;
 use crate::line_feeds::{count_feeds, feeds_before, move_gaps, push_feeds, take_out};
 use crate::places::{column_in, has_feed};
@@ -72,22 +73,6 @@ fn as_text(bytes: &[u8]) -> &str
     ensures { result.now ≡ bytes.now }
 {
     unsafe { str::from_utf8_unchecked(bytes) }
-}
-
-/// Puts bytes in the place of what a buffer held, in its room. Where it held as many or more they are written over the first of those,
-/// without a look at its room.
-#[inline(always)]
-fn fill(buffer: &mut Vec<u8>, bytes: &[u8]) -> Result<(), AllocError>
-    ensures { OnOk result (buffer.new.items ≡ bytes.now) }
-{
-    if bytes.len() <= buffer.len() {
-        buffer.truncate(bytes.len());
-        buffer.copy_from_slice(bytes);
-        Ok(())
-    } else {
-        buffer.clear();
-        buffer.extend_from_slice(bytes)
-    }
 }
 
 impl Text {
@@ -199,16 +184,21 @@ impl Text {
         Ok(())
     }
 
-    /// Puts bytes, as those of a piece of the text, in the place of what a list held, in its room. Where there is no memory the list
-    /// may hold anything.
+    /// Puts the first so many bytes of a piece of the text in the place of what a list held, in its room. Where there is no memory the
+    /// list may hold anything.
     #[inline(always)]
-    pub fn copy_piece_into(&self, piece: &[u8], list: &mut Bytes) -> Result<(), NoMemory>
-        ensures { OnOk result (list.new ≡ piece.now) }
+    pub fn copy_piece_into(
+        &self,
+        piece: &[u8],
+        len: usize,
+        list: &mut Bytes,
+    ) -> Result<(), NoMemory>
+        requires { len ≤ length piece.now }
+        ensures { OnOk result (list.new ≡ take len piece.now) }
     {
         let empty = Bytes::from_vec(self.bytes.no_items());
-        let mut buffer = mem::replace(list, empty).into_vec();
-        fill(&mut buffer, piece)?;
-        *list = Bytes::from_vec(buffer);
+        let buffer = mem::replace(list, empty).into_vec();
+        *list = Bytes::from_vec(filled(buffer, piece, len)?);
         Ok(())
     }
 

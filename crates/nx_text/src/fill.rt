@@ -1,0 +1,67 @@
+//! Buffers that are filled anew in the room that they have.
+
+ghost use Rattle.std.specs.Prelude.{◌≡◌, ◌+◌, ◌≤◌, ◌++◌, length, take, vec_len, vec_capacity, IfOk};
+
+use std::alloc::AllocError;
+
+/// How many bytes are written at once.
+const LANES: usize = 16;
+
+/// How many bytes are written where no more are wanted.
+const FEW: usize = 32;
+
+/// Puts sixteen bytes behind those of a buffer that has room for them, by a single store.
+#[inline(always)]
+fn push_lanes(buffer: &mut Vec<u8>, lanes: [u8; LANES])
+    requires { vec_len buffer.old + 16 ≤ vec_capacity buffer.old }
+    ensures items { buffer.new.items ≡ buffer.old.items ++ lanes }
+    ensures capacity { vec_capacity buffer.new ≡ vec_capacity buffer.old }
+{
+    let mut pushed = 0;
+    while pushed < LANES {
+        buffer.push_reserved(lanes[pushed]);
+        pushed += 1;
+    }
+}
+
+/// The first so many of these bytes, in a buffer that has room for all of them. All are written, as that takes fewer steps than to ask
+/// how many are wanted.
+#[inline(always)]
+fn filled_with_few(buffer: Vec<u8>, first: [u8; LANES], second: [u8; LANES], len: usize) -> Vec<u8>
+    requires { 32 ≤ vec_capacity buffer }
+    ensures { result.items ≡ take len (first ++ second) }
+{
+    let mut buffer = buffer;
+    buffer.clear();
+    push_lanes(&mut buffer, first);
+    push_lanes(&mut buffer, second);
+    buffer.truncate(len);
+    buffer
+}
+
+/// These bytes, in a buffer that may have to get more room.
+#[inline(never)]
+fn filled_with_all(buffer: Vec<u8>, bytes: &[u8]) -> Result<Vec<u8>, AllocError>
+    ensures { IfOk result (λ filled. filled.items ≡ bytes.now) }
+{
+    let mut buffer = buffer;
+    buffer.clear();
+    buffer.extend_from_slice(bytes)?;
+    Ok(buffer)
+}
+
+/// The first so many bytes of a piece, in a buffer that held others. It keeps its room.
+#[inline(always)]
+pub(crate) fn filled(buffer: Vec<u8>, piece: &[u8], len: usize) -> Result<Vec<u8>, AllocError>
+    requires { len ≤ length piece.now }
+    ensures { IfOk result (λ filled. filled.items ≡ take len piece.now) }
+{
+    if len <= FEW && FEW <= buffer.capacity() {
+        if let Some((first, rest)) = piece.split_first_chunk::<LANES>() {
+            if let Some(second) = rest.first_chunk::<LANES>() {
+                return Ok(filled_with_few(buffer, *first, *second, len));
+            }
+        }
+    }
+    filled_with_all(buffer, &piece[..len])
+}
