@@ -54,7 +54,7 @@ by_state f s t state = ap f state
 by_name : (f : ℕ → ℕ → ℕ → Asked) (s t m n i j : ℕ) → s ≡ t → m ≡ n → i ≡ j → f s m i ≡ f t n j
 by_name f s t m n i j state ns local = ap (λ x. f x m i) state ∙ (ap (λ x. f t x i) ns ∙ ap (λ x. f t n x) local)
 
-by_parts : (a b : Asked) → form_of a ≡ form_of b → state_of a ≡ state_of b → ns_of a ≡ ns_of b → local_of a ≡ local_of b → a ≡ b
+pub by_parts : (a b : Asked) → form_of a ≡ form_of b → state_of a ≡ state_of b → ns_of a ≡ ns_of b → local_of a ≡ local_of b → a ≡ b
 by_parts (asked.Enter s m i) (asked.Enter t n j) form state ns local = by_name (λ x y z. asked.Enter x y z) s t m n i j state ns local
 by_parts (asked.TagEnd s) (asked.TagEnd t) form state ns local = by_state (λ x. asked.TagEnd x) s t state
 by_parts (asked.Leave s) (asked.Leave t) form state ns local = by_state (λ x. asked.Leave x) s t state

@@ -1,2 +1,3 @@
+pub mod AtHand
 pub mod Calls
 pub mod Remembered

@@ -29,7 +29,7 @@ pub enum Asked {
 
 impl Asked {
     /// A number for each form.
-    fn form(&self) -> u8
+    pub fn form(&self) -> u8
         ensures { result ≡ form_of self.now }
     {
         match self {
@@ -58,8 +58,18 @@ impl Asked {
         }
     }
 
+    /// Whether there is a name.
+    pub fn has_name(&self) -> bool {
+        match self {
+            Asked::Enter(_, _, _) => true,
+            Asked::BlankValue(_, _, _) => true,
+            Asked::SolidValue(_, _, _) => true,
+            _ => false,
+        }
+    }
+
     /// The number of the name's namespace; 0 where there is no name.
-    fn ns(&self) -> usize
+    pub fn ns(&self) -> usize
         ensures { result ≡ ns_of self.now }
     {
         match self {
@@ -71,7 +81,7 @@ impl Asked {
     }
 
     /// The number of the name's local part; 0 where there is no name.
-    fn local(&self) -> usize
+    pub fn local(&self) -> usize
         ensures { result ≡ local_of self.now }
     {
         match self {

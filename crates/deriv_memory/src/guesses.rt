@@ -16,8 +16,8 @@ pub struct Guesses {
     numbers: Vec<u32>,
 }
 
-/// A guess in half of its memory. What doesn't fit is a wrong guess.
-pub fn narrowed(guess: usize) -> u32 {
+// A guess in half of its memory. What doesn't fit is a wrong guess.
+fn narrowed(guess: usize) -> u32 {
     u32::try_from(guess).unwrap_or(0)
 }
 

@@ -6,6 +6,6 @@
 #![tactic(auto)]
 
 pub mod asked;
+mod at_hand;
 mod guesses;
 pub mod memory;
-mod places;

@@ -2,11 +2,12 @@
 
 ghost use Rattle.std.specs.Prelude.{◌≡◌, ℕ, [], Some, None, Ok, Option, IfOk, IfSome, IfNone, OnOk, OnErr, IsTrue};
 ghost use Rattle.deriv_memory.specs.declared.asked.Asked.{Asked as TheAsked};
+ghost use Rattle.deriv_memory.specs.declared.asked.Asked.TheVariants as calls;
 ghost use Rattle.deriv_memory.specs.Remembered.{noted, IsText, IsName, AreOnce, IsAtMostOneMore, AreAtMostTwoMore, LaterMemory, IsNoted};
 
 use crate::asked::Asked;
+use crate::at_hand::AtHand;
 use crate::guesses::Guesses;
-use crate::places::Places;
 use indexmap::{IndexMap, IndexSet};
 use nx_base::equal::same_each;
 use nx_base::memory::NoMemory;
@@ -20,18 +21,19 @@ pub struct Memory {
     texts: IndexSet<Vec<u8>>,
     guesses: Guesses,
     answers: IndexMap<Asked, Option<usize>>,
-    places: Places,
+    at_hand: AtHand,
 }
 
 impl Model for Memory {
     ghost use Rattle.std.specs.Prelude.{map};
+    ghost use Rattle.deriv_memory.specs.AtHand.{AreNoted};
     ghost use Rattle.deriv_memory.specs.Remembered.{Remembered, AreOnce};
 
     ghost Value = { Remembered };
 
     ghost view = { λ m. record { texts = map (λ t. t.items) m.texts.keys; answers = m.answers.entries } };
 
-    ghost invariant = { λ m. AreOnce (map (λ t. t.items) m.texts.keys) };
+    ghost invariant = { λ m. AreOnce (map (λ t. t.items) m.texts.keys) × AreNoted m.answers.entries m.at_hand };
 }
 
 impl Memory {
@@ -44,7 +46,7 @@ impl Memory {
             texts: IndexSet::new(alloc),
             guesses: Guesses::new(alloc),
             answers: IndexMap::new(alloc),
-            places: Places::new(alloc),
+            at_hand: AtHand::new(alloc),
         }
     }
 
@@ -137,22 +139,105 @@ impl Memory {
         Ok((ns, local))
     }
 
-    // The answer that stands where this call's is looked for first, if it is this call's.
-    fn at_place(&self, call: &Asked) -> Option<Option<usize>>
-        ensures { IfSome result (λ answer. noted self.now call.now ≡ Some answer) }
-    {
-        let place = self.places.of(call)?;
-        let (other, answer) = self.answers.get_index(place)?;
-        if other == call { Some(*answer) } else { None }
-    }
-
     /// The answer that was noted of a call, which may be that there is no state; none where nothing was noted.
     pub fn recalled(&self, call: Asked) -> Option<Option<usize>>
         ensures { result ≡ noted self.now call }
     {
-        match self.at_place(&call) {
+        match call {
+            Asked::Enter(state, ns, local) => self.recalled_enter(state, ns, local),
+            Asked::TagEnd(state) => self.recalled_tag_end(state),
+            Asked::Leave(state) => self.recalled_leave(state),
+            Asked::Blank(state) => self.recalled_blank(state),
+            Asked::Solid(state) => self.recalled_solid(state),
+            Asked::BlankValue(state, ns, local) => self.recalled_blank_value(state, ns, local),
+            Asked::SolidValue(state, ns, local) => self.recalled_solid_value(state, ns, local),
+        }
+    }
+
+    /// The answer that was noted of the start of an element.
+    #[inline(always)]
+    pub fn recalled_enter(&self, state: usize, ns: usize, local: usize) -> Option<Option<usize>>
+        ensures { result ≡ noted self.now (calls.Enter state ns local) }
+    {
+        match self.at_hand.entered(state, ns, local) {
             Some(answer) => Some(answer),
-            None => self.searched(&call),
+            None => self.searched(&Asked::Enter(state, ns, local)),
+        }
+    }
+
+    /// The answer that was noted of the end of a start tag.
+    #[inline(always)]
+    pub fn recalled_tag_end(&self, state: usize) -> Option<Option<usize>>
+        ensures { result ≡ noted self.now (calls.TagEnd state) }
+    {
+        match self.at_hand.tag_end(state) {
+            Some(answer) => Some(answer),
+            None => self.searched(&Asked::TagEnd(state)),
+        }
+    }
+
+    /// The answer that was noted of the end of an element.
+    #[inline(always)]
+    pub fn recalled_leave(&self, state: usize) -> Option<Option<usize>>
+        ensures { result ≡ noted self.now (calls.Leave state) }
+    {
+        match self.at_hand.leave(state) {
+            Some(answer) => Some(answer),
+            None => self.searched(&Asked::Leave(state)),
+        }
+    }
+
+    /// The answer that was noted of blank strings.
+    #[inline(always)]
+    pub fn recalled_blank(&self, state: usize) -> Option<Option<usize>>
+        ensures { result ≡ noted self.now (calls.Blank state) }
+    {
+        match self.at_hand.blank(state) {
+            Some(answer) => Some(answer),
+            None => self.searched(&Asked::Blank(state)),
+        }
+    }
+
+    /// The answer that was noted of other strings.
+    #[inline(always)]
+    pub fn recalled_solid(&self, state: usize) -> Option<Option<usize>>
+        ensures { result ≡ noted self.now (calls.Solid state) }
+    {
+        match self.at_hand.solid(state) {
+            Some(answer) => Some(answer),
+            None => self.searched(&Asked::Solid(state)),
+        }
+    }
+
+    /// The answer that was noted of an attribute's blank values.
+    #[inline(always)]
+    pub fn recalled_blank_value(
+        &self,
+        state: usize,
+        ns: usize,
+        local: usize,
+    ) -> Option<Option<usize>>
+        ensures { result ≡ noted self.now (calls.BlankValue state ns local) }
+    {
+        match self.at_hand.blank_value(state, ns, local) {
+            Some(answer) => Some(answer),
+            None => self.searched(&Asked::BlankValue(state, ns, local)),
+        }
+    }
+
+    /// The answer that was noted of an attribute's other values.
+    #[inline(always)]
+    pub fn recalled_solid_value(
+        &self,
+        state: usize,
+        ns: usize,
+        local: usize,
+    ) -> Option<Option<usize>>
+        ensures { result ≡ noted self.now (calls.SolidValue state ns local) }
+    {
+        match self.at_hand.solid_value(state, ns, local) {
+            Some(answer) => Some(answer),
+            None => self.searched(&Asked::SolidValue(state, ns, local)),
         }
     }
 
@@ -172,8 +257,17 @@ impl Memory {
         ensures made { OnOk result (IsNoted self.old self.new call answer) }
         ensures refused { OnErr result (self.new ≡ self.old) }
     {
-        self.places.put(&call, self.answers.len())?;
-        self.answers.insert(call, answer)?;
-        Ok(())
+        self.at_hand.make_room(&call)?;
+        match self.answers.insert(call, answer)? {
+            None => {
+                self.at_hand.put(&call, answer);
+                Ok(())
+            }
+            Some(_) => {
+                // what is at hand may be the answer that was noted before
+                self.at_hand.clear();
+                Ok(())
+            }
+        }
     }
 }

@@ -3,7 +3,10 @@ use Rattle.deriv_memory.proofs.Texts.{texts_once, text_stored}
 use Rattle.deriv_memory.proofs.memory.Memory.add_text.Goals as goal
 
 pub invariant_of-self-2 : goal.invariant_of-self-2
-invariant_of-self-2 c = texts_once (λ (t : Vec ℕ Global). t.items) c.insert_full.new.self.keys c.insert_full.ensures.unique
+invariant_of-self-2 c = (
+  texts_once (λ (t : Vec ℕ Global). t.items) c.insert_full.new.self.keys c.insert_full.ensures.unique,
+  c.self.invariant.1,
+)
 
 pub returns-clause-once : goal.returns-clause-once
 returns-clause-once c = texts_once (λ (t : Vec ℕ Global). t.items) c.insert_full.new.self.keys c.insert_full.ensures.unique

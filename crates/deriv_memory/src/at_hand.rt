@@ -1,0 +1,343 @@
+//! Answers that are found without a hash.
+//!
+//! States are numbers from 0, so a list by states has the answers of calls without a name. Calls with names share one table: a call
+//! and its answer stand where its state and name lead. Each answer here was noted, which the memory keeps as its invariant; one that
+//! isn't here is looked for by its hash.
+
+ghost use Rattle.std.specs.Prelude.{◌≡◌, ℕ, Option, IfSome, slice_index_or};
+ghost use Rattle.deriv_memory.specs.declared.asked.Asked.{Asked as TheAsked};
+ghost use Rattle.deriv_memory.specs.declared.asked.Asked.TheVariants as calls;
+ghost use Rattle.deriv_memory.specs.AtHand.{said, Holds, HoldsNoMore, HoldsNothing, HoldsOneMore, IsWritten, ReadAlike, free_row, free_slot, is_slot, row_with, slot_of};
+ghost use Rattle.deriv_memory.specs.Calls.{form_of, state_of, ns_of, local_of};
+
+use crate::asked::Asked;
+use nx_base::memory::NoMemory;
+use std::alloc::Global;
+
+/// How many calls with names have a place.
+const SLOTS: usize = 16_384;
+
+/// How far the slots of one state are from those of the next. It is odd, so that for one name as many states in a row as there are
+/// slots have a slot each.
+const STRIDE: usize = 10_007;
+
+/// Where nothing is at hand.
+const NOTHING: u32 = 0;
+
+/// That there is no state behind a call. The state of number `n` is written as `n + 2`.
+const NO_STATE: u32 = 1;
+
+/// From this number on states aren't written.
+const MOST: usize = u32::MAX as usize - 1;
+
+/// The answers of one state's calls that have no name.
+#[derive(Clone, Copy)]
+struct Row {
+    tag_end: u32,
+    leave: u32,
+    blank: u32,
+    solid: u32,
+}
+
+/// A call with a name, and its answer.
+#[derive(Clone, Copy)]
+struct Slot {
+    state: u32,
+    local: u32,
+    answer: u32,
+    ns: u16,
+    form: u8,
+}
+
+/// Answers by states, and those of calls with names by state and name.
+#[derive(Drop)]
+pub struct AtHand {
+    rows: Vec<Row>,
+    slots: Vec<Slot>,
+}
+
+const FREE_ROW: Row = Row {
+    tag_end: NOTHING,
+    leave: NOTHING,
+    blank: NOTHING,
+    solid: NOTHING,
+};
+
+const FREE_SLOT: Slot = Slot {
+    state: 0,
+    local: 0,
+    answer: NOTHING,
+    ns: 0,
+    form: 0,
+};
+
+// Another number for a name, so that its blank values and its other ones have a slot each.
+fn beside(local: usize) -> usize {
+    local ^ (SLOTS / 2)
+}
+
+// Where the answer of a call with a name stands. Two may have one place.
+#[inline(always)]
+fn dealt(state: usize, local: usize) -> usize {
+    (state.wrapping_mul(STRIDE) ^ local) % SLOTS
+}
+
+// The place of a call.
+fn place_of(call: &Asked) -> usize {
+    match call {
+        Asked::BlankValue(state, _, local) => dealt(*state, beside(*local)),
+        _ => dealt(call.state(), call.local()),
+    }
+}
+
+// What a number says of a call's answer.
+#[inline(always)]
+fn read(number: u32) -> Option<Option<usize>>
+    ensures { result ≡ said number }
+{
+    match number {
+        NOTHING => None,
+        NO_STATE => Some(None),
+        _ => Some(Some(number as usize - 2)),
+    }
+}
+
+// The number that says this answer; where none does, the one that says nothing.
+fn written(answer: Option<usize>) -> u32
+    ensures { IsWritten answer result }
+{
+    match answer {
+        Some(state) => {
+            if state < MOST {
+                (state + 2) as u32
+            } else {
+                NOTHING
+            }
+        }
+        None => NO_STATE,
+    }
+}
+
+// Makes a list longer than this by free places.
+fn lengthen<T: Copy>(list: &mut Vec<T>, last: usize, free: T) -> Result<(), NoMemory>
+    ensures { ReadAlike free list.old.items list.new.items }
+{
+    while list.len() <= last {
+        list.push(free)?;
+    }
+    Ok(())
+}
+
+impl Row {
+    // The row with another number of this call.
+    fn with(self, call: &Asked, number: u32) -> Row
+        ensures { result ≡ row_with self call.now number }
+    {
+        let mut row = self;
+        match call {
+            Asked::TagEnd(_) => row.tag_end = number,
+            Asked::Leave(_) => row.leave = number,
+            Asked::Blank(_) => row.blank = number,
+            Asked::Solid(_) => row.solid = number,
+            _ => {}
+        }
+        row
+    }
+}
+
+impl Slot {
+    // A slot of this call; none where a number of it is too large.
+    fn of(call: &Asked, answer: u32) -> Option<Slot>
+        ensures { IfSome result (λ slot. slot ≡ slot_of call.now answer) }
+    {
+        let state = u32::try_from(call.state()).ok()?;
+        let local = u32::try_from(call.local()).ok()?;
+        let ns = u16::try_from(call.ns()).ok()?;
+        let form = call.form();
+        Some(Slot {
+            state,
+            local,
+            answer,
+            ns,
+            form,
+        })
+    }
+
+    // Whether this is the slot of the call with these numbers.
+    #[inline(always)]
+    fn is_of(&self, form: u8, state: usize, ns: usize, local: usize) -> bool
+        ensures { result ≡ is_slot self.now form state ns local }
+    {
+        self.state as usize == state
+            && self.local as usize == local
+            && self.ns as usize == ns
+            && self.form == form
+    }
+}
+
+impl AtHand {
+    /// Nothing at hand.
+    pub fn new(alloc: Global) -> AtHand
+        ensures { HoldsNothing result }
+    {
+        AtHand {
+            rows: Vec::new(alloc),
+            slots: Vec::new(alloc),
+        }
+    }
+
+    // The answers of a state's calls that have no name.
+    #[inline(always)]
+    fn row(&self, state: usize) -> Row
+        ensures { result ≡ slice_index_or self.now.rows.items state free_row }
+    {
+        match self.rows.as_slice().get(state) {
+            Some(row) => *row,
+            None => FREE_ROW,
+        }
+    }
+
+    // The slot at a place.
+    #[inline(always)]
+    fn slot(&self, place: usize) -> Slot
+        ensures { result ≡ slice_index_or self.now.slots.items place free_slot }
+    {
+        match self.slots.as_slice().get(place) {
+            Some(slot) => *slot,
+            None => FREE_SLOT,
+        }
+    }
+
+    // The answer of the call with these numbers, if it is at this place.
+    #[inline(always)]
+    fn at(
+        &self,
+        place: usize,
+        form: u8,
+        state: usize,
+        ns: usize,
+        local: usize,
+    ) -> Option<Option<usize>>
+        ensures { (call : TheAsked) → form_of call ≡ form → state_of call ≡ state → ns_of call ≡ ns → local_of call ≡ local
+            → IfSome result (Holds self.now call) }
+    {
+        let slot = self.slot(place);
+        if slot.is_of(form, state, ns, local) {
+            read(slot.answer)
+        } else {
+            None
+        }
+    }
+
+    /// The answer of the end of a start tag, if it is at hand.
+    #[inline(always)]
+    pub fn tag_end(&self, state: usize) -> Option<Option<usize>>
+        ensures { IfSome result (Holds self.now (calls.TagEnd state)) }
+    {
+        read(self.row(state).tag_end)
+    }
+
+    /// The answer of the end of an element.
+    #[inline(always)]
+    pub fn leave(&self, state: usize) -> Option<Option<usize>>
+        ensures { IfSome result (Holds self.now (calls.Leave state)) }
+    {
+        read(self.row(state).leave)
+    }
+
+    /// The answer of blank strings.
+    #[inline(always)]
+    pub fn blank(&self, state: usize) -> Option<Option<usize>>
+        ensures { IfSome result (Holds self.now (calls.Blank state)) }
+    {
+        read(self.row(state).blank)
+    }
+
+    /// The answer of other strings.
+    #[inline(always)]
+    pub fn solid(&self, state: usize) -> Option<Option<usize>>
+        ensures { IfSome result (Holds self.now (calls.Solid state)) }
+    {
+        read(self.row(state).solid)
+    }
+
+    /// The answer of the start of an element.
+    #[inline(always)]
+    pub fn entered(&self, state: usize, ns: usize, local: usize) -> Option<Option<usize>>
+        ensures { IfSome result (Holds self.now (calls.Enter state ns local)) }
+    {
+        self.at(dealt(state, local), 0, state, ns, local)
+    }
+
+    /// The answer of an attribute's blank values.
+    #[inline(always)]
+    pub fn blank_value(&self, state: usize, ns: usize, local: usize) -> Option<Option<usize>>
+        ensures { IfSome result (Holds self.now (calls.BlankValue state ns local)) }
+    {
+        self.at(dealt(state, beside(local)), 5, state, ns, local)
+    }
+
+    /// The answer of an attribute's other values.
+    #[inline(always)]
+    pub fn solid_value(&self, state: usize, ns: usize, local: usize) -> Option<Option<usize>>
+        ensures { IfSome result (Holds self.now (calls.SolidValue state ns local)) }
+    {
+        self.at(dealt(state, local), 6, state, ns, local)
+    }
+
+    /// Room for the answer of a call.
+    pub fn make_room(&mut self, call: &Asked) -> Result<(), NoMemory>
+        ensures { HoldsNoMore self.old self.new }
+    {
+        if call.has_name() {
+            lengthen(&mut self.slots, SLOTS - 1, FREE_SLOT)
+        } else {
+            lengthen(&mut self.rows, call.state(), FREE_ROW)
+        }
+    }
+
+    /// From now on nothing is at hand.
+    pub fn clear(&mut self)
+        ensures { HoldsNothing self.new }
+    {
+        self.rows.clear();
+        self.slots.clear();
+    }
+
+    /// From now on this answer of a call is at hand, where there is room for it. The answer of a call with a name takes a free slot: names
+    /// that come often mostly come early.
+    pub fn put(&mut self, call: &Asked, answer: Option<usize>)
+        ensures { HoldsOneMore self.old self.new call.now answer }
+    {
+        let number = written(answer);
+        if call.has_name() {
+            self.put_named(call, number);
+        } else {
+            self.put_plain(call, number);
+        }
+    }
+
+    // From now on this number is in the row of the call's state.
+    fn put_plain(&mut self, call: &Asked, number: u32)
+        ensures { (answer : Option ℕ) → IsWritten answer number → HoldsOneMore self.old self.new call.now answer }
+    {
+        let state = call.state();
+        let row = self.row(state).with(call, number);
+        if let Some(place) = self.rows.get_mut(state) {
+            *place = row;
+        }
+    }
+
+    // From now on this number is in the call's slot, if that is free.
+    fn put_named(&mut self, call: &Asked, number: u32)
+        ensures { (answer : Option ℕ) → IsWritten answer number → HoldsOneMore self.old self.new call.now answer }
+    {
+        if let Some(slot) = Slot::of(call, number) {
+            if let Some(place) = self.slots.get_mut(place_of(call)) {
+                if place.answer == NOTHING {
+                    *place = slot;
+                }
+            }
+        }
+    }
+}
