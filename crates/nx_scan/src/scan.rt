@@ -307,7 +307,7 @@ fn copy_near(
 {
     let len = to - at;
     if len <= piece.len() {
-        text.copy_piece_into(&piece[..len], list)
+        text.copy_piece_into(piece, len, list)
     } else {
         copy_far(text, at, to, list)
     }
