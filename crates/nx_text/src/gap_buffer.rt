@@ -1,7 +1,7 @@
 //! A list with a gap in it, where items are put in and taken out without moving the others.
 
 ghost use Rattle.std.specs.Prelude.{◌≡◌, ◌+◌, ◌<◌, ◌≤◌, ◌^◌, [], ◌∷◌, ◌++◌, length, take, drop, slice_get, slice_range};
-ghost use Rattle.std.specs.Prelude.{OnOk, OnSome};
+ghost use Rattle.std.specs.Prelude.{IfOk, OnOk, OnSome};
 ghost use Rattle.nx_text.specs.Gap.{Parted};
 
 use std::alloc::{AllocError, Global};
@@ -49,6 +49,24 @@ impl<T: Copy> GapBuffer<T> {
             start: 0,
             end: 0,
         }
+    }
+
+    /// These items alone, in memory of the same allocator, and behind them as much room as a gap that is widened for them has left. So a
+    /// list that is put in whole is written once.
+    pub(crate) fn with_items(&self, added: &[T], filler: T) -> Result<GapBuffer<T>, AllocError>
+        ensures front { IfOk result (λ list. list.front ≡ added.now) }
+        ensures back { IfOk result (λ list. list.back ≡ []) }
+    {
+        let len = added.len();
+        let full = len.checked_add(len / SPARE_PART).ok_or(AllocError)?;
+        let mut items = Vec::with_capacity(*self.items.allocator(), full)?;
+        items.extend_from_slice(added)?;
+        items.resize(full, filler)?;
+        Ok(GapBuffer {
+            items,
+            start: len,
+            end: full,
+        })
     }
 
     /// The part in front of the gap.

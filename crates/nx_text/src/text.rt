@@ -1,7 +1,7 @@
 //! A text that is edited at its places.
 
 ghost use Rattle.std.specs.Prelude.{◌≡◌, ◌+◌, ◌<◌, ◌≤◌, ◌^◌, ◌↔◌, [], ◌++◌, length, take, drop, encode_utf8, slice_get, slice_range};
-ghost use Rattle.std.specs.Prelude.{IsTrue, IfOk, OnOk, OnSome, IfSome, MatchOption};
+ghost use Rattle.std.specs.Prelude.{IsTrue, IfOk, OnOk, OnErr, OnSome, IfSome, MatchOption};
 ghost use Rattle.nx_text.specs.Borders.{IsNextBorder, IsPreviousBorder};
 ghost use Rattle.nx_text.specs.Places.{line_at, column_at};
 ghost use Rattle.std.specs.Str.{IsUtf8};
@@ -119,11 +119,28 @@ impl Text {
             let len = self.len();
             return Err(TextFault::BadPosition { at, len });
         }
+        if self.bytes.len() == 0 {
+            self.begin(added)?;
+            return Ok(());
+        }
         self.bytes.make_room(added.len(), 0)?;
         self.feeds.make_room(count_feeds(added.as_bytes()), 0)?;
         move_gaps(&mut self.bytes, &mut self.feeds, at);
         self.bytes.push_all(added.as_bytes());
         push_feeds(&mut self.feeds, at, added.as_bytes());
+        Ok(())
+    }
+
+    /// Puts a text in where there is none.
+    fn begin(&mut self, added: &str) -> Result<(), AllocError>
+        requires { length self.old ≡ 0 }
+        ensures ok { OnOk result (self.new ≡ added.now) }
+        ensures err { OnErr result (self.new ≡ self.old) }
+    {
+        let bytes = self.bytes.with_items(added.as_bytes(), 0)?;
+        self.feeds.make_room(count_feeds(added.as_bytes()), 0)?;
+        push_feeds(&mut self.feeds, 0, added.as_bytes());
+        self.bytes = bytes;
         Ok(())
     }
 
