@@ -4,6 +4,7 @@ pub mod Pieces
 pub mod Buffers
 pub mod PlainNames
 pub mod PlainTags
+mod LaneMasks
 mod PlainGroups
 pub mod PlainRuns
 pub mod CharacterFaults

@@ -1,29 +1,68 @@
--- Bytes that are looked at in groups.
-use Rattle.std.proofs.Common.{◌≡◌, ◌∙◌, ℕ, ◌+◌, ◌-◌, ◌<◌, ◌≤◌, Bool, true, List, length, take, drop, get_or, sym, ap, arith, length-drop, ⊎_elim}
-use Rattle.std.specs.List.{prefix_len}
-use Rattle.std.proofs.lemmas.Bool.{cases_lt}
-use Rattle.std.proofs.lemmas.List.{length-take-le, get_or-take, get_or-drop}
+-- What is so of each byte of a text is so of the text.
+use Rattle.std.proofs.Common.{◌≡◌, ◌∙◌, ℕ, zero, suc, ◌+◌, ◌<◌, ◌≤◌, Bool, true, false, not, List, [], ◌∷◌, length, get_or, refl, sym, ap, ap₂, subst, arith, inl, inr, ◌⊎◌, ⊎_elim}
+use Rattle.std.specs.Prelude.{◌==◌, ◌&&◌, ◌||◌, nat_le}
+use Rattle.std.specs.Bool.{OnTrue}
+use Rattle.std.specs.List.{prefix_len, list_all}
+use Rattle.std.proofs.lemmas.Bool.{and_from, eqb-true, false≢true, OnTrue_at, OnTrue_from}
+use Rattle.std.proofs.lemmas.Bool.Decides.{nat_tests}
 use Rattle.std.proofs.lemmas.List.Sums.{prefix_len_is}
+use Rattle.nx_base.specs.Characters.{is_space}
+use Rattle.nx_events.specs.ByteClasses.{AllBetween, SameBetween, IsSameName, is_plain_or, is_in_name}
+use Rattle.nx_events.specs.Plain.{is_plain}
+use Rattle.nx_events.specs.PlainNames.{is_plain_start, is_plain_further, is_plain_name}
+use Rattle.nx_events.specs.Tags.{ends_name}
+use Rattle.nx_events.proofs.PlainNames.{every, every_at, implies, further_small}
 
--- what holds of each byte of a group holds of those bytes in the text
-each_there : (p : ℕ → Bool) (xs : List ℕ) (n m : ℕ) → n + m ≤ length xs →
-    ((k : ℕ) → k < length (take m (drop n xs)) → p (get_or (take m (drop n xs)) k 0) ≡ true) →
-    (k : ℕ) → n ≤ k → k < n + m → p (get_or xs k 0) ≡ true
-each_there p xs n m within each k from below =
-    let group = take m (drop n xs) in
-    let i = k - n in
-    let size : length group ≡ m = length-take-le m (drop n xs) (let rest = length-drop n xs in omega (arith, rest, within)) in
-    let place : n + i ≡ k = omega (arith, from) in
-    let same : get_or group i 0 ≡ get_or xs k 0 =
-    get_or-take m (drop n xs) i 0 (omega (arith, from, below)) ∙ get_or-drop n xs i 0 ∙ ap (λ (j : ℕ). get_or xs j 0) place in
-    ap p (sym same) ∙ each i (omega (arith, size, from, below))
+pub all_pass : (p : ℕ → Bool) (xs : List ℕ) → AllBetween p xs 0 (length xs) → prefix_len p xs ≡ length xs
+all_pass p xs each = prefix_len_is p xs (length xs) 0 (omega arith) (λ k less. each k (omega arith) less) (λ h. absurd (omega (arith, h)))
 
--- and so of all bytes through that group, if it holds of those in front
-pub one_group_more : (p : ℕ → Bool) (xs : List ℕ) (n m : ℕ) → n + m ≤ length xs → ((k : ℕ) → k < n → p (get_or xs k 0) ≡ true) →
-    ((k : ℕ) → k < length (take m (drop n xs)) → p (get_or (take m (drop n xs)) k 0) ≡ true) →
-    (k : ℕ) → k < n + m → p (get_or xs k 0) ≡ true
-one_group_more p xs n m within before each k below =
-    ⊎_elim (λ (h : k < n). before k h) (λ (h : n ≤ k). each_there p xs n m within each k h below) (cases_lt k n)
+-- a space stands for itself in any case
+plain_or_space : (plain space : Bool) (b : ℕ) → space ≡ (b == 32) → (plain || space) ≡ true → plain ≡ is_plain b → is_plain b ≡ true
+plain_or_space true space b is e same = sym same
+plain_or_space false space b is e same = let at : b ≡ 32 = eqb-true b 32 (sym is ∙ e) in ap is_plain at
 
-pub all_pass : (p : ℕ → Bool) (xs : List ℕ) → ((k : ℕ) → k < length xs → p (get_or xs k 0) ≡ true) → prefix_len p xs ≡ length xs
-all_pass p xs each = prefix_len_is p xs (length xs) 0 (omega arith) each (λ h. absurd (omega (arith, h)))
+pub all_plain_values : (xs : List ℕ) → AllBetween (is_plain_or 32) xs 0 (length xs) → prefix_len is_plain xs ≡ length xs
+all_plain_values xs each = all_pass is_plain xs (λ k from less. plain_or_space (is_plain (get_or xs k 0)) (get_or xs k 0 == 32) (get_or xs k 0) refl (each k from less) refl)
+
+-- names
+each_listed : (p : ℕ → Bool) (xs : List ℕ) → ((k : ℕ) → k < length xs → p (get_or xs k 0) ≡ true) → list_all p xs ≡ true
+each_listed p [] each = refl
+each_listed p (x ∷ xs) each = and_from (p x) (list_all p xs) (each 0 (omega arith)) (each_listed p xs (λ k less. each (suc k) (omega (arith, less))))
+
+starts_behind_digits : every 128 (λ b. not (is_plain_further b) || (nat_le b 57 || is_plain_start b)) ≡ true
+unfolding every
+starts_behind_digits = refl
+
+right_of : (a b : Bool) → a ≡ false → (a || b) ≡ true → b ≡ true
+right_of true b e h = absurd (false≢true (sym e))
+right_of false b e h = h
+
+starts : (b : ℕ) → 57 < b → is_plain_further b ≡ true → is_plain_start b ≡ true
+starts b high h =
+    let either = implies (is_plain_further b) (nat_le b 57 || is_plain_start b)
+    (every_at 128 b (λ c. not (is_plain_further c) || (nat_le c 57 || is_plain_start c)) starts_behind_digits (further_small b h)) h in
+    let behind : nat_le b 57 ≡ false = grind (arith, nat_tests) in
+    right_of (nat_le b 57) (is_plain_start b) behind either
+
+pub plain_name_from : (name : List ℕ) → 57 < get_or name 0 0 → AllBetween is_plain_further name 0 (length name) → is_plain_name name ≡ true
+plain_name_from [] high each = absurd (omega (arith, high))
+plain_name_from (b ∷ bytes) high each =
+    and_from (is_plain_start b) (list_all is_plain_further bytes) (starts b high (each 0 (omega arith) (omega arith)))
+    (each_listed is_plain_further bytes (λ k less. each (suc k) (omega arith) (omega (arith, less))))
+
+-- no such byte ends a name
+pub in_name_stays : (b : ℕ) → is_in_name b ≡ true → ends_name b ≡ false
+unfolding is_space
+in_name_stays b h = grind (arith, nat_tests)
+
+pub same_in_name : (r s : Bool) (a b : List ℕ) (from to : ℕ) → OnTrue r (SameBetween a b from to) → OnTrue s (AllBetween is_in_name a from to) →
+    r ≡ true → OnTrue s (IsSameName a b from to)
+same_in_name r s a b from to same inside is =
+    OnTrue_from s (IsSameName a b from to) (λ e k begin end. (OnTrue_at is same k begin end, in_name_stays (get_or a k 0) (OnTrue_at e inside k begin end)))
+
+-- texts of the same bytes are the same
+pub each_same : (a b : List ℕ) → length a ≡ length b → ((k : ℕ) → k < length a → get_or a k 0 ≡ get_or b k 0) → a ≡ b
+each_same [] [] l each = refl
+each_same [] (y ∷ ys) l each = absurd (omega (arith, l))
+each_same (x ∷ xs) [] l each = absurd (omega (arith, l))
+each_same (x ∷ xs) (y ∷ ys) l each = ap₂ (λ p q. p ∷ q) (each 0 (omega arith)) (each_same xs ys (omega (arith, l)) (λ k less. each (suc k) (omega (arith, less))))

@@ -41,6 +41,7 @@ pub mod Moves
 -- ---- what private contracts cite, and those that nx_recover alone calls
 pub mod Plain
 pub mod PlainNames
+pub mod ByteClasses
 pub mod PlainTags
 pub mod PlainTokens
 pub mod PlainAttributes

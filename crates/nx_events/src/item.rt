@@ -1,6 +1,6 @@
 //! Events and faults, in the order in which they arise.
 
-ghost use Rattle.std.specs.Prelude.{◌≡◌, ◌≤◌, [], ◌∷◌, ◌++◌, ◌==◌, length, take, drop, insert, slice_get, option_copied, IfOk, OnOk, OnErr};
+ghost use Rattle.std.specs.Prelude.{◌≡◌, ◌<◌, ◌≤◌, [], ◌∷◌, ◌++◌, ◌==◌, true, length, take, drop, insert, slice_get, option_copied, vec_len, vec_capacity, IfOk, OnOk, OnErr};
 
 use crate::tag::copy_in;
 use nx_base::fault::{Fault, Span};
@@ -58,6 +58,28 @@ impl Model for Items {
     ghost Value = { List Item };
 
     ghost view = { λ i. i.items.items };
+}
+
+// More room for memory that is kept, and whether there is some. It is seldom called: who keeps memory stays small.
+#[inline(never)]
+fn grow_spare(spare: &mut Vec<Vec<u8>>) -> bool
+    ensures { result ≡ true → vec_len spare.new < vec_capacity spare.new }
+{
+    spare.reserve(1).is_ok()
+}
+
+// Whether there is room for the memory of one more name or value.
+fn makes_room(spare: &mut Vec<Vec<u8>>) -> bool
+    ensures { result ≡ true → vec_len spare.new < vec_capacity spare.new }
+{
+    let len = spare.len();
+    if MOST_SPARE <= len {
+        return false;
+    }
+    if len < spare.capacity() {
+        return true;
+    }
+    grow_spare(spare)
 }
 
 impl Items {
@@ -215,9 +237,9 @@ impl Items {
     {
         // More end than begin where parts of a text are read again and again; and long values are rare.
         let is_worth_it = 0 < bytes.len() && bytes.len() <= LONGEST_SPARE;
-        if is_worth_it && self.spare.len() < MOST_SPARE {
-            // Where it can't be kept it is let go.
-            let _ = self.spare.push(bytes.into_vec());
+        // Where it can't be kept it is let go.
+        if is_worth_it && makes_room(&mut self.spare) {
+            self.spare.push_reserved(bytes.into_vec());
         }
     }
 

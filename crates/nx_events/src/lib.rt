@@ -19,6 +19,7 @@ mod character_fault;
 mod declaration;
 pub mod flaw;
 mod front;
+mod lanes;
 mod markup;
 pub mod name_bytes;
 mod piece;

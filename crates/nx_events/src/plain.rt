@@ -1,9 +1,12 @@
 //! Runs of bytes that stand for themselves and are no fault, which are most of a text. They are read at once.
 
-ghost use Rattle.std.specs.Prelude.{◌≡◌, ◌≤◌, ◌<◌, ℕ, true, length, slice_index};
+ghost use Rattle.std.specs.Prelude.{◌≡◌, ◌≤◌, true, length};
+ghost use Rattle.std.specs.Bool.{OnTrue};
 ghost use Rattle.std.specs.List.{prefix_len};
+ghost use Rattle.nx_events.specs.ByteClasses.{AllBetween, is_plain_or};
 ghost use Rattle.nx_events.specs.Plain.{is_plain, is_plain_line, is_plain_in};
 
+use crate::lanes;
 use crate::reading::Reading;
 
 // Whether the byte stands for itself wherever it is read.
@@ -40,82 +43,57 @@ pub(crate) fn plain_len(reading: Reading, bytes: &[u8]) -> usize
     }
 }
 
-/// How many bytes are looked at together.
-const GROUP: usize = 16;
-
-// Whether all bytes stand for themselves where white space isn't made spaces. Each of them is looked at whatever the others are, so
-// that those of a whole group are tested by a few instructions.
-fn is_plain_group(bytes: &[u8]) -> bool
-    ensures { result ≡ true → (k : ℕ) → k < length bytes.now → is_plain_line (slice_index bytes.now k) ≡ true }
+// Whether the byte stands for itself wherever it is read, or is this one.
+fn is_plain_or(also: u8, b: u8) -> bool
+    ensures { result ≡ is_plain_or also b }
 {
-    let mut all = true;
-    for b in bytes {
-        all &= is_plain_line(*b);
-    }
-    all
+    is_plain(b) || b == also
 }
 
-// The same of more bytes. Those of the last group may be of the one before it too.
-fn are_plain_groups(bytes: &[u8]) -> bool
-    requires { 16 ≤ length bytes.now }
-    ensures { result ≡ true → prefix_len is_plain_line bytes.now ≡ length bytes.now }
+// Whether all bytes do so or are this one, byte by byte.
+fn are_few_plain_or(also: u8, bytes: &[u8]) -> bool
+    ensures { OnTrue result (AllBetween (is_plain_or also) bytes.now 0 (length bytes.now)) }
 {
-    let last = bytes.len() - GROUP;
-    let mut n = 0;
-    while n < last {
-        if !is_plain_group(&bytes[n..n + GROUP]) {
+    for b in bytes {
+        if !is_plain_or(also, *b) {
             return false;
         }
-        n += GROUP;
     }
-    is_plain_group(&bytes[last..])
+    true
 }
 
-// Whether all bytes stand for themselves where white space isn't made spaces.
-fn are_plain_lines(bytes: &[u8]) -> bool
-    ensures { result ≡ true → prefix_len is_plain_line bytes.now ≡ length bytes.now }
-{
-    if bytes.len() < GROUP {
-        return plain_lines_len(bytes) == bytes.len();
-    }
-    are_plain_groups(bytes)
-}
-
-// Whether all bytes stand for themselves wherever they are read. Each is looked at, as in `is_plain_group`.
-fn is_value_group(bytes: &[u8]) -> bool
-    ensures { result ≡ true → (k : ℕ) → k < length bytes.now → is_plain (slice_index bytes.now k) ≡ true }
-{
-    let mut all = true;
-    for b in bytes {
-        all &= is_plain(*b);
-    }
-    all
-}
-
-// Whether sixteen bytes or more do so, group by group. The last group may share bytes with the one before it.
-fn are_value_groups(bytes: &[u8]) -> bool
+// Whether sixteen bytes or more do so or are this one. Those of the last load may be of the one before it too.
+#[inline(always)]
+fn are_many_plain_or(also: u8, bytes: &[u8]) -> bool
     requires { 16 ≤ length bytes.now }
-    ensures { result ≡ true → prefix_len is_plain bytes.now ≡ length bytes.now }
+    ensures { OnTrue result (AllBetween (is_plain_or also) bytes.now 0 (length bytes.now)) }
 {
-    let last = bytes.len() - GROUP;
-    let mut n = 0;
-    while n < last {
-        if !is_value_group(&bytes[n..n + GROUP]) {
+    let last = bytes.len() - 16;
+    let mut at = 0;
+    while at < last {
+        if !lanes::are_plain_or::<16>(also, bytes, at) {
             return false;
         }
-        n += GROUP;
+        at += 16;
     }
-    is_value_group(&bytes[last..])
+    lanes::are_plain_or::<16>(also, bytes, last)
 }
 
-// Whether all bytes stand for themselves wherever they are read.
-fn are_plain_values(bytes: &[u8]) -> bool
-    ensures { result ≡ true → prefix_len is_plain bytes.now ≡ length bytes.now }
+// Whether all bytes stand for themselves wherever they are read, or are this one.
+#[inline(always)]
+fn are_plain_or(also: u8, bytes: &[u8]) -> bool
+    ensures { OnTrue result (AllBetween (is_plain_or also) bytes.now 0 (length bytes.now)) }
 {
-    if bytes.len() < GROUP {
-        return plain_len(Reading::Value, bytes) == bytes.len();
+    let len = bytes.len();
+    if len >= 16 {
+        are_many_plain_or(also, bytes)
+    } else if len >= 8 {
+        lanes::are_plain_or::<8>(also, bytes, 0) && lanes::are_plain_or::<8>(also, bytes, len - 8)
+    } else if len >= 4 {
+        lanes::are_plain_or::<4>(also, bytes, 0) && lanes::are_plain_or::<4>(also, bytes, len - 4)
+    } else {
+        are_few_plain_or(also, bytes)
     }
-    are_value_groups(bytes)
 }
 
 /// Whether all bytes stand for themselves in this reading. Of nearly all tokens they do.
@@ -123,8 +101,9 @@ pub(crate) fn are_plain(reading: Reading, bytes: &[u8]) -> bool
     ensures { result ≡ true → prefix_len (is_plain_in reading) bytes.now ≡ length bytes.now }
 {
     match reading {
-        Reading::Plain => are_plain_lines(bytes),
-        Reading::Text => are_plain_lines(bytes),
-        Reading::Value => are_plain_values(bytes),
+        Reading::Plain => are_plain_or(b'\n', bytes),
+        Reading::Text => are_plain_or(b'\n', bytes),
+        // a space does so in any case
+        Reading::Value => are_plain_or(b' ', bytes),
     }
 }

@@ -1,12 +1,15 @@
 //! Qualified names (Namespaces in XML 1.0, sections 3 and 4).
 
 ghost use Rattle.std.specs.Prelude.{◌≡◌, ◌≤◌, ◌<◌, true, false, length, MatchOption};
+ghost use Rattle.std.specs.Bool.{OnTrue};
 ghost use Rattle.std.specs.List.{list_all};
 ghost use Rattle.std.specs.Str.{chars};
+ghost use Rattle.nx_events.specs.ByteClasses.{AllBetween};
 ghost use Rattle.nx_events.specs.Names.{begins_unprefixed, goes_on_unprefixed, is_ncname, prefix_of, local_of, is_qname};
 ghost use Rattle.nx_events.specs.PlainNames.{is_plain_start, is_plain_further, is_plain_name};
 
 use crate::front::byte_place;
+use crate::lanes;
 use crate::utf8::{continuation_len, front_char, is_name_char, is_name_start};
 
 #[tactic(auto, unfolding(crate::specs::Names::begins_unprefixed))]
@@ -58,22 +61,46 @@ fn is_plain_further(b: u8) -> bool
     is_plain_start(b) || (b.is_ascii_digit() || (b == b'-' || b == b'.'))
 }
 
-// Whether all bytes are such ones.
-fn are_plain_further(bytes: &[u8]) -> bool
-    ensures { result ≡ list_all is_plain_further bytes.now }
+// Whether all bytes are such ones, byte by byte.
+fn are_few_plain_further(bytes: &[u8]) -> bool
+    ensures { OnTrue result (AllBetween is_plain_further bytes.now 0 (length bytes.now)) }
 {
-    bytes.iter().all(|b| is_plain_further(*b))
+    for b in bytes {
+        if !is_plain_further(*b) {
+            return false;
+        }
+    }
+    true
+}
+
+// Whether all bytes are such ones. Most names are of four to fifteen bytes.
+#[inline(always)]
+fn are_plain_further(bytes: &[u8]) -> bool
+    ensures { OnTrue result (AllBetween is_plain_further bytes.now 0 (length bytes.now)) }
+{
+    let len = bytes.len();
+    if len < 4 || len > 32 {
+        are_few_plain_further(bytes)
+    } else if len < 8 {
+        lanes::are_plain_further::<4>(bytes, 0) && lanes::are_plain_further::<4>(bytes, len - 4)
+    } else if len < 16 {
+        lanes::are_plain_further::<8>(bytes, 0) && lanes::are_plain_further::<8>(bytes, len - 8)
+    } else {
+        lanes::are_plain_further::<16>(bytes, 0) && lanes::are_plain_further::<16>(bytes, len - 16)
+    }
 }
 
 /// Whether a letter of ASCII or `_` and then such ones, digits, `-` and `.` alone stand in the name, as in nearly all. Then it is one
 /// without a colon, and its characters needn't be read.
+#[inline(always)]
 pub(crate) fn is_plain_name(name: &[u8]) -> bool
-    ensures { result ≡ is_plain_name name.now }
+    ensures { result ≡ true → is_plain_name name.now ≡ true }
 {
-    match name {
-        [] => false,
-        [first, rest @ ..] => is_plain_start(*first) && are_plain_further(rest),
+    if name.is_empty() {
+        return false;
     }
+    // behind the last digit all such bytes are letters and `_`
+    name[0] > b'9' && are_plain_further(name)
 }
 
 /// Whether the name is one without a colon.

@@ -168,6 +168,8 @@ impl<T: Named + Drop> Stack<T> {
     }
 
     /// The place of the last thing with the name.
+    // Few documents declare a namespace without a prefix: callers that seldom call this stay small.
+    #[inline(never)]
     pub(crate) fn last_place(&self, name: &[u8]) -> Option<usize>
         ensures value { result ≡ last_place name.now (map T.name_of self.now) }
         ensures bound { IfSome result (λ n. n < length self.now) }

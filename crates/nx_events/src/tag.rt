@@ -1,12 +1,15 @@
 //! What is written in a tag (XML 1.0, 3.1).
 
 ghost use Rattle.std.specs.Prelude.{◌≡◌, ◌+◌, ◌<◌, ◌≤◌, ◌^◌, ◌++◌, [], ℕ, true, false, length, slice_index, IfOk, IfSome, OnOk, MatchOption};
+ghost use Rattle.std.specs.Bool.{OnTrue};
 ghost use Rattle.std.specs.List.{list_all};
+ghost use Rattle.nx_events.specs.ByteClasses.{IsSameName};
 ghost use Rattle.nx_events.specs.Tags.{is_between, ends_name, written_name, quote_place, value_len, attribute_len, begins_attribute, attribute_at};
 ghost use Rattle.nx_events.specs.Tags.{front_attribute, front_len, attributes_from, start_name, end_name, tag_attributes};
 ghost use Rattle.nx_events.specs.PlainTags.{IsPlainTag};
 
 use crate::front::{byte_place, ends_name, is_between, name_end, quote_place};
+use crate::lanes;
 use crate::piece::string_of;
 use crate::qname::is_plain_name;
 use crate::reading::Reading;
@@ -212,20 +215,49 @@ pub(crate) fn plain_tag_name(bytes: &[u8]) -> Option<&[u8]>
     }
 }
 
-// Whether the two are the same bytes, none of which ends a name.
-fn are_same_name(a: &[u8], b: &[u8]) -> bool
-    ensures same { result ≡ true → a.now ≡ b.now }
-    ensures name { result ≡ true → (k : ℕ) → k < length a.now → ends_name (slice_index a.now k) ≡ false }
+// Whether the two are the same bytes, none of which ends a name, byte by byte.
+fn are_same_few(a: &[u8], b: &[u8]) -> bool
+    requires { length a.now ≡ length b.now }
+    ensures { OnTrue result (IsSameName a.now b.now 0 (length a.now)) }
 {
-    if a.len() != b.len() {
-        return false;
-    }
     for (i, byte) in a.iter().enumerate() {
         if *byte != b[i] || ends_name(*byte) {
             return false;
         }
     }
     true
+}
+
+// Whether N bytes are so from this place on.
+#[inline(always)]
+fn are_same_lanes<const N: usize>(a: &[u8], b: &[u8], at: usize) -> bool
+    requires lanes { N ≤ 64 }
+    requires inside { at + N ≤ length a.now }
+    requires inside_other { at + N ≤ length b.now }
+    ensures { OnTrue result (IsSameName a.now b.now at (at + N)) }
+{
+    lanes::are_same::<N>(a, b, at) && lanes::are_in_name::<N>(a, at)
+}
+
+// Whether the two are the same bytes, none of which ends a name. Most names are of four to fifteen bytes.
+#[inline(always)]
+fn are_same_name(a: &[u8], b: &[u8]) -> bool
+    ensures same { result ≡ true → a.now ≡ b.now }
+    ensures name { result ≡ true → (k : ℕ) → k < length a.now → ends_name (slice_index a.now k) ≡ false }
+{
+    let len = a.len();
+    if len != b.len() {
+        return false;
+    }
+    if len < 4 || len > 32 {
+        are_same_few(a, b)
+    } else if len < 8 {
+        are_same_lanes::<4>(a, b, 0) && are_same_lanes::<4>(a, b, len - 4)
+    } else if len < 16 {
+        are_same_lanes::<8>(a, b, 0) && are_same_lanes::<8>(a, b, len - 8)
+    } else {
+        are_same_lanes::<16>(a, b, 0) && are_same_lanes::<16>(a, b, len - 16)
+    }
 }
 
 /// Whether an end tag is `</`, this name and `>`, as most are that end an element of this name. One look at its bytes tells that.

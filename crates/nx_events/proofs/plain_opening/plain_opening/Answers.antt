@@ -9,4 +9,4 @@ returns c = λ kind.
     let m = c.name_end-n.result in
     let plain = c.are_plain.ensures c.if-not-are_plain.false in
     plain_opening_is c.args.state.now c.args.token.now bytes _ m _ c.as_slice-bytes.ensures plain (sym c.is_behind.ensures ∙ c.if-is_behind.false)
-    c.name_end-n.ensures.value refl (sym c.is_plain_name.ensures ∙ c.if-not-is_plain_name.false) (c.in_ok-attributes.ensures (rest_passes is_plain (1 + m) bytes plain)) kind
+    c.name_end-n.ensures.value refl (c.is_plain_name.ensures c.if-not-is_plain_name.false) (c.in_ok-attributes.ensures (rest_passes is_plain (1 + m) bytes plain)) kind

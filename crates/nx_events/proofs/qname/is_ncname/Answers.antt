@@ -5,7 +5,7 @@ use Rattle.nx_events.proofs.PlainNames.{plain_name}
 use Rattle.nx_events.proofs.qname.is_ncname.Goals as goal
 
 pub returns-then-is_plain_name : goal.returns-then-is_plain_name
-returns-then-is_plain_name c = sym (plain_name c.args.name.now (sym c.is_plain_name.ensures ∙ c.if-is_plain_name.true))
+returns-then-is_plain_name c = sym (plain_name c.args.name.now (c.is_plain_name.ensures c.if-is_plain_name.true))
 
 pub returns-then-is_empty : goal.returns-then-is_empty
 returns-then-is_empty c = sym (ncname_empty c.args.name.now (sym c.is_empty.ensures ∙ c.if-is_empty.true))

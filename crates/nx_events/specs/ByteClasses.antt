@@ -1,0 +1,24 @@
+-- Classes of bytes of which many are looked at together.
+use Rattle.std.specs.Prelude.{◌≡◌, ℕ, ◌<◌, ◌≤◌, Bool, true, false, not, ◌&&◌, ◌||◌, ◌==◌, nat_le, nat_lt, List, slice_index}
+use Rattle.nx_events.specs.Plain.{is_plain}
+use Rattle.nx_events.specs.Tags.{ends_name}
+
+-- a test holds of all bytes from one place to another
+abbrev pub AllBetween : (ℕ → Bool) → List ℕ → ℕ → ℕ → Type 0
+AllBetween test bytes from to = (k : ℕ) → from ≤ k → k < to → test (slice_index bytes k) ≡ true
+
+-- two texts have the same bytes from one place to another
+abbrev pub SameBetween : List ℕ → List ℕ → ℕ → ℕ → Type 0
+SameBetween a b from to = (k : ℕ) → from ≤ k → k < to → slice_index a k ≡ slice_index b k
+
+-- a byte that stands for itself wherever it is read, or this one
+abbrev pub is_plain_or : ℕ → ℕ → Bool
+is_plain_or also b = is_plain b || b == also
+
+-- a byte of a name: all from `?` on, and from `-` through `:` all but `/`. Of these none ends a name in a tag
+abbrev pub is_in_name : ℕ → Bool
+is_in_name b = nat_le 63 b || (nat_le 45 b && (nat_lt b 59 && not (b == 47)))
+
+-- two texts have the same bytes there, and none of them ends a name in a tag
+abbrev pub IsSameName : List ℕ → List ℕ → ℕ → ℕ → Type 0
+IsSameName a b from to = (k : ℕ) → from ≤ k → k < to → (slice_index a k ≡ slice_index b k) × (ends_name (slice_index a k) ≡ false)
