@@ -1,5 +1,5 @@
 -- What the mask of one load tells of its bytes.
-use Rattle.std.proofs.Common.{◌≡◌, ◌∙◌, ℕ, suc, ◌+◌, ◌-◌, ◌*◌, ◌%◌, ◌^◌, ◌<◌, ◌≤◌, eqb, cond, Bool, true, false, not, List, [], ◌∷◌, map, length, take, drop, get_or}
+use Rattle.std.proofs.Common.{◌≡◌, ◌∙◌, ℕ, ◌+◌, ◌-◌, ◌*◌, ◌%◌, ◌^◌, ◌<◌, ◌≤◌, eqb, cond, Bool, true, false, not, List, [], ◌∷◌, map, length, drop, get_or}
 use Rattle.std.proofs.Common.{replicate, Fits, w8, bit_and, refl, sym, ap, ap₂, arith, get_or-take, get_or-drop}
 use Rattle.std.specs.Bool.{OnTrue}
 use Rattle.std.specs.Prelude.{◌==◌, ◌||◌}

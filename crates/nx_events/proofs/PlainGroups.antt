@@ -1,13 +1,14 @@
 -- What is so of each byte of a text is so of the text.
-use Rattle.std.proofs.Common.{◌≡◌, ◌∙◌, ℕ, zero, suc, ◌+◌, ◌<◌, ◌≤◌, Bool, true, false, not, List, [], ◌∷◌, length, get_or, refl, sym, ap, ap₂, subst, arith, inl, inr, ◌⊎◌, ⊎_elim}
+use Rattle.std.proofs.Common.{◌≡◌, ◌∙◌, ℕ, suc, ◌<◌, Bool, true, false, not, List, [], ◌∷◌, length, get_or, refl, sym, ap, ap₂, arith}
 use Rattle.std.specs.Prelude.{◌==◌, ◌&&◌, ◌||◌, nat_le}
 use Rattle.std.specs.Bool.{OnTrue}
+use Rattle.std.specs.Char.{is_ascii_alphabetic, is_ascii_digit}
 use Rattle.std.specs.List.{prefix_len, list_all}
-use Rattle.std.proofs.lemmas.Bool.{and_from, eqb-true, false≢true, OnTrue_at, OnTrue_from}
+use Rattle.std.proofs.lemmas.Bool.{and_from, and_parts, eqb-true, false≢true, OnTrue_at, OnTrue_from}
 use Rattle.std.proofs.lemmas.Bool.Decides.{nat_tests}
 use Rattle.std.proofs.lemmas.List.Sums.{prefix_len_is}
 use Rattle.nx_base.specs.Characters.{is_space}
-use Rattle.nx_events.specs.ByteClasses.{AllBetween, SameBetween, IsSameName, is_plain_or, is_in_name}
+use Rattle.nx_events.specs.ByteClasses.{AllBetween, SameBetween, IsSameName, is_plain_or, is_high}
 use Rattle.nx_events.specs.Plain.{is_plain}
 use Rattle.nx_events.specs.PlainNames.{is_plain_start, is_plain_further, is_plain_name}
 use Rattle.nx_events.specs.Tags.{ends_name}
@@ -50,15 +51,21 @@ plain_name_from (b ∷ bytes) high each =
     and_from (is_plain_start b) (list_all is_plain_further bytes) (starts b high (each 0 (omega arith) (omega arith)))
     (each_listed is_plain_further bytes (λ k less. each (suc k) (omega arith) (omega (arith, less))))
 
--- no such byte ends a name
-pub in_name_stays : (b : ℕ) → is_in_name b ≡ true → ends_name b ≡ false
-unfolding is_space
-in_name_stays b h = grind (arith, nat_tests)
+letter_goes_on : (b : ℕ) → is_ascii_alphabetic b ≡ true → is_plain_further b ≡ true
+letter_goes_on b h = ap (λ t. (t || b == 95) || (is_ascii_digit b || (b == 45 || b == 46))) h
 
-pub same_in_name : (r s : Bool) (a b : List ℕ) (from to : ℕ) → OnTrue r (SameBetween a b from to) → OnTrue s (AllBetween is_in_name a from to) →
-    r ≡ true → OnTrue s (IsSameName a b from to)
-same_in_name r s a b from to same inside is =
-    OnTrue_from s (IsSameName a b from to) (λ e k begin end. (OnTrue_at is same k begin end, in_name_stays (get_or a k 0) (OnTrue_at e inside k begin end)))
+pub letters_go_on : (xs : List ℕ) → AllBetween is_ascii_alphabetic xs 0 (length xs) → AllBetween is_plain_further xs 0 (length xs)
+letters_go_on xs each k from to = letter_goes_on (get_or xs k 0) (each k from to)
+
+-- no such byte ends a name
+high_stays : (b : ℕ) → is_high b ≡ true → ends_name b ≡ false
+unfolding is_space
+high_stays b h = grind (arith, nat_tests)
+
+pub same_in_name : (r s : Bool) (a b : List ℕ) (from to : ℕ) → OnTrue r (SameBetween a b from to) → OnTrue s (AllBetween is_high a from to) →
+    OnTrue (r && s) (IsSameName a b from to)
+same_in_name r s a b from to same high =
+    OnTrue_from (r && s) (IsSameName a b from to) (λ e k begin end. let t = and_parts r s e in (OnTrue_at t.0 same k begin end, high_stays (get_or a k 0) (OnTrue_at t.1 high k begin end)))
 
 -- texts of the same bytes are the same
 pub each_same : (a b : List ℕ) → length a ≡ length b → ((k : ℕ) → k < length a → get_or a k 0 ≡ get_or b k 0) → a ≡ b

@@ -1,5 +1,5 @@
 -- Classes of bytes of which many are looked at together.
-use Rattle.std.specs.Prelude.{◌≡◌, ℕ, ◌<◌, ◌≤◌, Bool, true, false, not, ◌&&◌, ◌||◌, ◌==◌, nat_le, nat_lt, List, slice_index}
+use Rattle.std.specs.Prelude.{◌≡◌, ℕ, ◌<◌, ◌≤◌, Bool, true, false, ◌||◌, ◌==◌, nat_le, List, slice_index}
 use Rattle.nx_events.specs.Plain.{is_plain}
 use Rattle.nx_events.specs.Tags.{ends_name}
 
@@ -15,9 +15,9 @@ SameBetween a b from to = (k : ℕ) → from ≤ k → k < to → slice_index a 
 abbrev pub is_plain_or : ℕ → ℕ → Bool
 is_plain_or also b = is_plain b || b == also
 
--- a byte of a name: all from `?` on, and from `-` through `:` all but `/`. Of these none ends a name in a tag
-abbrev pub is_in_name : ℕ → Bool
-is_in_name b = nat_le 63 b || (nat_le 45 b && (nat_lt b 59 && not (b == 47)))
+-- a byte behind `>` in ASCII, as letters are, or of no ASCII: none such ends a name in a tag
+abbrev pub is_high : ℕ → Bool
+is_high b = nat_le 63 b
 
 -- two texts have the same bytes there, and none of them ends a name in a tag
 abbrev pub IsSameName : List ℕ → List ℕ → ℕ → ℕ → Type 0

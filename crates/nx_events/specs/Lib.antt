@@ -42,6 +42,7 @@ pub mod Moves
 pub mod Plain
 pub mod PlainNames
 pub mod ByteClasses
+pub mod Overlays
 pub mod PlainTags
 pub mod PlainTokens
 pub mod PlainAttributes

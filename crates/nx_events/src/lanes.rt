@@ -1,10 +1,10 @@
-//! Whether all bytes of a class or of another text stand somewhere, told by one load of N bytes. Two loads that overlap cover what is
-//! longer than one and no longer than both.
+//! Whether bytes are of a class or those of another text, told by one load of N bytes. Two loads that overlap cover what is no longer
+//! than both; who asks of both joins the answers by `&`, so that one test tells.
 
 ghost use Rattle.std.specs.Prelude.{◌+◌, ◌≤◌, length};
 ghost use Rattle.std.specs.Bool.{OnTrue};
-ghost use Rattle.nx_events.specs.ByteClasses.{AllBetween, SameBetween, is_plain_or, is_in_name};
-ghost use Rattle.nx_events.specs.PlainNames.{is_plain_further};
+ghost use Rattle.std.specs.Char.{is_ascii_alphabetic};
+ghost use Rattle.nx_events.specs.ByteClasses.{AllBetween, SameBetween, is_plain_or, is_high};
 
 use std::simd::prelude::*;
 
@@ -22,34 +22,28 @@ pub(crate) fn are_plain_or<const N: usize>(also: u8, bytes: &[u8], at: usize) ->
     (strange & lanes.simd_ne(Simd::splat(also))).to_bitmask() == 0
 }
 
-/// Whether the bytes are letters of ASCII, `_`, digits, `-` or `.`.
+/// Whether the bytes are letters of ASCII.
 #[inline(always)]
-pub(crate) fn are_plain_further<const N: usize>(bytes: &[u8], at: usize) -> bool
+pub(crate) fn are_letters<const N: usize>(bytes: &[u8], at: usize) -> bool
     requires lanes { N ≤ 64 }
     requires inside { at + N ≤ length bytes.now }
-    ensures { OnTrue result (AllBetween is_plain_further bytes.now at (at + N)) }
+    ensures { OnTrue result (AllBetween is_ascii_alphabetic bytes.now at (at + N)) }
 {
     let lanes = Simd::<u8, N>::from_slice(&bytes[at..]);
-    // a capital letter and its small one differ by this bit, and from the dash to the last digit only the slash is in no name
+    // a capital letter and its small one differ by this bit
     let no_letter = ((lanes | Simd::splat(0x20)) - Simd::splat(b'a')).simd_ge(Simd::splat(26));
-    let no_digit = (lanes - Simd::splat(b'-')).simd_ge(Simd::splat(13));
-    let strange = no_letter
-        & (no_digit | lanes.simd_eq(Simd::splat(b'/')))
-        & lanes.simd_ne(Simd::splat(b'_'));
-    strange.to_bitmask() == 0
+    no_letter.to_bitmask() == 0
 }
 
-/// Whether none of the bytes ends a name, as far as one look tells.
+/// Whether the bytes stand behind `>` in ASCII, as letters do, or are no ASCII.
 #[inline(always)]
-pub(crate) fn are_in_name<const N: usize>(bytes: &[u8], at: usize) -> bool
+pub(crate) fn are_high<const N: usize>(bytes: &[u8], at: usize) -> bool
     requires lanes { N ≤ 64 }
     requires inside { at + N ≤ length bytes.now }
-    ensures { OnTrue result (AllBetween is_in_name bytes.now at (at + N)) }
+    ensures { OnTrue result (AllBetween is_high bytes.now at (at + N)) }
 {
     let lanes = Simd::<u8, N>::from_slice(&bytes[at..]);
-    let no_mark = (lanes - Simd::splat(b'-')).simd_ge(Simd::splat(14))
-        | lanes.simd_eq(Simd::splat(b'/'));
-    (no_mark & lanes.simd_lt(Simd::splat(b'?'))).to_bitmask() == 0
+    lanes.simd_lt(Simd::splat(b'?')).to_bitmask() == 0
 }
 
 /// Whether the two have the same bytes.

@@ -22,6 +22,7 @@ mod front;
 mod lanes;
 mod markup;
 pub mod name_bytes;
+mod overlay;
 mod piece;
 mod place;
 mod plain;

@@ -88,9 +88,9 @@ fn are_plain_or(also: u8, bytes: &[u8]) -> bool
     if len >= 16 {
         are_many_plain_or(also, bytes)
     } else if len >= 8 {
-        lanes::are_plain_or::<8>(also, bytes, 0) && lanes::are_plain_or::<8>(also, bytes, len - 8)
+        lanes::are_plain_or::<8>(also, bytes, 0) & lanes::are_plain_or::<8>(also, bytes, len - 8)
     } else if len >= 4 {
-        lanes::are_plain_or::<4>(also, bytes, 0) && lanes::are_plain_or::<4>(also, bytes, len - 4)
+        lanes::are_plain_or::<4>(also, bytes, 0) & lanes::are_plain_or::<4>(also, bytes, len - 4)
     } else {
         are_few_plain_or(also, bytes)
     }

@@ -2,6 +2,7 @@
 
 ghost use Rattle.std.specs.Prelude.{◌≡◌, ◌≤◌, ◌<◌, true, false, length, MatchOption};
 ghost use Rattle.std.specs.Bool.{OnTrue};
+ghost use Rattle.std.specs.Char.{is_ascii_alphabetic};
 ghost use Rattle.std.specs.List.{list_all};
 ghost use Rattle.std.specs.Str.{chars};
 ghost use Rattle.nx_events.specs.ByteClasses.{AllBetween};
@@ -61,33 +62,35 @@ fn is_plain_further(b: u8) -> bool
     is_plain_start(b) || (b.is_ascii_digit() || (b == b'-' || b == b'.'))
 }
 
-// Whether all bytes are such ones, byte by byte.
-fn are_few_plain_further(bytes: &[u8]) -> bool
+// Whether all bytes are letters of ASCII, where two loads tell that, as of most names.
+#[inline(always)]
+fn are_letters(bytes: &[u8]) -> bool
+    ensures { OnTrue result (AllBetween is_ascii_alphabetic bytes.now 0 (length bytes.now)) }
+{
+    let len = bytes.len();
+    if len < 4 || len > 16 {
+        false
+    } else if len < 8 {
+        lanes::are_letters::<4>(bytes, 0) & lanes::are_letters::<4>(bytes, len - 4)
+    } else {
+        lanes::are_letters::<8>(bytes, 0) & lanes::are_letters::<8>(bytes, len - 8)
+    }
+}
+
+// Whether all bytes are letters of ASCII, `_`, digits, `-` or `.`.
+#[inline(always)]
+fn are_plain_further(bytes: &[u8]) -> bool
     ensures { OnTrue result (AllBetween is_plain_further bytes.now 0 (length bytes.now)) }
 {
+    if are_letters(bytes) {
+        return true;
+    }
     for b in bytes {
         if !is_plain_further(*b) {
             return false;
         }
     }
     true
-}
-
-// Whether all bytes are such ones. Most names are of four to fifteen bytes.
-#[inline(always)]
-fn are_plain_further(bytes: &[u8]) -> bool
-    ensures { OnTrue result (AllBetween is_plain_further bytes.now 0 (length bytes.now)) }
-{
-    let len = bytes.len();
-    if len < 4 || len > 32 {
-        are_few_plain_further(bytes)
-    } else if len < 8 {
-        lanes::are_plain_further::<4>(bytes, 0) && lanes::are_plain_further::<4>(bytes, len - 4)
-    } else if len < 16 {
-        lanes::are_plain_further::<8>(bytes, 0) && lanes::are_plain_further::<8>(bytes, len - 8)
-    } else {
-        lanes::are_plain_further::<16>(bytes, 0) && lanes::are_plain_further::<16>(bytes, len - 16)
-    }
 }
 
 /// Whether a letter of ASCII or `_` and then such ones, digits, `-` and `.` alone stand in the name, as in nearly all. Then it is one

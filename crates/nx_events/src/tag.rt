@@ -215,6 +215,45 @@ pub(crate) fn plain_tag_name(bytes: &[u8]) -> Option<&[u8]>
     }
 }
 
+// Whether N bytes from this place on are the same, and all of them behind `>` in ASCII, as letters are, so that none ends a name.
+#[inline(always)]
+fn are_same_lanes<const N: usize>(a: &[u8], b: &[u8], at: usize) -> bool
+    requires lanes { N ≤ 64 }
+    requires inside { at + N ≤ length a.now }
+    requires inside_other { at + N ≤ length b.now }
+    ensures { OnTrue result (IsSameName a.now b.now at (at + N)) }
+{
+    lanes::are_same::<N>(a, b, at) & lanes::are_high::<N>(a, at)
+}
+
+// Whether the two are the same such bytes, where two loads tell that, as of most names.
+#[inline(always)]
+fn are_same_high(a: &[u8], b: &[u8]) -> bool
+    requires { length a.now ≡ length b.now }
+    ensures { OnTrue result (IsSameName a.now b.now 0 (length a.now)) }
+{
+    let len = a.len();
+    if len < 4 || len > 16 {
+        false
+    } else if len < 8 {
+        are_same_lanes::<4>(a, b, 0) & are_same_lanes::<4>(a, b, len - 4)
+    } else {
+        are_same_lanes::<8>(a, b, 0) & are_same_lanes::<8>(a, b, len - 8)
+    }
+}
+
+// Whether the two are the same bytes, none of which ends a name.
+#[inline(always)]
+fn are_same_name(a: &[u8], b: &[u8]) -> bool
+    ensures same { result ≡ true → a.now ≡ b.now }
+    ensures name { result ≡ true → (k : ℕ) → k < length a.now → ends_name (slice_index a.now k) ≡ false }
+{
+    if a.len() != b.len() {
+        return false;
+    }
+    are_same_high(a, b) || are_same_few(a, b)
+}
+
 // Whether the two are the same bytes, none of which ends a name, byte by byte.
 fn are_same_few(a: &[u8], b: &[u8]) -> bool
     requires { length a.now ≡ length b.now }
@@ -226,38 +265,6 @@ fn are_same_few(a: &[u8], b: &[u8]) -> bool
         }
     }
     true
-}
-
-// Whether N bytes are so from this place on.
-#[inline(always)]
-fn are_same_lanes<const N: usize>(a: &[u8], b: &[u8], at: usize) -> bool
-    requires lanes { N ≤ 64 }
-    requires inside { at + N ≤ length a.now }
-    requires inside_other { at + N ≤ length b.now }
-    ensures { OnTrue result (IsSameName a.now b.now at (at + N)) }
-{
-    lanes::are_same::<N>(a, b, at) && lanes::are_in_name::<N>(a, at)
-}
-
-// Whether the two are the same bytes, none of which ends a name. Most names are of four to fifteen bytes.
-#[inline(always)]
-fn are_same_name(a: &[u8], b: &[u8]) -> bool
-    ensures same { result ≡ true → a.now ≡ b.now }
-    ensures name { result ≡ true → (k : ℕ) → k < length a.now → ends_name (slice_index a.now k) ≡ false }
-{
-    let len = a.len();
-    if len != b.len() {
-        return false;
-    }
-    if len < 4 || len > 32 {
-        are_same_few(a, b)
-    } else if len < 8 {
-        are_same_lanes::<4>(a, b, 0) && are_same_lanes::<4>(a, b, len - 4)
-    } else if len < 16 {
-        are_same_lanes::<8>(a, b, 0) && are_same_lanes::<8>(a, b, len - 8)
-    } else {
-        are_same_lanes::<16>(a, b, 0) && are_same_lanes::<16>(a, b, len - 16)
-    }
 }
 
 /// Whether an end tag is `</`, this name and `>`, as most are that end an element of this name. One look at its bytes tells that.

@@ -1,4 +1,3 @@
-use Rattle.std.proofs.Common.{sym, ◌∙◌}
 use Rattle.nx_events.proofs.PlainNames.{plain_parts}
 use Rattle.nx_events.proofs.qname.parted.Goals as goal
 
