@@ -1,14 +1,14 @@
 //! Where texts are looked for first.
 //!
-//! The names of a document are few, and they mostly differ in their first byte, their last one or their length. So these lead to a
-//! number, and no hash is made. A number is a guess, and whoever takes it looks at the text that has it: so no clause speaks of
+//! The names of a document are few, and they mostly differ in their first byte, their last one, the one between or their length. So these
+//! lead to a number, and no hash is made. A number is a guess, and whoever takes it looks at the text that has it: so no clause speaks of
 //! guesses, and none of them can be wrong.
 
 use nx_base::memory::NoMemory;
 use std::alloc::Global;
 
 /// A number for each of so many kinds of texts.
-const KINDS: usize = 256;
+const KINDS: usize = 1024;
 
 /// The numbers of the texts that were kept first, one for each kind; none before any text is put.
 #[derive(Drop)]
@@ -21,18 +21,19 @@ fn narrowed(guess: usize) -> u32 {
     u32::try_from(guess).unwrap_or(0)
 }
 
-// The kind of a text with these ends.
+// The kind of a text with these bytes.
 #[inline(always)]
-fn kind(length: usize, first: u8, last: u8) -> usize {
-    ((length % 8 * 32) ^ (first as usize) ^ (last as usize * 8)) % KINDS
+fn kind(length: usize, first: u8, middle: u8, last: u8) -> usize {
+    ((length % 32) ^ (first as usize * 8) ^ (middle as usize) ^ (last as usize * 32)) % KINDS
 }
 
 // The kind of a text; none where it is empty.
 #[inline(always)]
 fn kind_of(text: &[u8]) -> Option<usize> {
     let first = text.first()?;
+    let middle = text.get(text.len() / 2)?;
     let last = text.last()?;
-    Some(kind(text.len(), *first, *last))
+    Some(kind(text.len(), *first, *middle, *last))
 }
 
 impl Guesses {

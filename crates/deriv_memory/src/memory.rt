@@ -115,6 +115,7 @@ impl Memory {
     }
 
     /// The numbers of a name's parts, if both are kept.
+    #[inline(always)]
     pub fn number_of_name(&self, name: &Name) -> Option<(usize, usize)>
         ensures once { AreOnce self.now.texts }
         ensures found { IfSome result (IsName self.now.texts name.now) }
@@ -139,7 +140,9 @@ impl Memory {
         Ok((ns, local))
     }
 
-    /// The answer that was noted of a call, which may be that there is no state; none where nothing was noted.
+    /// The answer that was noted of a call, which may be that there is no state; none where nothing was noted. It is in line, so that
+    /// the form of a call needs no look where it is known.
+    #[inline(always)]
     pub fn recalled(&self, call: Asked) -> Option<Option<usize>>
         ensures { result ≡ noted self.now call }
     {
