@@ -7,6 +7,15 @@ ghost use Rattle.deriv_memory.specs.Calls.{form_of, state_of, ns_of, local_of, s
 
 use std::hash::{Hash, Hasher};
 
+/// The number of the form `Enter`.
+pub const ENTER: u8 = 0;
+
+/// The number of the form `BlankValue`.
+pub const BLANK_VALUE: u8 = 5;
+
+/// The number of the form `SolidValue`.
+pub const SOLID_VALUE: u8 = 6;
+
 /// A call on a state, by the state's number. A name is two numbers: that of its namespace and that of its local part. Strings stand
 /// here by whether they are blank alone: such a call is noted where all strings of its kind have one answer.
 #[derive(Clone, Copy, Debug)]
@@ -33,13 +42,13 @@ impl Asked {
         ensures { result ≡ form_of self.now }
     {
         match self {
-            Asked::Enter(_, _, _) => 0,
+            Asked::Enter(_, _, _) => ENTER,
             Asked::TagEnd(_) => 1,
             Asked::Leave(_) => 2,
             Asked::Blank(_) => 3,
             Asked::Solid(_) => 4,
-            Asked::BlankValue(_, _, _) => 5,
-            Asked::SolidValue(_, _, _) => 6,
+            Asked::BlankValue(_, _, _) => BLANK_VALUE,
+            Asked::SolidValue(_, _, _) => SOLID_VALUE,
         }
     }
 

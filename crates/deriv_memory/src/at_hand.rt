@@ -10,7 +10,7 @@ ghost use Rattle.deriv_memory.specs.declared.asked.Asked.TheVariants as calls;
 ghost use Rattle.deriv_memory.specs.AtHand.{said, Holds, HoldsNoMore, HoldsNothing, HoldsOneMore, IsWritten, ReadAlike, free_row, free_slot, is_slot, row_with, slot_of};
 ghost use Rattle.deriv_memory.specs.Calls.{form_of, state_of, ns_of, local_of};
 
-use crate::asked::Asked;
+use crate::asked::{Asked, BLANK_VALUE, ENTER, SOLID_VALUE};
 use nx_base::memory::NoMemory;
 use std::alloc::Global;
 
@@ -266,7 +266,7 @@ impl AtHand {
     pub fn entered(&self, state: usize, ns: usize, local: usize) -> Option<Option<usize>>
         ensures { IfSome result (Holds self.now (calls.Enter state ns local)) }
     {
-        self.at(dealt(state, local), 0, state, ns, local)
+        self.at(dealt(state, local), ENTER, state, ns, local)
     }
 
     /// The answer of an attribute's blank values.
@@ -274,7 +274,7 @@ impl AtHand {
     pub fn blank_value(&self, state: usize, ns: usize, local: usize) -> Option<Option<usize>>
         ensures { IfSome result (Holds self.now (calls.BlankValue state ns local)) }
     {
-        self.at(dealt(state, beside(local)), 5, state, ns, local)
+        self.at(dealt(state, beside(local)), BLANK_VALUE, state, ns, local)
     }
 
     /// The answer of an attribute's other values.
@@ -282,7 +282,7 @@ impl AtHand {
     pub fn solid_value(&self, state: usize, ns: usize, local: usize) -> Option<Option<usize>>
         ensures { IfSome result (Holds self.now (calls.SolidValue state ns local)) }
     {
-        self.at(dealt(state, local), 6, state, ns, local)
+        self.at(dealt(state, local), SOLID_VALUE, state, ns, local)
     }
 
     /// Room for the answer of a call.
