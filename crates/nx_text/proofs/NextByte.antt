@@ -1,6 +1,6 @@
 -- The first place of a byte, and what is listed and counted behind it.
 use Rattle.std.proofs.Common.{◌≡◌, ◌∙◌, ℕ, zero, suc, ◌+◌, ◌-◌, ◌<◌, ◌≤◌, Bool, true, false, cond, List, [], ◌∷◌, ◌++◌, length}
-use Rattle.std.proofs.Common.{take, drop, refl, sym, ap, ap₂, arith, append-nil, take_all}
+use Rattle.std.proofs.Common.{take, drop, get_or, refl, sym, ap, ap₂, subst, arith, append-nil, take_all, inl, inr}
 use Rattle.std.specs.Prelude.{◌==◌}
 use Rattle.std.proofs.lemmas.List.{length-drop, append_assoc, drop-append-le, drop-drop, take-append-drop, length-take-le}
 use Rattle.std.proofs.Math.Seq.{drop-append-add}
@@ -12,7 +12,7 @@ use Rattle.nx_text.specs.Reading.{StandFrom}
 use Rattle.std.specs.List.{count_by, prefix_len}
 use Rattle.std.proofs.Common.{◌%◌, ◌^◌, eqb, not, map, replicate, w8}
 use Rattle.std.proofs.lemmas.Simd.{bitmask_splat, first_set_mask_l}
-use Rattle.std.proofs.lemmas.Bool.{eq-eqb, ne_eqb, cond-true, cond-false}
+use Rattle.std.proofs.lemmas.Bool.{cases_Bool, eq-eqb, ne_eqb, cond-true, cond-false}
 use lib.Lanes.{zip2, mask_l, top}
 use lib.Count.{count_trailing_zeros}
 use Rattle.nx_text.proofs.Feeds.{feed_count, counted, count_of_both}
@@ -239,6 +239,41 @@ module _ (byte passed near : ℕ) (bytes : List ℕ) (room : passed + 16 ≤ len
       let whole : bytes_up_to byte (take 16 rest ++ drop 16 rest) ≡ bytes_up_to byte rest = ap (bytes_up_to byte) (take-append-drop 16 rest) in
       let there : bytes_up_to byte (drop 16 rest) ≡ bytes_up_to byte (drop (passed + 16) bytes) = ap (bytes_up_to byte) (drop-drop 16 passed bytes) in
       omega (arith, long, e, whole, there, so_far)
+
+-- what stands at the first such byte, and in front of it
+early_first : (b : Bool) (near : ℕ) → 0 < cond b 0 (near + 1) → b ≡ true → ⊥
+early_first true near less e = absurd (omega arith)
+early_first false near less e = cc
+
+early_step : (b : Bool) (k near : ℕ) → suc k < cond b 0 (near + 1) → k < near
+early_step true k near less = absurd (omega arith)
+early_step false k near less = omega arith
+
+none_early : (byte : ℕ) (xs : List ℕ) (k : ℕ) → k < bytes_up_to byte xs → ¬ Passes (is_byte byte) xs k
+unfolding bytes_up_to
+none_early byte [] k less = absurd (omega arith)
+none_early byte (x ∷ xs) zero less = λ e. early_first (x == byte) (bytes_up_to byte xs) less e
+none_early byte (x ∷ xs) (suc k) less = none_early byte xs k (early_step (x == byte) k (bytes_up_to byte xs) less)
+
+stands_there : (byte : ℕ) (xs : List ℕ) → bytes_up_to byte xs < length xs → Passes (is_byte byte) xs (bytes_up_to byte xs)
+unfolding bytes_up_to
+stands_there byte [] = λ less. absurd (omega arith)
+stands_there byte (x ∷ xs) = elim (cases_Bool (x == byte)) [
+  | inl e ↦ rw e (λ less. e)
+  | inr e ↦ rw e (λ less. ap (λ n. get_or (x ∷ xs) n 0 == byte) (next (bytes_up_to byte xs)) ∙ stands_there byte xs (omega arith))
+]
+  where
+    next : (n : ℕ) → n + 1 ≡ suc n
+    next n = omega arith
+
+pub first_there : (byte n : ℕ) (xs : List ℕ) → n ≡ bytes_up_to byte xs → n < length xs → IsFirstAt byte xs n
+first_there byte n xs is less = subst (IsFirstAt byte xs) (sym is) (
+  record { low = omega arith; high = omega (arith, is, less); before = λ k low high. none_early byte xs k high },
+  stands_there byte xs (omega (arith, is, less)),
+)
+
+pub none_there : (byte n : ℕ) (xs : List ℕ) → n ≡ bytes_up_to byte xs → length xs ≤ n → Nowhere (Passes (is_byte byte) xs) 0 (length xs)
+none_there byte n xs is past k low high = none_early byte xs k (omega (arith, is, past, high))
 
 -- what the mask of one load says
 one_more : (b : Bool) (n m : ℕ) → n ≡ m → cond (not b) (1 + n) 0 ≡ cond b 0 (m + 1)

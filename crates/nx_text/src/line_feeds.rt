@@ -10,7 +10,7 @@ ghost use Rattle.nx_base.specs.Text.{IsPlace};
 ghost use Rattle.std.specs.Str.{IsUtf8};
 
 use crate::gap_buffer::GapBuffer;
-use memchr::memchr;
+use crate::search::first_byte;
 
 /// How many of the line feeds stand in front of an offset.
 fn feeds_below(feeds: &[usize], at: usize) -> usize
@@ -139,7 +139,7 @@ pub(crate) fn push_feeds(feeds: &mut GapBuffer<usize>, at: usize, added: &[u8])
     ensures back { feeds.new.back ≡ feeds.old.back }
 {
     let mut left = added;
-    while let Some(before) = memchr(b'\n', left) {
+    while let Some(before) = first_byte(b'\n', left) {
         feeds.push(at + (added.len() - left.len()) + before);
         left = &left[before + 1..];
     }

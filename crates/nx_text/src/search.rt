@@ -1,6 +1,7 @@
-//! What stands from an offset on in a text that lies in two pieces, one behind the other.
+//! The first place of a byte, and what stands from an offset on in a text that lies in two pieces, one behind the other.
 
 ghost use Rattle.std.specs.Prelude.{◌≡◌, ◌+◌, ◌<◌, ◌≤◌, ◌^◌, ◌++◌, length, take, drop};
+ghost use Rattle.memchr.specs.Find.{IsFirstByte, is_byte};
 ghost use Rattle.nx_base.specs.Tokens.{bytes_up_to};
 ghost use Rattle.nx_text.specs.Reading.{StandFrom};
 
@@ -27,7 +28,7 @@ fn lanes_up_to(bytes: &[u8], byte: u8) -> usize
 }
 
 /// How many bytes are looked at so before all others.
-const NEAR: usize = 64;
+const NEAR: usize = 128;
 
 /// The same where the byte is looked for in all bytes at once, as is worth its while in many of them.
 #[inline(never)]
@@ -57,6 +58,19 @@ pub fn up_to_byte(bytes: &[u8], byte: u8) -> usize
         passed += LANES;
     }
     passed + far_up_to(&bytes[passed..], byte)
+}
+
+/// The index of the first such byte.
+#[inline(always)]
+pub(crate) fn first_byte(byte: u8, bytes: &[u8]) -> Option<usize>
+    ensures { IsFirstByte (is_byte byte) bytes.now result }
+{
+    let before = up_to_byte(bytes, byte);
+    if before < bytes.len() {
+        Some(before)
+    } else {
+        None
+    }
 }
 
 /// The bytes from an offset on, as far as they lie in one piece.
