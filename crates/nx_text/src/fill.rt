@@ -1,8 +1,10 @@
-//! Buffers that are filled anew in the room that they have.
+//! Lists of bytes that are filled anew in the room that they have.
 
-ghost use Rattle.std.specs.Prelude.{◌≡◌, ◌+◌, ◌≤◌, ◌++◌, length, take, vec_len, vec_capacity, IfOk};
+ghost use Rattle.std.specs.Prelude.{◌≡◌, ◌+◌, ◌≤◌, ◌++◌, length, take, vec_len, vec_capacity, OnOk};
 
+use nx_base::sequence::Bytes;
 use std::alloc::AllocError;
+use std::mem;
 
 /// How many bytes are written at once.
 const LANES: usize = 16;
@@ -39,29 +41,37 @@ fn filled_with_few(buffer: Vec<u8>, first: [u8; LANES], second: [u8; LANES], len
     buffer
 }
 
-/// These bytes, in a buffer that may have to get more room.
+/// Puts these bytes in the place of what a list held. The buffer is what it held them in, and may have to get more room.
 #[inline(never)]
-fn filled_with_all(buffer: Vec<u8>, bytes: &[u8]) -> Result<Vec<u8>, AllocError>
-    ensures { IfOk result (λ filled. filled.items ≡ bytes.now) }
+fn fill_with_all(list: &mut Bytes, buffer: Vec<u8>, bytes: &[u8]) -> Result<(), AllocError>
+    ensures { OnOk result (list.new ≡ bytes.now) }
 {
     let mut buffer = buffer;
     buffer.clear();
     buffer.extend_from_slice(bytes)?;
-    Ok(buffer)
+    *list = Bytes::from_vec(buffer);
+    Ok(())
 }
 
-/// The first so many bytes of a piece, in a buffer that held others. It keeps its room.
+/// Puts the first so many bytes of a piece in the place of what a list held, in its room. An empty list stands there meanwhile.
 #[inline(always)]
-pub(crate) fn filled(buffer: Vec<u8>, piece: &[u8], len: usize) -> Result<Vec<u8>, AllocError>
+pub(crate) fn fill(
+    list: &mut Bytes,
+    empty: Bytes,
+    piece: &[u8],
+    len: usize,
+) -> Result<(), AllocError>
     requires { len ≤ length piece.now }
-    ensures { IfOk result (λ filled. filled.items ≡ take len piece.now) }
+    ensures { OnOk result (list.new ≡ take len piece.now) }
 {
+    let buffer = mem::replace(list, empty).into_vec();
     if len <= FEW && FEW <= buffer.capacity() {
         if let Some((first, rest)) = piece.split_first_chunk::<LANES>() {
             if let Some(second) = rest.first_chunk::<LANES>() {
-                return Ok(filled_with_few(buffer, *first, *second, len));
+                *list = Bytes::from_vec(filled_with_few(buffer, *first, *second, len));
+                return Ok(());
             }
         }
     }
-    filled_with_all(buffer, &piece[..len])
+    fill_with_all(list, buffer, &piece[..len])
 }

@@ -11,7 +11,7 @@ ghost use Rattle.nx_text.specs.Editing.{Inserts, Deletes, IsRange};
 ghost use Rattle.nx_text.specs.Reading.{StandsAt, HasNoCharAt, StandFrom};
 
 use crate::apart::{self, next_border, previous_border};
-use crate::fill::filled;
+use crate::fill::fill;
 use crate::gap_buffer::GapBuffer;
 use crate::line_feeds::{count_feeds, feeds_before, move_gaps, push_feeds, take_out};
 use crate::places::{column_in, has_feed};
@@ -214,8 +214,7 @@ impl Text {
         ensures { OnOk result (list.new ≡ take len piece.now) }
     {
         let empty = Bytes::from_vec(self.bytes.no_items());
-        let buffer = mem::replace(list, empty).into_vec();
-        *list = Bytes::from_vec(filled(buffer, piece, len)?);
+        fill(list, empty, piece, len)?;
         Ok(())
     }
 
