@@ -65,7 +65,7 @@ stay-on (suc n) text piece at place i read utf8 is within stay open_read so_far 
     (byte-on text piece at place i read read utf8 is (omega arith) here.low here.same open_read so_far))
 
 -- a part of a list, at an index
-there : (from k : ℕ) (piece : List ℕ) → get_or (take (length piece - from) (drop from piece)) k 0 ≡ get_or piece (from + k) 0
+pub there : (from k : ℕ) (piece : List ℕ) → get_or (take (length piece - from) (drop from piece)) k 0 ≡ get_or piece (from + k) 0
 there from k piece =
     ap (λ t. get_or t k 0) (take_all (length piece - from) (drop from piece) (let len = length-drop from piece in omega (arith, len)))
     ∙ get_or-drop from piece k 0

@@ -8,7 +8,7 @@ ghost use Rattle.nx_base.specs.Characters.{is_name_start};
 ghost use Rattle.nx_base.specs.Text.{IsPlace};
 ghost use Rattle.nx_scan.specs.Tag.{IsReadTo, IsClosedName, IsAttribute, Passes, Stays, is_name_byte, is_value_byte};
 
-use crate::lanes::{LANES, name_run, value_run};
+use crate::lanes::{LANES, letter_run, name_run, value_run};
 use crate::tag::TagState;
 use nx_base::character::is_quote;
 use nx_text::text::Text;
@@ -70,6 +70,21 @@ fn name_len(bytes: &[u8]) -> usize
     LANES + short_name_len(&bytes[LANES..])
 }
 
+/// How many bytes of a name that `>` may close stand in front.
+#[inline(always)]
+fn closed_len(bytes: &[u8]) -> usize
+    ensures within { result ≤ length bytes.now }
+    ensures names { (k : ℕ) → k < result → IsTrue (is_name_byte (slice_index bytes.now k)) }
+{
+    if bytes.len() >= LANES {
+        let letters = letter_run(bytes);
+        if letters < LANES && bytes[letters] == b'>' {
+            return letters;
+        }
+    }
+    name_len(bytes)
+}
+
 /// The index of the `>` that closes a name which begins at `from`; none where something else stands there or behind the name, or one of
 /// its characters has more than one byte.
 #[inline(always)]
@@ -79,7 +94,7 @@ pub(crate) fn closed_name(bytes: &[u8], from: usize) -> Option<usize>
     if from >= bytes.len() || !is_name_first(bytes[from]) {
         return None;
     }
-    let close = from + 1 + name_len(&bytes[from + 1..]);
+    let close = from + 1 + closed_len(&bytes[from + 1..]);
     if close < bytes.len() && bytes[close] == b'>' {
         Some(close)
     } else {

@@ -1,6 +1,6 @@
-use Rattle.std.proofs.Common.{rules, ◌+◌, arith}
+use Rattle.std.proofs.Common.{rules, ◌≡◌, ℕ, ◌+◌, true, subst, arith}
 use Rattle.nx_scan.specs.Tag.{is_name_byte}
-use Rattle.nx_scan.proofs.TagParts.{each_passes}
+use Rattle.nx_scan.proofs.TagParts.{there}
 use Rattle.nx_scan.proofs.tag_part.closed_name.Goals as goal
 
 pub returns-then-bytes-close-eq62 : goal.returns-then-bytes-close-eq62
@@ -11,6 +11,7 @@ returns-then-bytes-close-eq62 c =
       low = search rules;
       first = search rules;
       others = λ k less.
-          each_passes is_name_byte c.args.bytes.now (c.args.from + 1) c.name_len.result c.name_len.ensures.len k (omega (arith, less));
+          subst (λ (byte : ℕ). is_name_byte byte ≡ true) (there (c.args.from + 1) k c.args.bytes.now)
+          (c.closed_len.ensures.names k (omega (arith, less)));
       closed = search rules;
     }
