@@ -3,10 +3,11 @@ use Rattle.std.proofs.Common.{◌≡◌, ℕ, zero, suc, ◌+◌, ◌-◌, ◌<�
 use Rattle.std.specs.Prelude.{◌&&◌, ◌||◌, not, nat_eq, unwrap_or}
 use Rattle.std.specs.List.{AllByRecursion, prefix_len, starts_with, list_all, position_or_len, before_first, after_first}
 use Rattle.std.specs.Str.{IsAscii, bytes_eq}
-use Rattle.std.proofs.lemmas.Bool.{lt-ltb}
+use Rattle.std.proofs.lemmas.Bool.{lt-ltb, and_parts, not-true}
 use Rattle.std.proofs.lemmas.Bool.Decides.{Decides-eqb, nat_tests}
 use Rattle.std.proofs.lemmas.Grind.{common_steps}
-use Rattle.std.proofs.lemmas.List.{append-nil, take_rest}
+use Rattle.std.proofs.lemmas.List.{append-nil, take_rest, get_or-take}
+use Rattle.std.proofs.lemmas.List.Sums.{position_or_len_is}
 use Rattle.std.proofs.lemmas.Slice.Eq.{starts_is}
 use Rattle.std.proofs.lemmas.Str.{IsUtf8-from_ascii}
 use Rattle.std.proofs.lemmas.Str.Ascii.{IsAscii-nil, IsAscii-cons}
@@ -17,6 +18,8 @@ use Rattle.nx_base.specs.declared.name.Name.{Name}
 use Rattle.nx_base.specs.declared.token.Token.{Token}
 use Rattle.nx_base.specs.declared.token.TokenKind.TheVariants as kinds
 use Rattle.nx_events.specs.Among.{faults_among}
+use Rattle.nx_base.specs.Characters.{is_space}
+use Rattle.nx_events.specs.ByteClasses.{AllBetween, goes_on_name, IsBeforeSign}
 use Rattle.nx_events.specs.Declarations.{is_declaration, declaration_flaw, flaw_faults, binding_unless, faults_at, bindings_at, declaration_faults, bindings}
 use Rattle.nx_events.specs.Elements.{flawed_as, declared_or_flaw, element_resolved, element_items, has_name, new_or_flaw, attribute_resolved, resolved_if_attribute, attribute_declared, attribute_item, kept_name, attribute_items}
 use Rattle.nx_events.specs.Faults.{faults_as_items}
@@ -43,7 +46,7 @@ use Rattle.nx_events.specs.declared.tag.Attribute.{Attribute}
 use Rattle.nx_events.proofs.OpenItems.{start_tags_go_on, resolved_is}
 use Rattle.nx_events.proofs.PlainNames.{plain_name, plain_parts}
 use Rattle.nx_events.proofs.PlainRuns.{plain_told, plain_string_of}
-use Rattle.nx_events.proofs.PlainTags.{plain_resolved, one_more}
+use Rattle.nx_events.proofs.PlainTags.{plain_resolved, one_more, name_stays}
 use Rattle.nx_events.proofs.PlainTokens.{gives_by, leads_by, default_uri, behind_run}
 use Rattle.nx_events.proofs.Tags.{none_between, none_among, attributes_step, tag_of_some}
 
@@ -84,6 +87,35 @@ xml_named written it d s h x l =
       declared = λ scope. ap (attribute_declared scope) whole ∙ xml_declared scope it.local.now h
           ∙ ap (λ t. Named (record { ns = namespace_if t; local = it.local.now })) (sym x);
     }
+
+-- no byte of these names ends a name
+each_goes_on : (xs : List ℕ) → list_all (λ b. is_plain b && not (ends_name b)) xs ≡ true → AllBetween goes_on_name xs 0 (length xs)
+each_goes_on [] h k from to = absurd (omega (arith, to))
+each_goes_on (b ∷ xs) h zero from to = (and_parts (is_plain b) (not (ends_name b)) (and_parts (is_plain b && not (ends_name b)) (list_all (λ b. is_plain b && not (ends_name b)) xs) h).0).1
+each_goes_on (b ∷ xs) h (suc k) from to =
+    each_goes_on xs (and_parts (is_plain b && not (ends_name b)) (list_all (λ b. is_plain b && not (ends_name b)) xs) h).1 k (omega arith) (omega (arith, to))
+
+pub plain_goes_on : (name : List ℕ) → is_plain_name name ≡ true → AllBetween goes_on_name name 0 (length name)
+plain_goes_on name h = each_goes_on name (name_stays name h)
+
+pub xml_goes_on : (written local : List ℕ) → starts_with nat_eq written (codes "xml:") ≡ true → is_plain_name local ≡ true →
+    local ≡ take (length written - 4) (drop 4 written) → AllBetween goes_on_name written 0 (length written)
+unfolding is_space
+xml_goes_on written local s h l =
+    let whole : written ≡ codes "xml:" ++ local =
+    (starts_is Decides-eqb written (codes "xml:") (starts_with nat_eq written (codes "xml:")) refl).0 s ∙ ap (λ (ys : List ℕ). codes "xml:" ++ ys) (sym (l ∙ take_rest written 4)) in
+    let P : List ℕ → Type 0 = λ xs. AllBetween goes_on_name xs 0 (length xs) in
+    subst P (sym whole) (each_goes_on (codes "xml:" ++ local) (name_stays local h))
+
+-- so it ends where `=` stands
+pub ends_at_sign : (spelled name : List ℕ) → IsBeforeSign spelled name → AllBetween goes_on_name name 0 (length name) → name ≡ written_name spelled
+unfolding written_name is_space
+ends_at_sign spelled name h each =
+    let ends : position_or_len ends_name spelled ≡ length name =
+    position_or_len_is ends_name spelled (length name) 0 (omega (arith, h.within))
+    (λ k less. ap ends_name (sym (get_or-take (length name) spelled k 0 less) ∙ sym (ap (λ (xs : List ℕ). get_or xs k 0) h.is)) ∙ not-true _ (each k (omega arith) less))
+    (λ _. ap ends_name h.sign) in
+    h.is ∙ ap (λ (k : ℕ). take k spelled) (sym ends)
 
 -- two names apart
 pub apart_by_prefix : (a b : PlainAttribute) → (a.is_xml ≡ b.is_xml → ⊥) → has_name (attribute_name a ∷ []) (attribute_name b) ≡ false

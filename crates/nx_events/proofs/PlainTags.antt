@@ -54,7 +54,7 @@ all_stay (b ∷ bytes) h =
     let t = and_parts (is_plain_further b) (list_all is_plain_further bytes) h in
     ap (λ u. u && list_all (λ c. is_plain c && not (ends_name c)) bytes) (further_stays b t.0) ∙ all_stay bytes t.1
 
-name_stays : (name : List ℕ) → is_plain_name name ≡ true → list_all (λ b. is_plain b && not (ends_name b)) name ≡ true
+pub name_stays : (name : List ℕ) → is_plain_name name ≡ true → list_all (λ b. is_plain b && not (ends_name b)) name ≡ true
 name_stays [] h = absurd (false≢true h)
 name_stays (b ∷ bytes) h =
     let t = and_parts (is_plain_start b) (list_all is_plain_further bytes) h in

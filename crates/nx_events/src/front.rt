@@ -6,6 +6,7 @@ ghost use Rattle.std.specs.Char.{is_ascii_digit, is_ascii_hexdigit};
 ghost use Rattle.nx_base.specs.Characters.{is_space, is_quote};
 ghost use Rattle.nx_events.specs.Tags.{is_between, ends_name};
 
+use crate::lanes::{FRONT, first_byte, first_quote};
 use nx_base::character::is_quote;
 
 /// Whether the byte is white space of XML.
@@ -102,6 +103,13 @@ pub(crate) fn quote_place(bytes: &[u8]) -> usize
     ensures value { result ≡ position_or_len is_quote bytes.now }
     ensures bound { result ≤ length bytes.now }
 {
+    // Most names are short.
+    if bytes.len() >= FRONT {
+        let first = first_quote(bytes);
+        if first < FRONT {
+            return first;
+        }
+    }
     for (i, b) in bytes.iter().enumerate() {
         if is_quote(char::from(*b)) {
             return i;
@@ -115,6 +123,12 @@ pub(crate) fn byte_place(bytes: &[u8], byte: u8) -> usize
     ensures value { result ≡ position_or_len (λ b. b == byte) bytes.now }
     ensures bound { result ≤ length bytes.now }
 {
+    if bytes.len() >= FRONT {
+        let first = first_byte(bytes, byte);
+        if first < FRONT {
+            return first;
+        }
+    }
     for (i, b) in bytes.iter().enumerate() {
         if *b == byte {
             return i;

@@ -1,9 +1,12 @@
 //! Whether bytes are of a class or those of another text, told by one load of N bytes. Two loads that overlap cover what is no longer
 //! than both; who asks of both joins the answers by `&`, so that one test tells.
 
-ghost use Rattle.std.specs.Prelude.{◌+◌, ◌≤◌, length};
+ghost use Rattle.std.specs.Prelude.{◌≡◌, ◌+◌, ◌≤◌, ◌==◌, if◌then◌else◌, length, take};
 ghost use Rattle.std.specs.Bool.{OnTrue};
 ghost use Rattle.std.specs.Char.{is_ascii_alphabetic};
+ghost use Rattle.std.specs.Int.{w64, trailing_zeros};
+ghost use Rattle.std.specs.List.{position_or_len};
+ghost use Rattle.nx_base.specs.Characters.{is_quote};
 ghost use Rattle.nx_events.specs.ByteClasses.{AllBetween, SameBetween, is_plain_or, is_high};
 
 use std::simd::prelude::*;
@@ -57,4 +60,40 @@ pub(crate) fn are_same<const N: usize>(a: &[u8], b: &[u8], at: usize) -> bool
     let lanes = Simd::<u8, N>::from_slice(&a[at..]);
     let others = Simd::<u8, N>::from_slice(&b[at..]);
     lanes.simd_ne(others).to_bitmask() == 0
+}
+
+/// How many bytes are looked at together where the first of a kind is wanted.
+pub(crate) const FRONT: usize = 8;
+
+/// The lowest bit that is set, or how many bytes there are where none is.
+#[inline(always)]
+fn first_set(found: u64) -> usize
+    ensures { result ≡ (if found == 0 then 8 else trailing_zeros w64 found) }
+{
+    if found == 0 {
+        FRONT
+    } else {
+        found.trailing_zeros() as usize
+    }
+}
+
+/// Where the first quote stands among the first eight bytes, or eight.
+#[inline(always)]
+pub(crate) fn first_quote(bytes: &[u8]) -> usize
+    requires { 8 ≤ length bytes.now }
+    ensures { result ≡ position_or_len is_quote (take 8 bytes.now) }
+{
+    let lanes = u8x8::from_slice(bytes);
+    let found = lanes.simd_eq(u8x8::splat(b'"')) | lanes.simd_eq(u8x8::splat(b'\''));
+    first_set(found.to_bitmask())
+}
+
+/// Where the first such byte stands among the first eight, or eight.
+#[inline(always)]
+pub(crate) fn first_byte(bytes: &[u8], byte: u8) -> usize
+    requires { 8 ≤ length bytes.now }
+    ensures { result ≡ position_or_len (λ b. b == byte) (take 8 bytes.now) }
+{
+    let found = u8x8::from_slice(bytes).simd_eq(u8x8::splat(byte));
+    first_set(found.to_bitmask())
 }

@@ -2,9 +2,10 @@
 //! prefix `xml`; nothing is declared, no name comes twice, and each byte stands for itself. In a book most start tags that aren't a name
 //! alone are such. A schema can be asked of their attributes as they lie, and no list of them is made.
 
-ghost use Rattle.std.specs.Prelude.{◌≡◌, ◌∷◌, [], ℕ, true, false, length, IfOk, IfSome};
+ghost use Rattle.std.specs.Prelude.{◌≡◌, ◌<◌, ◌∷◌, [], ℕ, true, false, length, IfOk, IfSome};
 ghost use Rattle.std.specs.List.{prefix_len};
 ghost use Rattle.nx_base.specs.declared.token.TokenKind.TheVariants as kinds;
+ghost use Rattle.nx_events.specs.ByteClasses.{AllBetween, goes_on_name, IsBeforeSign};
 ghost use Rattle.nx_events.specs.Elements.{has_name};
 ghost use Rattle.nx_events.specs.Plain.{is_plain};
 ghost use Rattle.nx_events.specs.PlainAttributes.{namespace_if, attribute_name, listed, IsPlainOpening, IsNameOf, IsFront, AreReadAs};
@@ -19,7 +20,7 @@ use crate::reading::Reading;
 use crate::scope::XML_URI;
 use crate::stage::is_behind;
 use crate::state::EventState;
-use crate::tag::{are_between, attribute_extent, copy_in, written_name};
+use crate::tag::{are_between, attribute_extent, copy_in};
 use nx_base::memory::NoMemory;
 use nx_base::name::Name;
 use nx_base::sequence::Bytes;
@@ -61,7 +62,7 @@ struct Front<'t> {
 
 // The attribute of this name and this value, if one look at its name tells what it is.
 fn named<'t>(name: &'t [u8], value: &'t [u8]) -> Option<PlainAttribute<'t>>
-    ensures { IfSome result (λ it. IsNameOf name.now it × (it.value.now ≡ value.now)) }
+    ensures { IfSome result (λ it. IsNameOf name.now it × (it.value.now ≡ value.now) × AllBetween goes_on_name name.now 0 (length name.now)) }
 {
     if is_declaration(name) {
         return None;
@@ -87,6 +88,17 @@ fn named<'t>(name: &'t [u8], value: &'t [u8]) -> Option<PlainAttribute<'t>>
     })
 }
 
+// What stands before the `=` in front of a quote, where nothing stands between those.
+fn name_before(spelled: &[u8], quote: usize) -> Option<&[u8]>
+    requires { quote < length spelled.now }
+    ensures { IfSome result (λ name. IsBeforeSign spelled.now name.now) }
+{
+    if quote == 0 || spelled[quote - 1] != b'=' {
+        return None;
+    }
+    Some(&spelled[..quote - 1])
+}
+
 // The attribute behind one byte that may stand between.
 fn attribute_behind(bytes: &[u8]) -> Option<Front<'_>>
     ensures { IfSome result (λ front. IsFront bytes.now front.attribute front.rest.now) }
@@ -98,7 +110,9 @@ fn attribute_behind(bytes: &[u8]) -> Option<Front<'_>>
     let extent = attribute_extent(spelled)?;
     let from = extent.quote + 1;
     let to = from + extent.value;
-    let attribute = named(written_name(spelled), &spelled[from..to])?;
+    // no byte of a plain name ends one, so it needn't be looked through for its end
+    let name = name_before(spelled, extent.quote)?;
+    let attribute = named(name, &spelled[from..to])?;
     Some(Front {
         attribute,
         rest: &spelled[to + 1..],
