@@ -1,19 +1,15 @@
 -- Bytes that are written over others.
-use Rattle.std.proofs.Common.{◌≡◌, ℕ, ◌+◌, ◌-◌, ◌≤◌, List, ◌++◌, length, take, drop, ap, sym, ◌∙◌, arith, length-take-le, length-drop, take-take, take_all, take-append-drop}
-use Rattle.nx_events.specs.Overlays.{LiesAt}
+use Rattle.std.proofs.Common.{◌≡◌, ℕ, ◌-◌, ◌≤◌, List, ◌++◌, length, take, drop, ap, sym, ◌∙◌, arith}
+use Rattle.std.proofs.Math.Seq.{take-append_seam}
+use Rattle.std.proofs.lemmas.Slice.{take-put_mid}
+use borrow.Rule.Slice.PartMut.{put_mid, same_len_mid, mid_len}
 
--- the first and the last `half` bytes of a text, laid over each other, are the text
-pub both_ends : (a b c src : List ℕ) (half : ℕ) → half ≤ length src → length src ≤ half + half → LiesAt a b 0 (take half src) →
-    LiesAt b c (length src - half) (take half (drop (length src - half) src)) → LiesAt a c 0 src
-both_ends a b c src half enough covered p q =
-    let last = length src - half in
-    let front : length (take half src) ≡ half = length-take-le half src enough in
-    let end : take half (drop last src) ≡ drop last src = take_all half (drop last src) (omega (arith, length-drop last src)) in
-    let size : last + length (take half (drop last src)) ≡ 0 + length src = omega (arith, ap length end, length-drop last src, enough) in
-    let begin : take last b ≡ take last src =
-    sym (take-take last (0 + length (take half src)) b (omega (arith, front, covered))) ∙ ap (take last) p.front ∙ take-take last half src (omega (arith, covered)) in
-    record {
-      front = sym (ap (λ (k : ℕ). take k c) size) ∙ q.front ∙ ap (λ (l : List ℕ). l ++ take half (drop last src)) begin
-          ∙ ap (λ (l : List ℕ). take last src ++ l) end ∙ take-append-drop last src;
-      len = q.len ∙ p.len;
-    }
+-- in front of what is left of a list that they are written over stand the bytes
+pub over_front : (xs ys : List ℕ) (n len : ℕ) → len ≡ length xs → n ≤ length xs → length ys ≡ n - 0 →
+    take n (take len (put_mid 0 (n - 0) xs ys ++ drop (length (put_mid 0 (n - 0) xs ys)) xs)) ≡ ys
+over_front xs ys n len is fits e =
+    let k = n - 0 in
+    let all : length (put_mid 0 k xs ys) ≡ length xs = same_len_mid 0 k xs ys (e ∙ sym (mid_len 0 n xs (omega (arith, fits)))) in
+    ap (λ m. take n (take m (put_mid 0 k xs ys ++ drop (length (put_mid 0 k xs ys)) xs))) (is ∙ sym all)
+    ∙ ap (take n) (take-append_seam (put_mid 0 k xs ys) (drop (length (put_mid 0 k xs ys)) xs))
+    ∙ take-put_mid 0 k xs ys n (omega (arith, e)) (omega arith)

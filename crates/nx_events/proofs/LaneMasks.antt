@@ -1,5 +1,5 @@
 -- What the mask of one load tells of its bytes.
-use Rattle.std.proofs.Common.{◌≡◌, ◌∙◌, ℕ, ◌+◌, ◌-◌, ◌*◌, ◌%◌, ◌^◌, ◌<◌, ◌≤◌, eqb, cond, Bool, true, false, not, List, [], ◌∷◌, map, length, take, drop, get_or}
+use Rattle.std.proofs.Common.{◌≡◌, ◌∙◌, ℕ, ◌+◌, ◌-◌, ◌*◌, ◌%◌, ◌^◌, ◌<◌, ◌≤◌, eqb, cond, Bool, true, false, not, List, [], ◌∷◌, map, length, take, drop, get_or, take-append-drop}
 use Rattle.std.proofs.Common.{replicate, Fits, w8, bit_and, refl, sym, ap, ap₂, arith, get_or-take, get_or-drop}
 use Rattle.std.specs.Bool.{OnTrue}
 use Rattle.std.specs.Int.{w64, trailing_zeros}
@@ -8,7 +8,7 @@ use Rattle.std.specs.Prelude.{◌==◌, ◌||◌, if◌then◌else◌}
 use Rattle.std.proofs.lemmas.Bool.{agree_below, agree_below_at, eqb-true, ne_eqb, false≢true, OnTrue_from}
 use Rattle.std.proofs.lemmas.List.{length-map}
 use Rattle.std.proofs.lemmas.List.Folds.{prefix_len-append}
-use Rattle.std.proofs.lemmas.Simd.{mask_l-mod, first_set_mask_l, chunk-drop, length-chunk, chunk-fits, none_from_empty_mask, zip2-map, zip2_splat, length-zip2}
+use Rattle.std.proofs.lemmas.Simd.{mask_l-mod, first_set_mask_l, length-chunk, chunk-fits, none_from_empty_mask, zip2-map, zip2_splat, length-zip2}
 use Rattle.nx_events.specs.ByteClasses.{AllBetween, SameBetween, is_plain_or}
 use Rattle.nx_events.specs.Plain.{is_plain}
 use lib.Lanes.{chunk, zip2, mask_l, top, Each1}
@@ -26,7 +26,7 @@ each_byte : (f : ℕ → ℕ) (p : ℕ → Bool) → ((b : ℕ) → b < 256 → 
 each_byte f p same [] fits = refl
 each_byte f p same (x ∷ xs) fits = ap₂ (λ a b. a ∷ b) (same x fits.0.fits) (each_byte f p same xs fits.1)
 
-holds : (b : Bool) → not b ≡ false → b ≡ true
+pub holds : (b : Bool) → not b ≡ false → b ≡ true
 holds true e = refl
 holds false e = absurd (false≢true (sym e))
 
@@ -103,33 +103,34 @@ same_from_lanes a b i n room room_b few =
     ∙ ap (λ (zs : List ℕ). get_or zs (k - i) 0) (none_differ xs ys (long ∙ sym long_b) (sym mask ∙ eqb-true _ 0 e))
     ∙ sym (lane_is b i n k from to))
 
--- the first byte of a kind among the first eight
-pub first_is : (p : ℕ → Bool) (d z : List ℕ) (r : ℕ) → 8 ≤ length d → ((k : ℕ) → Fits w8 (get_or d k 0)) →
-    r ≡ (if mask_l (map (top 7) z) % 2 ^ 64 == 0 then 8 else trailing_zeros w64 (mask_l (map (top 7) z) % 2 ^ 64)) →
-    (f : ℕ → ℕ) → z ≡ map f (chunk 0 8 d) → ((b : ℕ) → b < 256 → top 7 (f b) ≡ p b) → r ≡ position_or_len p (take 8 d)
-first_is p d z r room fits found f lanes same =
-    let v = chunk 0 8 d in
-    let long : length v ≡ 8 = length-chunk 0 8 d room in
-    let mask : mask_l (map (top 7) z) % 2 ^ 64 ≡ mask_l (map p v) =
-    ap (λ l. mask_l l % 2 ^ 64) (ap (map (top 7)) lanes ∙ each_byte f p same v (chunk-fits w8 0 8 d fits)) ∙ mask_l-mod (map p v) 64 (omega (arith, length-map v p, long)) in
-    found ∙ ap (λ m. if m == 0 then 8 else trailing_zeros w64 m) mask ∙ first_set_mask_l p v 8 long (omega arith)
+-- the first byte of a kind among the first n
+module _ (p : ℕ → Bool) (d : List ℕ) (n : ℕ) (few : n ≤ 64) (room : n ≤ length d) where
+  front_len : length (take n d) ≡ n
+  front_len = length-chunk 0 n d (omega (arith, room))
 
-pub first_by_trying : (p : ℕ → Bool) (d z : List ℕ) (r : ℕ) → 8 ≤ length d → ((k : ℕ) → Fits w8 (get_or d k 0)) →
-    r ≡ (if mask_l (map (top 7) z) % 2 ^ 64 == 0 then 8 else trailing_zeros w64 (mask_l (map (top 7) z) % 2 ^ 64)) →
-    (f : ℕ → ℕ) → z ≡ map f (chunk 0 8 d) → agree_below (λ x. top 7 (f x)) p 256 ≡ true → r ≡ position_or_len p (take 8 d)
-first_by_trying p d z r room fits found f lanes all =
-    first_is p d z r room fits found f lanes (λ b low. agree_below_at (λ x. top 7 (f x)) p 256 b all low)
+  pub first_is : ((k : ℕ) → Fits w8 (get_or d k 0)) → (z : List ℕ) (r : ℕ) →
+      r ≡ (if mask_l (map (top 7) z) % 2 ^ 64 == 0 then n else trailing_zeros w64 (mask_l (map (top 7) z) % 2 ^ 64)) →
+      (f : ℕ → ℕ) → z ≡ map f (chunk 0 n d) → ((b : ℕ) → b < 256 → top 7 (f b) ≡ p b) → r ≡ position_or_len p (take n d)
+  first_is fits z r found f lanes same =
+      let v = chunk 0 n d in
+      let mask : mask_l (map (top 7) z) % 2 ^ 64 ≡ mask_l (map p v) =
+      ap (λ l. mask_l l % 2 ^ 64) (ap (map (top 7)) lanes ∙ each_byte f p same v (chunk-fits w8 0 n d fits)) ∙ mask_l-mod (map p v) 64 (omega (arith, length-map v p, front_len, few)) in
+      found ∙ ap (λ m. if m == 0 then n else trailing_zeros w64 m) mask ∙ first_set_mask_l p v n front_len few
 
--- is the first of all
-pub first_of_all : (p : ℕ → Bool) (d : List ℕ) (r : ℕ) → 8 ≤ length d → r ≡ position_or_len p (take 8 d) → r < 8 → r ≡ position_or_len p d
-first_of_all p d r room first short =
-    let q : ℕ → Bool = λ x. not (p x) in
-    let long : length (take 8 d) ≡ 8 = length-chunk 0 8 d room in
-    let split : prefix_len q d
-    ≡ cond (eqb (prefix_len q (take 8 d)) (length (take 8 d))) (length (take 8 d) + prefix_len q (drop 8 d)) (prefix_len q (take 8 d)) =
-    ap (prefix_len q) (chunk-drop 0 8 d) ∙ prefix_len-append q (take 8 d) (drop 8 d) in
-    first ∙ sym (split ∙ ap (λ b. cond b (length (take 8 d) + prefix_len q (drop 8 d)) (prefix_len q (take 8 d)))
-    (ne_eqb _ _ (λ (e : prefix_len q (take 8 d) ≡ length (take 8 d)). omega (arith, e, first, long, short))))
+  pub first_by_trying : ((k : ℕ) → Fits w8 (get_or d k 0)) → (z : List ℕ) (r : ℕ) →
+      r ≡ (if mask_l (map (top 7) z) % 2 ^ 64 == 0 then n else trailing_zeros w64 (mask_l (map (top 7) z) % 2 ^ 64)) →
+      (f : ℕ → ℕ) → z ≡ map f (chunk 0 n d) → agree_below (λ x. top 7 (f x)) p 256 ≡ true → r ≡ position_or_len p (take n d)
+  first_by_trying fits z r found f lanes all = first_is fits z r found f lanes (λ b low. agree_below_at (λ x. top 7 (f x)) p 256 b all low)
+
+  -- is the first of all
+  pub first_of_all : (r : ℕ) → r ≡ position_or_len p (take n d) → r < n → r ≡ position_or_len p d
+  first_of_all r first short =
+      let q : ℕ → Bool = λ x. not (p x) in
+      let split : prefix_len q d
+      ≡ cond (eqb (prefix_len q (take n d)) (length (take n d))) (length (take n d) + prefix_len q (drop n d)) (prefix_len q (take n d)) =
+      ap (prefix_len q) (sym (take-append-drop n d)) ∙ prefix_len-append q (take n d) (drop n d) in
+      first ∙ sym (split ∙ ap (λ b. cond b (length (take n d) + prefix_len q (drop n d)) (prefix_len q (take n d)))
+      (ne_eqb _ _ (λ (e : prefix_len q (take n d) ≡ length (take n d)). omega (arith, e, first, front_len, short))))
 
 pub hit_is : (t : Bool) → top 7 (cond t 255 0) ≡ t
 hit_is true = refl

@@ -1,17 +1,18 @@
 -- What is so of each byte of a text is so of the text.
-use Rattle.std.proofs.Common.{◌≡◌, ◌∙◌, ℕ, suc, ◌<◌, Bool, true, false, not, List, [], ◌∷◌, length, get_or, refl, sym, ap, ap₂, arith}
+use Rattle.std.proofs.Common.{◌≤◌, ◌≡◌, ◌∙◌, ℕ, suc, ◌<◌, Bool, true, false, not, List, [], ◌∷◌, length, get_or, refl, sym, ap, ap₂, arith, take}
 use Rattle.std.specs.Prelude.{◌==◌, ◌&&◌, ◌||◌, nat_le}
 use Rattle.std.specs.Bool.{OnTrue}
 use Rattle.std.specs.Char.{is_ascii_alphabetic, is_ascii_digit}
-use Rattle.std.specs.List.{prefix_len, list_all}
+use Rattle.std.specs.List.{prefix_len, list_all, position_or_len}
 use Rattle.std.proofs.lemmas.Bool.{and_from, and_parts, eqb-true, false≢true, OnTrue_at, OnTrue_from}
 use Rattle.std.proofs.lemmas.Bool.Decides.{nat_tests}
-use Rattle.std.proofs.lemmas.List.Sums.{prefix_len_is}
+use Rattle.std.proofs.lemmas.List.Sums.{prefix_len_is, position_or_len_is, fails_before_first}
 use Rattle.nx_base.specs.Characters.{is_space}
-use Rattle.nx_events.specs.ByteClasses.{AllBetween, SameBetween, IsSameName, is_plain_or, is_high}
+use Rattle.nx_events.specs.ByteClasses.{AllBetween, SameBetween, IsSameName, is_plain_or, is_high, is_low}
 use Rattle.nx_events.specs.Plain.{is_plain}
 use Rattle.nx_events.specs.PlainNames.{is_plain_start, is_plain_further, is_plain_name}
 use Rattle.nx_events.specs.Tags.{ends_name}
+use Rattle.nx_events.proofs.LaneMasks.{first_of_all, holds}
 use Rattle.nx_events.proofs.PlainNames.{every, every_at, implies, further_small}
 
 pub all_pass : (p : ℕ → Bool) (xs : List ℕ) → AllBetween p xs 0 (length xs) → prefix_len p xs ≡ length xs
@@ -66,6 +67,15 @@ pub same_in_name : (r s : Bool) (a b : List ℕ) (from to : ℕ) → OnTrue r (S
     OnTrue (r && s) (IsSameName a b from to)
 same_in_name r s a b from to same high =
     OnTrue_from (r && s) (IsSameName a b from to) (λ e k begin end. let t = and_parts r s e in (OnTrue_at t.0 same k begin end, high_stays (get_or a k 0) (OnTrue_at t.1 high k begin end)))
+
+-- so a name ends at the first low byte that ends one
+pub name_ends_at : (d : List ℕ) (n r : ℕ) → n ≤ 64 → n ≤ length d → r ≡ position_or_len is_low (take n d) → r < n → ends_name (get_or d r 0) ≡ true →
+    r ≡ position_or_len ends_name d
+name_ends_at d n r few room first short ends =
+    let of_all = first_of_all is_low d n few room r first short in
+    sym (position_or_len_is ends_name d r 0 (omega (arith, short, room))
+    (λ k less. high_stays (get_or d k 0) (holds (is_high (get_or d k 0)) (fails_before_first is_low d k 0 (omega (arith, less, of_all)))))
+    (λ _. ends))
 
 -- texts of the same bytes are the same
 pub each_same : (a b : List ℕ) → length a ≡ length b → ((k : ℕ) → k < length a → get_or a k 0 ≡ get_or b k 0) → a ≡ b

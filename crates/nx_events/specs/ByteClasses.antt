@@ -20,6 +20,9 @@ is_plain_or also b = is_plain b || b == also
 abbrev pub is_high : ℕ → Bool
 is_high b = nat_le 63 b
 
+abbrev pub is_low : ℕ → Bool
+is_low b = not (is_high b)
+
 -- two texts have the same bytes there, and none of them ends a name in a tag
 abbrev pub IsSameName : List ℕ → List ℕ → ℕ → ℕ → Type 0
 IsSameName a b from to = (k : ℕ) → from ≤ k → k < to → (slice_index a k ≡ slice_index b k) × (ends_name (slice_index a k) ≡ false)

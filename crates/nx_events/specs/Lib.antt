@@ -42,7 +42,6 @@ pub mod Moves
 pub mod Plain
 pub mod PlainNames
 pub mod ByteClasses
-pub mod Overlays
 pub mod PlainTags
 pub mod PlainTokens
 pub mod PlainAttributes

@@ -3,7 +3,6 @@
 ghost use Rattle.std.specs.Prelude.{◌≡◌, ◌==◌, ◌++◌, [], length, IfOk, OnOk, OnErr};
 ghost use Rattle.nx_events.specs.Strings.{string_of};
 
-use crate::overlay::put_front;
 use crate::piece::{push_string, string_of};
 use crate::plain::are_plain;
 use crate::reading::Reading;
@@ -64,7 +63,7 @@ impl Buffer {
     {
         let len = bytes.len();
         if len <= self.memory.len() {
-            put_front(self.memory.as_mut_slice(), bytes);
+            self.memory[0..len].copy_from_slice(bytes);
             self.len = len;
             return Ok(());
         }

@@ -6,7 +6,7 @@ ghost use Rattle.std.specs.Char.{is_ascii_digit, is_ascii_hexdigit};
 ghost use Rattle.nx_base.specs.Characters.{is_space, is_quote};
 ghost use Rattle.nx_events.specs.Tags.{is_between, ends_name};
 
-use crate::lanes::{FRONT, first_byte, first_quote};
+use crate::lanes::{first_byte, first_low, first_quote};
 use nx_base::character::is_quote;
 
 /// Whether the byte is white space of XML.
@@ -90,6 +90,13 @@ pub(crate) fn name_end(bytes: &[u8]) -> usize
     ensures value { result ≡ position_or_len ends_name bytes.now }
     ensures bound { result ≤ length bytes.now }
 {
+    // In most names stand letters alone, none of which needs another look.
+    if bytes.len() >= 16 {
+        let first = first_low::<16>(bytes);
+        if first < 16 && ends_name(bytes[first]) {
+            return first;
+        }
+    }
     for (i, b) in bytes.iter().enumerate() {
         if ends_name(*b) {
             return i;
@@ -104,9 +111,9 @@ pub(crate) fn quote_place(bytes: &[u8]) -> usize
     ensures bound { result ≤ length bytes.now }
 {
     // Most names are short.
-    if bytes.len() >= FRONT {
-        let first = first_quote(bytes);
-        if first < FRONT {
+    if bytes.len() >= 8 {
+        let first = first_quote::<8>(bytes);
+        if first < 8 {
             return first;
         }
     }
@@ -123,9 +130,9 @@ pub(crate) fn byte_place(bytes: &[u8], byte: u8) -> usize
     ensures value { result ≡ position_or_len (λ b. b == byte) bytes.now }
     ensures bound { result ≤ length bytes.now }
 {
-    if bytes.len() >= FRONT {
-        let first = first_byte(bytes, byte);
-        if first < FRONT {
+    if bytes.len() >= 8 {
+        let first = first_byte::<8>(bytes, byte);
+        if first < 8 {
             return first;
         }
     }

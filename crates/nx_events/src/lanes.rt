@@ -7,7 +7,7 @@ ghost use Rattle.std.specs.Char.{is_ascii_alphabetic};
 ghost use Rattle.std.specs.Int.{w64, trailing_zeros};
 ghost use Rattle.std.specs.List.{position_or_len};
 ghost use Rattle.nx_base.specs.Characters.{is_quote};
-ghost use Rattle.nx_events.specs.ByteClasses.{AllBetween, SameBetween, is_plain_or, is_high};
+ghost use Rattle.nx_events.specs.ByteClasses.{AllBetween, SameBetween, is_plain_or, is_high, is_low};
 
 use std::simd::prelude::*;
 
@@ -62,38 +62,48 @@ pub(crate) fn are_same<const N: usize>(a: &[u8], b: &[u8], at: usize) -> bool
     lanes.simd_ne(others).to_bitmask() == 0
 }
 
-/// How many bytes are looked at together where the first of a kind is wanted.
-pub(crate) const FRONT: usize = 8;
-
-/// The lowest bit that is set, or how many bytes there are where none is.
+/// The lowest bit that is set, or how many lanes there are where none is.
 #[inline(always)]
-fn first_set(found: u64) -> usize
-    ensures { result ≡ (if found == 0 then 8 else trailing_zeros w64 found) }
+fn first_set<const N: usize>(found: u64) -> usize
+    ensures { result ≡ (if found == 0 then N else trailing_zeros w64 found) }
 {
     if found == 0 {
-        FRONT
+        N
     } else {
         found.trailing_zeros() as usize
     }
 }
 
-/// Where the first quote stands among the first eight bytes, or eight.
+/// Where the first quote stands among the first N bytes, or N.
 #[inline(always)]
-pub(crate) fn first_quote(bytes: &[u8]) -> usize
-    requires { 8 ≤ length bytes.now }
-    ensures { result ≡ position_or_len is_quote (take 8 bytes.now) }
+pub(crate) fn first_quote<const N: usize>(bytes: &[u8]) -> usize
+    requires lanes { N ≤ 64 }
+    requires enough { N ≤ length bytes.now }
+    ensures { result ≡ position_or_len is_quote (take N bytes.now) }
 {
-    let lanes = u8x8::from_slice(bytes);
-    let found = lanes.simd_eq(u8x8::splat(b'"')) | lanes.simd_eq(u8x8::splat(b'\''));
-    first_set(found.to_bitmask())
+    let lanes = Simd::<u8, N>::from_slice(bytes);
+    let found = lanes.simd_eq(Simd::splat(b'"')) | lanes.simd_eq(Simd::splat(b'\''));
+    first_set::<N>(found.to_bitmask())
 }
 
-/// Where the first such byte stands among the first eight, or eight.
+/// Where the first such byte stands among the first N, or N.
 #[inline(always)]
-pub(crate) fn first_byte(bytes: &[u8], byte: u8) -> usize
-    requires { 8 ≤ length bytes.now }
-    ensures { result ≡ position_or_len (λ b. b == byte) (take 8 bytes.now) }
+pub(crate) fn first_byte<const N: usize>(bytes: &[u8], byte: u8) -> usize
+    requires lanes { N ≤ 64 }
+    requires enough { N ≤ length bytes.now }
+    ensures { result ≡ position_or_len (λ b. b == byte) (take N bytes.now) }
 {
-    let found = u8x8::from_slice(bytes).simd_eq(u8x8::splat(byte));
-    first_set(found.to_bitmask())
+    let lanes = Simd::<u8, N>::from_slice(bytes);
+    first_set::<N>(lanes.simd_eq(Simd::splat(byte)).to_bitmask())
+}
+
+/// Where the first byte that isn't high stands among the first N, or N.
+#[inline(always)]
+pub(crate) fn first_low<const N: usize>(bytes: &[u8]) -> usize
+    requires lanes { N ≤ 64 }
+    requires enough { N ≤ length bytes.now }
+    ensures { result ≡ position_or_len is_low (take N bytes.now) }
+{
+    let lanes = Simd::<u8, N>::from_slice(bytes);
+    first_set::<N>(lanes.simd_lt(Simd::splat(b'?')).to_bitmask())
 }

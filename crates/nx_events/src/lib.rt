@@ -22,7 +22,6 @@ mod front;
 mod lanes;
 mod markup;
 pub mod name_bytes;
-mod overlay;
 mod piece;
 mod place;
 mod plain;

@@ -1,6 +1,7 @@
 //! Start tags with one or two attributes of which one look tells what they give: names are plain, but that an attribute's may have the
-//! prefix `xml`; nothing is declared, no name comes twice, and each byte stands for itself. In a book most start tags that aren't a name
-//! alone are such. A schema can be asked of their attributes as they lie, and no list of them is made.
+//! prefix `xml`; `=` and the quote stand right behind a name, nothing is declared, no name comes twice, and each byte stands for itself.
+//! In a book most start tags that aren't a name alone are such. A schema can be asked of their attributes as they lie, and no list of
+//! them is made.
 
 ghost use Rattle.std.specs.Prelude.{◌≡◌, ◌<◌, ◌∷◌, [], ℕ, true, false, length, IfOk, IfSome};
 ghost use Rattle.std.specs.List.{prefix_len};

@@ -26,6 +26,7 @@ use nx_base::token::{Token, TokenKind};
 use std::alloc::Global;
 
 /// The name of a start tag (XML 1.0, 3.1) that is a plain name alone, in front of the root's end.
+#[inline(always)]
 pub fn plain_start<'t>(state: &EventState, token: &'t Token) -> Option<&'t [u8]>
     ensures { token.now.kind ≡ kinds.Start → IfSome result (λ written. IsPlainStart state.now token.now written.now) }
 {
@@ -37,6 +38,7 @@ pub fn plain_start<'t>(state: &EventState, token: &'t Token) -> Option<&'t [u8]>
 }
 
 /// Whether an end tag is that of the innermost open element (XML 1.0, 3, Element Type Match), and nothing but its name.
+#[inline(always)]
 pub fn is_plain_end(state: &EventState, token: &Token) -> bool
     ensures { token.now.kind ≡ kinds.End → result ≡ true → IsPlainEnd state.now token.now }
 {
@@ -44,6 +46,7 @@ pub fn is_plain_end(state: &EventState, token: &Token) -> bool
 }
 
 /// Whether character data (XML 1.0, 2.4) stands inside of an element, and each of its bytes for itself.
+#[inline(always)]
 pub fn is_plain_text(state: &EventState, token: &Token) -> bool
     ensures { token.now.kind ≡ kinds.Text → result ≡ true → IsPlainText state.now token.now }
 {

@@ -3,7 +3,6 @@
 ghost use Rattle.std.specs.Prelude.{◌≡◌, ◌≤◌, [], length};
 ghost use Rattle.nx_events.specs.declared.short_bytes.TheConstants.{SHORT};
 
-use crate::overlay::put_front;
 use std::marker::Model;
 
 /// So many bytes at most stand in the value itself.
@@ -50,8 +49,9 @@ impl ShortBytes {
         requires { length bytes.now ≤ SHORT }
         ensures { self.new ≡ bytes.now }
     {
-        put_front(&mut self.memory, bytes);
-        self.len = bytes.len();
+        let len = bytes.len();
+        self.memory[..len].copy_from_slice(bytes);
+        self.len = len;
     }
 
     /// The same bytes.
