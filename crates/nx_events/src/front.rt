@@ -90,7 +90,7 @@ pub(crate) fn name_end(bytes: &[u8]) -> usize
     ensures value { result ≡ position_or_len ends_name bytes.now }
     ensures bound { result ≤ length bytes.now }
 {
-    // In most names stand letters alone, none of which needs another look.
+    // In most names stand letters alone, all of which are behind `>` in ASCII: what isn't, ends the name.
     if bytes.len() >= 16 {
         let first = first_low::<16>(bytes);
         if first < 16 && ends_name(bytes[first]) {
@@ -110,7 +110,7 @@ pub(crate) fn quote_place(bytes: &[u8]) -> usize
     ensures value { result ≡ position_or_len is_quote bytes.now }
     ensures bound { result ≤ length bytes.now }
 {
-    // Most names are short.
+    // The names of most attributes are short.
     if bytes.len() >= 8 {
         let first = first_quote::<8>(bytes);
         if first < 8 {
@@ -130,6 +130,7 @@ pub(crate) fn byte_place(bytes: &[u8], byte: u8) -> usize
     ensures value { result ≡ position_or_len (λ b. b == byte) bytes.now }
     ensures bound { result ≤ length bytes.now }
 {
+    // So are most values.
     if bytes.len() >= 8 {
         let first = first_byte::<8>(bytes, byte);
         if first < 8 {

@@ -1,5 +1,5 @@
-//! Whether bytes are of a class or those of another text, told by one load of N bytes. Two loads that overlap cover what is no longer
-//! than both; who asks of both joins the answers by `&`, so that one test tells.
+//! Whether bytes are of a class or those of another text, and where the first of a class stands, told by one load of N bytes. Two loads
+//! that overlap cover what is no longer than both.
 
 ghost use Rattle.std.specs.Prelude.{◌≡◌, ◌+◌, ◌≤◌, ◌==◌, if◌then◌else◌, length, take};
 ghost use Rattle.std.specs.Bool.{OnTrue};
