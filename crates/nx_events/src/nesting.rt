@@ -28,6 +28,7 @@ pub(crate) fn is_innermost(name: &[u8], elements: &Stack<OpenElement>) -> bool
 }
 
 /// Whether an end tag is the written name of the innermost element alone, as nearly all are.
+#[inline(always)]
 pub(crate) fn is_end_of_innermost(bytes: &[u8], elements: &Stack<OpenElement>) -> bool
     ensures place { result ≡ true → around_innermost (end_name bytes.now) elements.now ≡ Some (length elements.now - 1) }
     ensures some { result ≡ true → 0 < length elements.now }
