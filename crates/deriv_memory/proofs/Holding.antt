@@ -1,8 +1,8 @@
 -- What is at hand, while answers are put.
-use Rattle.std.proofs.Common.{◌≡◌, ◌⊎◌, inl, inr, ⊎_elim, ℕ, zero, suc, List, [], ◌∷◌, ◌++◌, refl, sym, ap, ◌∙◌, subst, Option, Some, None, Bool, true, false, cond, IfSome, slice_index_or, slice_set}
+use Rattle.std.proofs.Common.{◌≡◌, ◌⊎◌, ◌<◌, inl, inr, ⊎_elim, ℕ, zero, suc, List, [], ◌∷◌, ◌++◌, length, refl, sym, ap, ◌∙◌, subst, arith, Option, Some, None, Bool, true, false, not, cond, IfSome, slice_index_or, slice_set}
 use Rattle.std.specs.Map.{lookup}
 use Rattle.std.specs.Prelude.{eqb, ◌&&◌}
-use Rattle.std.proofs.lemmas.Bool.{and_parts}
+use Rattle.std.proofs.lemmas.Bool.{and_parts, false≢true}
 use Rattle.std.proofs.lemmas.Bool.Decides.{Decides-eqb}
 use Rattle.deriv_memory.specs.declared.asked.Asked.{Asked}
 use Rattle.deriv_memory.specs.declared.asked.Asked.TheVariants as calls
@@ -10,7 +10,7 @@ use Rattle.deriv_memory.specs.declared.at_hand.AtHand.{AtHand}
 use Rattle.deriv_memory.specs.declared.at_hand.Row.{Row}
 use Rattle.deriv_memory.specs.declared.at_hand.Slot.{Slot}
 use Rattle.deriv_memory.specs.Calls.{form_of, state_of, ns_of, local_of, same_asked, by_parts, calls_decided}
-use Rattle.deriv_memory.specs.AtHand.{said, IsWritten, free_row, free_slot, number_in, row_with, slot_of, is_slot, RowHolds, SlotHolds, Holds, HoldsNoMore, HoldsOneMore, AreNoted}
+use Rattle.deriv_memory.specs.AtHand.{said, free_row, free_slot, is_named, number_in, row_with, row_says, slot_of, is_slot, SlotHolds, HoldOneMore, SayOneMore, AreNoted, ReadAlike}
 
 -- ---- lists with free places
 
@@ -40,33 +40,60 @@ row_put row (calls.Blank s) (calls.Blank t) n same = inr (ap (λ x. calls.Blank 
 row_put row (calls.Solid s) (calls.Solid t) n same = inr (ap (λ x. calls.Solid x) same, refl)
 row_put row call other n same = inl refl
 
--- a number that is put in a call's row is said of that call alone
-rows_put : (rows : List Row) (call : Asked) (row : Row) (n : ℕ) → slice_index_or rows (state_of call) free_row ≡ row → (other : Asked) (kept : Option ℕ)
-    → RowHolds (slice_set rows (state_of call) (row_with row call n)) other kept → ((other ≡ call) × (said n ≡ Some kept)) ⊎ RowHolds rows other kept
-rows_put rows call row n at other kept says = ⊎_elim
-    (λ here.
-    let now : said (number_in (row_with row call n) other) ≡ Some kept = sym (ap (λ r. said (number_in r other)) here.1) ∙ says in
-    let before : said (number_in (slice_index_or rows (state_of other) free_row) other) ≡ said (number_in row other) =
-    ap (λ r. said (number_in r other)) (ap (λ s. slice_index_or rows s free_row) here.0 ∙ at) in
-    ⊎_elim
-    (λ stays. inr (before ∙ (sym (ap said stays) ∙ now)))
-    (λ is. inl (is.0, sym (ap said is.1) ∙ now))
-    (row_put row call other n here.0))
-    (λ same. inr (sym (ap (λ r. said (number_in r other)) same) ∙ says))
-    (set_read rows (state_of call) (state_of other) (row_with row call n) free_row)
+-- a place that is there is set
+set_here : {A : Type 0} (xs : List A) (i : ℕ) (y free : A) → i < length xs → slice_index_or (slice_set xs i y) i free ≡ y
+set_here [] i y free here = absurd (omega (arith, here))
+set_here (x ∷ xs) zero y free here = refl
+set_here (x ∷ xs) (suc i) y free here = set_here xs i y free (omega (arith, here))
 
-pub plain_put : (old new : AtHand) (call : Asked) (i n : ℕ) (row put : Row) → i ≡ state_of call → row ≡ slice_index_or old.rows.items i free_row
-    → put ≡ row_with row call n → new.rows.items ≡ slice_set old.rows.items i put → new.slots.items ≡ old.slots.items
-    → (answer : Option ℕ) → IsWritten answer n → HoldsOneMore old new call answer
-plain_put old new call i n row put of at is rows slots answer written = λ other kept holds. ⊎_elim
-    (λ says.
-    let P : List Row → Type 0 = λ rs. RowHolds rs other kept in
-    let whole : new.rows.items ≡ slice_set old.rows.items (state_of call) (row_with row call n) =
-    rows ∙ (ap (λ r. slice_set old.rows.items i r) is ∙ ap (λ s. slice_set old.rows.items s (row_with row call n)) of) in
-    ⊎_elim (λ one. inl (one.0, written kept one.1)) (λ before. inr (inl before))
-    (rows_put old.rows.items call row n (ap (λ s. slice_index_or old.rows.items s free_row) (sym of) ∙ sym at) other kept (subst P whole says)))
-    (λ slot. let Q : List Slot → Type 0 = λ ss. SlotHolds ss other kept in inr (inr (subst Q slots slot)))
-    holds
+own_number : (row : Row) (call : Asked) (n : ℕ) → is_named call ≡ false → number_in (row_with row call n) call ≡ n
+own_number row (calls.TagEnd s) n plain = refl
+own_number row (calls.Leave s) n plain = refl
+own_number row (calls.Blank s) n plain = refl
+own_number row (calls.Solid s) n plain = refl
+own_number row (calls.Enter s ns local) n plain = absurd (false≢true (sym plain))
+own_number row (calls.BlankValue s ns local) n plain = absurd (false≢true (sym plain))
+own_number row (calls.SolidValue s ns local) n plain = absurd (false≢true (sym plain))
+
+rows_put : (rows : List Row) (call : Asked) (n : ℕ) → state_of call < length rows → is_named call ≡ false
+    → SayOneMore rows (slice_set rows (state_of call) (row_with (slice_index_or rows (state_of call) free_row) call n)) call n
+rows_put rows call n room plain other = by (same_asked call other) refl
+  where
+    row : Row
+    row = slice_index_or rows (state_of call) free_row
+
+    new : List Row
+    new = slice_set rows (state_of call) (row_with row call n)
+
+    by : (b : Bool) → same_asked call other ≡ b → row_says new other ≡ cond (same_asked call other) (said n) (row_says rows other)
+    by true same =
+        let one : call ≡ other = (calls_decided call other).0 same in
+        let P : Asked → Type 0 = λ c. row_says new c ≡ said n in
+        let own : row_says new call ≡ said n =
+        ap (λ r. said (number_in r call)) (set_here rows (state_of call) (row_with row call n) free_row room) ∙ ap said (own_number row call n plain) in
+        subst P one own ∙ sym (ap (λ b. cond b (said n) (row_says rows other)) same)
+    by false apart =
+        let stays : row_says new other ≡ row_says rows other = ⊎_elim
+        (λ here.
+        ap (λ r. said (number_in r other)) here.1
+        ∙ ⊎_elim
+        (λ kept. ap said kept ∙ ap (λ s. said (number_in (slice_index_or rows s free_row) other)) (sym here.0))
+        (λ is. absurd (false≢true (sym apart ∙ (calls_decided call other).1 (sym is.0))))
+        (row_put row call other n here.0))
+        (λ same. ap (λ r. said (number_in r other)) same)
+        (set_read rows (state_of call) (state_of other) (row_with row call n) free_row) in
+        stays ∙ sym (ap (λ b. cond b (said n) (row_says rows other)) apart)
+
+pub plain_put : (rows new : List Row) (call : Asked) (i n : ℕ) (row put : Row) → state_of call < length rows → is_named call ≡ false
+    → i ≡ state_of call → row ≡ slice_index_or rows i free_row → put ≡ row_with row call n → new ≡ slice_set rows i put
+    → SayOneMore rows new call n
+plain_put rows new call i n row put room plain of at is set =
+    let P : List Row → Type 0 = λ rs. SayOneMore rows rs call n in
+    let whole : new ≡ slice_set rows (state_of call) (row_with (slice_index_or rows (state_of call) free_row) call n) =
+    set
+    ∙ (ap (λ r. slice_set rows i r) (is ∙ ap (λ r. row_with r call n) at)
+    ∙ ap (λ s. slice_set rows s (row_with (slice_index_or rows s free_row) call n)) of) in
+    subst P (sym whole) (rows_put rows call n room plain)
 
 -- ---- slots
 
@@ -82,20 +109,17 @@ slots_put slots i call n other kept holds = ⊎_elim
     (λ same. inr (record { place = holds.place; number = holds.number; here = sym same ∙ holds.here; says = holds.says }))
     (set_read slots i holds.place (slot_of call n) free_slot)
 
-pub named_put : (old new : AtHand) (call : Asked) (i n : ℕ) (slot : Slot) → slot ≡ slot_of call n → new.rows.items ≡ old.rows.items
-    → new.slots.items ≡ slice_set old.slots.items i slot → (answer : Option ℕ) → IsWritten answer n → HoldsOneMore old new call answer
-named_put old new call i n slot is rows slots answer written = λ other kept holds. ⊎_elim
-    (λ says. let P : List Row → Type 0 = λ rs. RowHolds rs other kept in inr (inl (subst P rows says)))
-    (λ held.
+pub named_put : (slots : List Slot) (call : Asked) (i n : ℕ) (slot : Slot) → slot ≡ slot_of call n → (answer : Option ℕ) → said n ≡ Some answer
+    → HoldOneMore slots (slice_set slots i slot) call answer
+named_put slots call i n slot is answer says = λ other kept held.
     let Q : List Slot → Type 0 = λ ss. SlotHolds ss other kept in
-    ⊎_elim (λ one. inl (one.0, written kept one.1)) (λ before. inr (inr before))
-    (slots_put old.slots.items i call n other kept (subst Q (slots ∙ ap (λ s. slice_set old.slots.items i s) is) held)))
-    holds
+    ⊎_elim (λ one. inl (one.0, let two : Some kept ≡ Some answer = sym one.1 ∙ says in cc)) (λ before. inr before)
+    (slots_put slots i call n other kept (subst Q (ap (λ s. slice_set slots i s) is) held))
 
 -- the slot of the call with these numbers says its answer
 pub slot_says : (hand : AtHand) (place form state ns local : ℕ) (slot : Slot) (said_of : Option (Option ℕ))
     → slot ≡ slice_index_or hand.slots.items place free_slot → is_slot slot form state ns local ≡ true → said_of ≡ said slot.answer
-    → (call : Asked) → form_of call ≡ form → state_of call ≡ state → ns_of call ≡ ns → local_of call ≡ local → IfSome said_of (Holds hand call)
+    → (call : Asked) → form_of call ≡ form → state_of call ≡ state → ns_of call ≡ ns → local_of call ≡ local → IfSome said_of (SlotHolds hand.slots.items call)
 slot_says hand place form state ns local slot None is same says call f s n l = tt
 slot_says hand place form state ns local slot (Some answer) is same says call f s n l =
     let last = and_parts ((eqb slot.state state && eqb slot.local local) && eqb slot.ns ns) (eqb slot.form form) same in
@@ -107,25 +131,60 @@ slot_says hand place form state ns local slot (Some answer) is same says call f 
     let of_form : slot.form ≡ form_of call = (Decides-eqb slot.form form).0 last.1 ∙ sym f in
     let whole : slot ≡ slot_of call slot.answer =
     λ i. record { state = of_state i; local = of_local i; answer = slot.answer; ns = of_ns i; form = of_form i } in
-    inr (record { place = place; number = slot.answer; here = sym is ∙ whole; says = sym says })
+    record { place = place; number = slot.answer; here = sym is ∙ whole; says = sym says }
 
 -- ---- what is at hand was noted
 
--- while nothing is put
-pub noted_still : (answers : List (Asked × Option ℕ)) (old new : AtHand) → HoldsNoMore old new → AreNoted answers old → AreNoted answers new
-noted_still answers old new less right = λ call answer holds. right call answer (less call answer holds)
+-- where lists read alike
+pub noted_still : (answers : List (Asked × Option ℕ)) (old new : AtHand) → ReadAlike free_row old.rows.items new.rows.items
+    → ReadAlike free_slot old.slots.items new.slots.items → AreNoted answers old → AreNoted answers new
+noted_still answers old new rows slots right = record {
+  rows = λ call plain. right.rows call plain ∙ sym (ap (λ r. said (number_in r call)) (rows (state_of call)));
+  slots = λ call answer held named.
+      right.slots call answer (record { place = held.place; number = held.number; here = sym (slots held.place) ∙ held.here; says = held.says }) named;
+}
 
--- when an answer is noted and put
-pub noted_put : (before after : List (Asked × Option ℕ)) (old new : AtHand) (call : Asked) (answer : Option ℕ)
-    → ((other : Asked) (kept : Option ℕ) → Holds old other kept → lookup (same_asked other) after ≡ Some kept)
-    → lookup (same_asked call) after ≡ Some answer → HoldsOneMore old new call answer → AreNoted after new
-noted_put before after old new call answer stays here more = λ other kept holds. ⊎_elim
-    (λ one.
-    let P : Asked → Type 0 = λ c. lookup (same_asked c) after ≡ Some kept in
-    let Q : Option ℕ → Type 0 = λ a. lookup (same_asked call) after ≡ Some a in
-    subst P (sym one.0) (subst Q (sym one.1) here))
-    (λ held. stays other kept held)
-    (more other kept holds)
+-- a call with a name is none without
+apart : (call other : Asked) (b : Bool) → is_named call ≡ b → is_named other ≡ not b → same_asked call other ≡ false
+apart call other b one two = by (same_asked call other) refl
+  where
+    no : (x : Bool) → x ≡ not x → ⊥
+    no true e = false≢true (sym e)
+    no false e = false≢true e
+
+    by : (c : Bool) → same_asked call other ≡ c → c ≡ false
+    by true same = absurd (no b (sym one ∙ (ap is_named ((calls_decided call other).0 same) ∙ two)))
+    by false e = refl
+
+kept_apart : (before after : List (Asked × Option ℕ)) (call : Asked) (answer : Option ℕ) (b : Bool) → is_named call ≡ b
+    → ((other : Asked) → lookup (same_asked other) after ≡ cond (same_asked call other) (Some answer) (lookup (same_asked other) before))
+    → (other : Asked) → is_named other ≡ not b → lookup (same_asked other) after ≡ lookup (same_asked other) before
+kept_apart before after call answer b one updates other two =
+    updates other ∙ ap (λ c. cond c (Some answer) (lookup (same_asked other) before)) (apart call other b one two)
+
+-- when an answer is noted of a call without a name, and put in its row
+pub noted_plain : (before after : List (Asked × Option ℕ)) (old new : AtHand) (call : Asked) (answer : Option ℕ) (n : ℕ) → is_named call ≡ false
+    → said n ≡ Some answer
+    → ((other : Asked) → lookup (same_asked other) after ≡ cond (same_asked call other) (Some answer) (lookup (same_asked other) before))
+    → SayOneMore old.rows.items new.rows.items call n → ReadAlike free_slot old.slots.items new.slots.items
+    → AreNoted before old → AreNoted after new
+noted_plain before after old new call answer n plain says updates rows slots right = record {
+  rows = λ other is.
+      updates other
+      ∙ (ap (λ x. cond (same_asked call other) (Some answer) x) (right.rows other is)
+      ∙ sym (rows other ∙ ap (λ x. cond (same_asked call other) x (row_says old.rows.items other)) says));
+  slots = λ other kept held named.
+      kept_apart before after call answer false plain updates other named
+      ∙ right.slots other kept (record { place = held.place; number = held.number; here = sym (slots held.place) ∙ held.here; says = held.says }) named;
+}
+
+rows_apart : (before after : List (Asked × Option ℕ)) (old new : AtHand) (call : Asked) (answer : Option ℕ) → is_named call ≡ true
+    → ((other : Asked) → lookup (same_asked other) after ≡ cond (same_asked call other) (Some answer) (lookup (same_asked other) before))
+    → ReadAlike free_row old.rows.items new.rows.items → AreNoted before old
+    → (other : Asked) → is_named other ≡ false → lookup (same_asked other) after ≡ row_says new.rows.items other
+rows_apart before after old new call answer named updates rows right = λ other plain.
+    kept_apart before after call answer true named updates other plain
+    ∙ (right.rows other plain ∙ sym (ap (λ r. said (number_in r other)) (rows (state_of other))))
 
 -- where nothing was noted of a call, what was noted of others stays when it is
 pub stays_noted : (before after : List (Asked × Option ℕ)) (call : Asked) (answer : Option ℕ) → None ≡ lookup (same_asked call) before
@@ -139,3 +198,48 @@ stays_noted before after call answer none updates other kept is = by (same_asked
         let P : Asked → Type 0 = λ c. None ≡ lookup (same_asked c) before in
         let two : None ≡ Some kept = subst P one none ∙ is in cc
     by false apart = updates other ∙ (ap (λ b. cond b (Some answer) (lookup (same_asked other) before)) apart ∙ is)
+
+-- when one is noted of a call with a name, of which nothing was noted before, and put in a slot
+pub noted_named : (before after : List (Asked × Option ℕ)) (old new : AtHand) (call : Asked) (answer : Option ℕ) → is_named call ≡ true
+    → ((other : Asked) → lookup (same_asked other) after ≡ cond (same_asked call other) (Some answer) (lookup (same_asked other) before))
+    → lookup (same_asked call) after ≡ Some answer → None ≡ lookup (same_asked call) before
+    → ReadAlike free_row old.rows.items new.rows.items → HoldOneMore old.slots.items new.slots.items call answer
+    → AreNoted before old → AreNoted after new
+noted_named before after old new call answer named updates here none rows slots right = record {
+  rows = rows_apart before after old new call answer named updates rows right;
+  slots = λ other kept held is. ⊎_elim
+      (λ one.
+      let P : Asked → Type 0 = λ c. lookup (same_asked c) after ≡ Some kept in
+      let Q : Option ℕ → Type 0 = λ a. lookup (same_asked call) after ≡ Some a in
+      subst P (sym one.0) (subst Q (sym one.1) here))
+      (λ was. stays_noted before after call answer none updates other kept (right.slots other kept was is))
+      (slots other kept held);
+}
+
+no_slot : (call : Asked) (answer : Option ℕ) → SlotHolds [] call answer → ⊥
+no_slot call answer held =
+    let n : 0 ≡ held.number = ap (λ (s : Slot). s.answer) held.here in
+    let two : None ≡ Some answer = ap said n ∙ held.says in cc
+
+-- and where another was noted before, and no slot holds anything
+pub noted_anew : (before after : List (Asked × Option ℕ)) (old new : AtHand) (call : Asked) (answer : Option ℕ) → is_named call ≡ true
+    → ((other : Asked) → lookup (same_asked other) after ≡ cond (same_asked call other) (Some answer) (lookup (same_asked other) before))
+    → ReadAlike free_row old.rows.items new.rows.items → new.slots.items ≡ [] → AreNoted before old → AreNoted after new
+noted_anew before after old new call answer named updates rows none right = record {
+  rows = rows_apart before after old new call answer named updates rows right;
+  slots = λ other kept held is. let P : List Slot → Type 0 = λ ss. SlotHolds ss other kept in absurd (no_slot other kept (subst P none held));
+}
+
+-- where nothing was noted and nothing is at hand
+pub none_noted : (answers : List (Asked × Option ℕ)) (hand : AtHand) → answers ≡ [] → hand.rows.items ≡ [] → hand.slots.items ≡ [] → AreNoted answers hand
+none_noted answers hand none rows slots = record {
+  rows = λ call plain. ap (λ l. lookup (same_asked call) l) none ∙ (nothing call ∙ sym (ap (λ rs. row_says rs call) rows));
+  slots = λ call answer held named. let P : List Slot → Type 0 = λ ss. SlotHolds ss call answer in absurd (no_slot call answer (subst P slots held));
+}
+  where
+    nothing : (call : Asked) → None ≡ row_says [] call
+    nothing (calls.TagEnd s) = refl
+    nothing (calls.Leave s) = refl
+    nothing (calls.Blank s) = refl
+    nothing (calls.Solid s) = refl
+    nothing named = refl

@@ -1,5 +1,5 @@
 -- Answers that are found without a hash: which of them stand in rows by states, and in slots of calls with names.
-use Rattle.std.specs.Prelude.{◌≡◌, ◌⊎◌, ℕ, zero, suc, Bool, ◌&&◌, eqb, List, Option, None, Some, slice_index_or}
+use Rattle.std.specs.Prelude.{◌≡◌, ◌⊎◌, ℕ, zero, suc, Bool, true, false, cond, ◌&&◌, eqb, List, Option, None, Some, slice_index_or}
 use Rattle.deriv_memory.specs.declared.asked.Asked.{Asked}
 use Rattle.deriv_memory.specs.declared.asked.Asked.TheVariants as calls
 use Rattle.deriv_memory.specs.declared.at_hand.AtHand.{AtHand}
@@ -14,10 +14,6 @@ said zero = None
 said (suc zero) = Some None
 said (suc (suc n)) = Some (Some n)
 
--- a number that says this answer, or nothing
-abbrev pub IsWritten : Option ℕ → ℕ → Type 0
-IsWritten answer number = (other : Option ℕ) → said number ≡ Some other → other ≡ answer
-
 -- ---- rows by states, slots of calls with names
 
 abbrev pub free_row : Row
@@ -25,6 +21,13 @@ free_row = record { tag_end = 0; leave = 0; blank = 0; solid = 0 }
 
 abbrev pub free_slot : Slot
 free_slot = record { state = 0; local = 0; answer = 0; ns = 0; form = 0 }
+
+-- whether a call has a name
+abbrev pub is_named : Asked → Bool
+is_named (calls.Enter s ns local) = true
+is_named (calls.BlankValue s ns local) = true
+is_named (calls.SolidValue s ns local) = true
+is_named plain = false
 
 -- what a row has of a call
 abbrev pub number_in : Row → Asked → ℕ
@@ -52,9 +55,9 @@ is_slot slot form state ns local = ((eqb slot.state state && eqb slot.local loca
 
 -- ---- what is at hand
 
--- the row of the call's state says this answer
-abbrev pub RowHolds : List Row → Asked → Option ℕ → Type 0
-RowHolds rows call answer = said (number_in (slice_index_or rows (state_of call) free_row) call) ≡ Some answer
+-- what the row of the call's state says of it
+abbrev pub row_says : List Row → Asked → Option (Option ℕ)
+row_says rows call = said (number_in (slice_index_or rows (state_of call) free_row) call)
 
 -- some slot is of the call, and says this answer
 pub record SlotHolds (slots : List Slot) (call : Asked) (answer : Option ℕ) : Type 0 where
@@ -63,21 +66,14 @@ pub record SlotHolds (slots : List Slot) (call : Asked) (answer : Option ℕ) : 
   pub here : slice_index_or slots place free_slot ≡ slot_of call number
   pub says : said number ≡ Some answer
 
--- this answer of a call is at hand
-abbrev pub Holds : AtHand → Asked → Option ℕ → Type 0
-Holds hand call answer = RowHolds hand.rows.items call answer ⊎ SlotHolds hand.slots.items call answer
+-- what slots hold was there before, or it is this answer of this call
+abbrev pub HoldOneMore : List Slot → List Slot → Asked → Option ℕ → Type 0
+HoldOneMore old new call answer =
+    (other : Asked) (kept : Option ℕ) → SlotHolds new other kept → ((other ≡ call) × (kept ≡ answer)) ⊎ SlotHolds old other kept
 
--- what is at hand was there before
-abbrev pub HoldsNoMore : AtHand → AtHand → Type 0
-HoldsNoMore old new = (call : Asked) (answer : Option ℕ) → Holds new call answer → Holds old call answer
-
--- or it is this answer of this call
-abbrev pub HoldsOneMore : AtHand → AtHand → Asked → Option ℕ → Type 0
-HoldsOneMore old new call answer =
-    (other : Asked) (kept : Option ℕ) → Holds new other kept → ((other ≡ call) × (kept ≡ answer)) ⊎ Holds old other kept
-
-abbrev pub HoldsNothing : AtHand → Type 0
-HoldsNothing hand = (call : Asked) (answer : Option ℕ) → Holds hand call answer → ⊥
+-- the row of this call says another number of it, and of each other call it says what it said
+abbrev pub SayOneMore : List Row → List Row → Asked → ℕ → Type 0
+SayOneMore old new call number = (other : Asked) → row_says new other ≡ cond (same_asked call other) (said number) (row_says old other)
 
 -- two lists are the same at each place, where a free one stands for what is behind their ends
 abbrev pub ReadAlike : {A : Type 0} → A → List A → List A → Type 0
@@ -85,6 +81,8 @@ ReadAlike {A} free old new = (i : ℕ) → slice_index_or new i free ≡ slice_i
 
 -- ---- answers that are noted
 
--- what is at hand was noted
-abbrev pub AreNoted : List (Asked × Option ℕ) → AtHand → Type 0
-AreNoted answers hand = (call : Asked) (answer : Option ℕ) → Holds hand call answer → lookup (same_asked call) answers ≡ Some answer
+-- rows say all that was noted of calls without a name, and what slots hold of others was noted
+pub record AreNoted (answers : List (Asked × Option ℕ)) (hand : AtHand) : Type 0 where
+  pub rows : (call : Asked) → is_named call ≡ false → lookup (same_asked call) answers ≡ row_says hand.rows.items call
+  pub slots : (call : Asked) (answer : Option ℕ) → SlotHolds hand.slots.items call answer → is_named call ≡ true
+      → lookup (same_asked call) answers ≡ Some answer

@@ -3,6 +3,7 @@
 ghost use Rattle.std.specs.Prelude.{◌≡◌, ◌++◌};
 ghost use Rattle.std.specs.Cmp.{partial_equiv_from_equiv};
 ghost use Rattle.std.specs.Hash as fed;
+ghost use Rattle.deriv_memory.specs.AtHand.{is_named};
 ghost use Rattle.deriv_memory.specs.Calls.{form_of, state_of, ns_of, local_of, same_asked, calls_laws, calls_hash};
 
 use std::hash::{Hash, Hasher};
@@ -68,7 +69,9 @@ impl Asked {
     }
 
     /// Whether there is a name.
-    pub fn has_name(&self) -> bool {
+    pub fn has_name(&self) -> bool
+        ensures { result ≡ is_named self.now }
+    {
         match self {
             Asked::Enter(_, _, _) => true,
             Asked::BlankValue(_, _, _) => true,

@@ -1,13 +1,13 @@
 //! Answers that are found without a hash.
 //!
-//! States are numbers from 0, so a list by states has the answers of calls without a name. Calls with names share one table: a call
-//! and its answer stand where its state and name lead. Each answer here was noted, which the memory keeps as its invariant; one that
-//! isn't here is looked for by its hash.
+//! States are numbers from 0, so a list by states has the answers of calls without a name: all that were noted, so that no other look is
+//! needed. Calls with names share one table: a call and its answer stand where its state and name lead, unless another call came first,
+//! and one that isn't there is looked for by its hash. The memory's invariant says both.
 
-ghost use Rattle.std.specs.Prelude.{◌≡◌, ℕ, Option, IfSome, slice_index_or};
+ghost use Rattle.std.specs.Prelude.{◌≡◌, ◌<◌, ℕ, [], length, Option, Some, false, IfSome, OnOk, slice_index_or};
 ghost use Rattle.deriv_memory.specs.declared.asked.Asked.{Asked as TheAsked};
 ghost use Rattle.deriv_memory.specs.declared.asked.Asked.TheVariants as calls;
-ghost use Rattle.deriv_memory.specs.AtHand.{said, Holds, HoldsNoMore, HoldsNothing, HoldsOneMore, IsWritten, ReadAlike, free_row, free_slot, is_slot, row_with, slot_of};
+ghost use Rattle.deriv_memory.specs.AtHand.{said, HoldOneMore, ReadAlike, SayOneMore, SlotHolds, free_row, free_slot, is_named, is_slot, row_says, row_with, slot_of};
 ghost use Rattle.deriv_memory.specs.Calls.{form_of, state_of, ns_of, local_of};
 
 use crate::asked::{Asked, BLANK_VALUE, ENTER, SOLID_VALUE};
@@ -27,7 +27,7 @@ const NOTHING: u32 = 0;
 /// That there is no state behind a call. The state of number `n` is written as `n + 2`.
 const NO_STATE: u32 = 1;
 
-/// From this number on states aren't written.
+/// From this number on no state can be written.
 const MOST: usize = u32::MAX as usize - 1;
 
 /// The answers of one state's calls that have no name.
@@ -102,25 +102,26 @@ fn read(number: u32) -> Option<Option<usize>>
     }
 }
 
-// The number that says this answer; where none does, the one that says nothing.
-fn written(answer: Option<usize>) -> u32
-    ensures { IsWritten answer result }
+/// The number that says this answer; none where the state's number is too large.
+pub fn written(answer: Option<usize>) -> Option<u32>
+    ensures { IfSome result (λ number. said number ≡ Some answer) }
 {
     match answer {
         Some(state) => {
             if state < MOST {
-                (state + 2) as u32
+                Some((state + 2) as u32)
             } else {
-                NOTHING
+                None
             }
         }
-        None => NO_STATE,
+        None => Some(NO_STATE),
     }
 }
 
 // Makes a list longer than this by free places.
 fn lengthen<T: Copy>(list: &mut Vec<T>, last: usize, free: T) -> Result<(), NoMemory>
-    ensures { ReadAlike free list.old.items list.new.items }
+    ensures alike { ReadAlike free list.old.items list.new.items }
+    ensures longer { OnOk result (last < length list.new.items) }
 {
     while list.len() <= last {
         list.push(free)?;
@@ -178,7 +179,8 @@ impl Slot {
 impl AtHand {
     /// Nothing at hand.
     pub fn new(alloc: Global) -> AtHand
-        ensures { HoldsNothing result }
+        ensures rows { result.rows.items ≡ [] }
+        ensures slots { result.slots.items ≡ [] }
     {
         AtHand {
             rows: Vec::new(alloc),
@@ -219,7 +221,7 @@ impl AtHand {
         local: usize,
     ) -> Option<Option<usize>>
         ensures { (call : TheAsked) → form_of call ≡ form → state_of call ≡ state → ns_of call ≡ ns → local_of call ≡ local
-            → IfSome result (Holds self.now call) }
+            → IfSome result (SlotHolds self.now.slots.items call) }
     {
         let slot = self.slot(place);
         if slot.is_of(form, state, ns, local) {
@@ -232,7 +234,7 @@ impl AtHand {
     /// The answer of the end of a start tag, if it is at hand.
     #[inline(always)]
     pub fn tag_end(&self, state: usize) -> Option<Option<usize>>
-        ensures { IfSome result (Holds self.now (calls.TagEnd state)) }
+        ensures { result ≡ row_says self.now.rows.items (calls.TagEnd state) }
     {
         read(self.row(state).tag_end)
     }
@@ -240,7 +242,7 @@ impl AtHand {
     /// The answer of the end of an element.
     #[inline(always)]
     pub fn leave(&self, state: usize) -> Option<Option<usize>>
-        ensures { IfSome result (Holds self.now (calls.Leave state)) }
+        ensures { result ≡ row_says self.now.rows.items (calls.Leave state) }
     {
         read(self.row(state).leave)
     }
@@ -248,7 +250,7 @@ impl AtHand {
     /// The answer of blank strings.
     #[inline(always)]
     pub fn blank(&self, state: usize) -> Option<Option<usize>>
-        ensures { IfSome result (Holds self.now (calls.Blank state)) }
+        ensures { result ≡ row_says self.now.rows.items (calls.Blank state) }
     {
         read(self.row(state).blank)
     }
@@ -256,7 +258,7 @@ impl AtHand {
     /// The answer of other strings.
     #[inline(always)]
     pub fn solid(&self, state: usize) -> Option<Option<usize>>
-        ensures { IfSome result (Holds self.now (calls.Solid state)) }
+        ensures { result ≡ row_says self.now.rows.items (calls.Solid state) }
     {
         read(self.row(state).solid)
     }
@@ -264,7 +266,7 @@ impl AtHand {
     /// The answer of the start of an element.
     #[inline(always)]
     pub fn entered(&self, state: usize, ns: usize, local: usize) -> Option<Option<usize>>
-        ensures { IfSome result (Holds self.now (calls.Enter state ns local)) }
+        ensures { IfSome result (SlotHolds self.now.slots.items (calls.Enter state ns local)) }
     {
         self.at(dealt(state, local), ENTER, state, ns, local)
     }
@@ -272,7 +274,7 @@ impl AtHand {
     /// The answer of an attribute's blank values.
     #[inline(always)]
     pub fn blank_value(&self, state: usize, ns: usize, local: usize) -> Option<Option<usize>>
-        ensures { IfSome result (Holds self.now (calls.BlankValue state ns local)) }
+        ensures { IfSome result (SlotHolds self.now.slots.items (calls.BlankValue state ns local)) }
     {
         self.at(dealt(state, beside(local)), BLANK_VALUE, state, ns, local)
     }
@@ -280,57 +282,53 @@ impl AtHand {
     /// The answer of an attribute's other values.
     #[inline(always)]
     pub fn solid_value(&self, state: usize, ns: usize, local: usize) -> Option<Option<usize>>
-        ensures { IfSome result (Holds self.now (calls.SolidValue state ns local)) }
+        ensures { IfSome result (SlotHolds self.now.slots.items (calls.SolidValue state ns local)) }
     {
         self.at(dealt(state, local), SOLID_VALUE, state, ns, local)
     }
 
-    /// Room for the answer of a call.
-    pub fn make_room(&mut self, call: &Asked) -> Result<(), NoMemory>
-        ensures { HoldsNoMore self.old self.new }
+    /// A row for the state.
+    pub fn make_row(&mut self, state: usize) -> Result<(), NoMemory>
+        ensures rows { ReadAlike free_row self.old.rows.items self.new.rows.items }
+        ensures slots { ReadAlike free_slot self.old.slots.items self.new.slots.items }
+        ensures room { OnOk result (state < length self.new.rows.items) }
     {
-        if call.has_name() {
-            lengthen(&mut self.slots, SLOTS - 1, FREE_SLOT)
-        } else {
-            lengthen(&mut self.rows, call.state(), FREE_ROW)
-        }
+        lengthen(&mut self.rows, state, FREE_ROW)
     }
 
-    /// From now on nothing is at hand.
-    pub fn clear(&mut self)
-        ensures { HoldsNothing self.new }
+    /// The slots of calls with names.
+    pub fn make_slots(&mut self) -> Result<(), NoMemory>
+        ensures rows { ReadAlike free_row self.old.rows.items self.new.rows.items }
+        ensures slots { ReadAlike free_slot self.old.slots.items self.new.slots.items }
     {
-        self.rows.clear();
+        lengthen(&mut self.slots, SLOTS - 1, FREE_SLOT)
+    }
+
+    /// From now on nothing is in a slot.
+    pub fn clear_slots(&mut self)
+        ensures rows { ReadAlike free_row self.old.rows.items self.new.rows.items }
+        ensures slots { self.new.slots.items ≡ [] }
+    {
         self.slots.clear();
     }
 
-    /// From now on this answer of a call is at hand, where there is room for it. The answer of a call with a name takes a free slot: names
-    /// that come often mostly come early.
-    pub fn put(&mut self, call: &Asked, answer: Option<usize>)
-        ensures { HoldsOneMore self.old self.new call.now answer }
-    {
-        let number = written(answer);
-        if call.has_name() {
-            self.put_named(call, number);
-        } else {
-            self.put_plain(call, number);
-        }
-    }
-
-    // From now on this number is in the row of the call's state.
-    fn put_plain(&mut self, call: &Asked, number: u32)
-        ensures { (answer : Option ℕ) → IsWritten answer number → HoldsOneMore self.old self.new call.now answer }
+    /// From now on this number is in the row of the call's state.
+    pub fn put_plain(&mut self, call: &Asked, number: u32)
+        requires room { state_of call.now < length self.old.rows.items }
+        requires plain { is_named call.now ≡ false }
+        ensures rows { SayOneMore self.old.rows.items self.new.rows.items call.now number }
+        ensures slots { ReadAlike free_slot self.old.slots.items self.new.slots.items }
     {
         let state = call.state();
         let row = self.row(state).with(call, number);
-        if let Some(place) = self.rows.get_mut(state) {
-            *place = row;
-        }
+        self.rows[state] = row;
     }
 
-    // From now on this number is in the call's slot, if that is free.
-    fn put_named(&mut self, call: &Asked, number: u32)
-        ensures { (answer : Option ℕ) → IsWritten answer number → HoldsOneMore self.old self.new call.now answer }
+    /// From now on this number is in the call's slot, if that is free: names that come often mostly come early.
+    pub fn put_named(&mut self, call: &Asked, number: u32)
+        ensures rows { ReadAlike free_row self.old.rows.items self.new.rows.items }
+        ensures slots { (answer : Option ℕ) → said number ≡ Some answer
+            → HoldOneMore self.old.slots.items self.new.slots.items call.now answer }
     {
         if let Some(slot) = Slot::of(call, number) {
             if let Some(place) = self.slots.get_mut(place_of(call)) {

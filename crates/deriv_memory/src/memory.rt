@@ -1,12 +1,13 @@
 //! Texts and answers that are kept.
 
-ghost use Rattle.std.specs.Prelude.{◌≡◌, ◌↔◌, ℕ, [], Some, None, Ok, Option, IfOk, IfSome, IfNone, OnOk, OnErr, IsTrue};
+ghost use Rattle.std.specs.Prelude.{◌≡◌, ◌↔◌, ℕ, [], Some, None, Ok, Option, IfOk, IfSome, IfNone, OnOk, OnErr, IsTrue, true, false};
 ghost use Rattle.deriv_memory.specs.declared.asked.Asked.{Asked as TheAsked};
 ghost use Rattle.deriv_memory.specs.declared.asked.Asked.TheVariants as calls;
+ghost use Rattle.deriv_memory.specs.AtHand.{is_named, said};
 ghost use Rattle.deriv_memory.specs.Remembered.{noted, IsText, IsName, AreOnce, IsAtMostOneMore, AreAtMostTwoMore, LaterMemory, IsNoted};
 
 use crate::asked::Asked;
-use crate::at_hand::AtHand;
+use crate::at_hand::{AtHand, written};
 use crate::guesses::Guesses;
 use indexmap::{IndexMap, IndexSet};
 use nx_base::equal::{EqualAll, same_each};
@@ -188,10 +189,7 @@ impl Memory {
     pub fn recalled_tag_end(&self, state: usize) -> Option<Option<usize>>
         ensures { result ≡ noted self.now (calls.TagEnd state) }
     {
-        match self.at_hand.tag_end(state) {
-            Some(answer) => Some(answer),
-            None => self.searched(&Asked::TagEnd(state)),
-        }
+        self.at_hand.tag_end(state)
     }
 
     /// The answer that was noted of the end of an element.
@@ -199,10 +197,7 @@ impl Memory {
     pub fn recalled_leave(&self, state: usize) -> Option<Option<usize>>
         ensures { result ≡ noted self.now (calls.Leave state) }
     {
-        match self.at_hand.leave(state) {
-            Some(answer) => Some(answer),
-            None => self.searched(&Asked::Leave(state)),
-        }
+        self.at_hand.leave(state)
     }
 
     /// The answer that was noted of blank strings.
@@ -210,10 +205,7 @@ impl Memory {
     pub fn recalled_blank(&self, state: usize) -> Option<Option<usize>>
         ensures { result ≡ noted self.now (calls.Blank state) }
     {
-        match self.at_hand.blank(state) {
-            Some(answer) => Some(answer),
-            None => self.searched(&Asked::Blank(state)),
-        }
+        self.at_hand.blank(state)
     }
 
     /// The answer that was noted of other strings.
@@ -221,10 +213,7 @@ impl Memory {
     pub fn recalled_solid(&self, state: usize) -> Option<Option<usize>>
         ensures { result ≡ noted self.now (calls.Solid state) }
     {
-        match self.at_hand.solid(state) {
-            Some(answer) => Some(answer),
-            None => self.searched(&Asked::Solid(state)),
-        }
+        self.at_hand.solid(state)
     }
 
     /// The answer that was noted of an attribute's blank values.
@@ -270,20 +259,60 @@ impl Memory {
         }
     }
 
-    /// Notes what a call answers.
+    /// Notes what a call answers. A state whose number is too large is refused as want of memory.
     pub fn note(&mut self, call: Asked, answer: Option<usize>) -> Result<(), NoMemory>
         ensures made { OnOk result (IsNoted self.old self.new call answer) }
         ensures refused { OnErr result (self.new ≡ self.old) }
     {
-        self.at_hand.make_room(&call)?;
+        let Some(number) = written(answer) else {
+            return Err(NoMemory);
+        };
+        if call.has_name() {
+            self.note_named(call, answer, number)
+        } else {
+            self.note_plain(call, answer, number)
+        }
+    }
+
+    // Notes what a call without a name answers, whose row says all that is noted of it.
+    fn note_plain(
+        &mut self,
+        call: Asked,
+        answer: Option<usize>,
+        number: u32,
+    ) -> Result<(), NoMemory>
+        requires plain { is_named call ≡ false }
+        requires says { said number ≡ Some answer }
+        ensures made { OnOk result (IsNoted self.old self.new call answer) }
+        ensures refused { OnErr result (self.new ≡ self.old) }
+    {
+        self.at_hand.make_row(call.state())?;
+        self.answers.insert(call, answer)?;
+        self.at_hand.put_plain(&call, number);
+        Ok(())
+    }
+
+    // Notes what a call with a name answers.
+    fn note_named(
+        &mut self,
+        call: Asked,
+        answer: Option<usize>,
+        number: u32,
+    ) -> Result<(), NoMemory>
+        requires named { is_named call ≡ true }
+        requires says { said number ≡ Some answer }
+        ensures made { OnOk result (IsNoted self.old self.new call answer) }
+        ensures refused { OnErr result (self.new ≡ self.old) }
+    {
+        self.at_hand.make_slots()?;
         match self.answers.insert(call, answer)? {
             None => {
-                self.at_hand.put(&call, answer);
+                self.at_hand.put_named(&call, number);
                 Ok(())
             }
             Some(_) => {
-                // what is at hand may be the answer that was noted before
-                self.at_hand.clear();
+                // a slot may hold the answer that was noted before
+                self.at_hand.clear_slots();
                 Ok(())
             }
         }
