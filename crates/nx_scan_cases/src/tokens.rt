@@ -1,11 +1,12 @@
 ghost use Rattle.std.specs.Prelude.{◌≡◌, ◌<◌};
 
+use nx_base::sequence::Bytes;
 use nx_base::steps::Steps;
-use nx_base::token::TokenKind;
 use nx_base::token::TokenKind::{
     Bad, Bom, Cdata, Comment, Decl, Doctype, Empty, End, Pi, Start, Unclosed,
 };
-use nx_scan::scan::scan_token;
+use nx_base::token::{Token, TokenKind};
+use nx_scan::scan::{scan_token, scan_token_into};
 use nx_text::text::Text;
 use std::alloc::Global;
 use std::marker::Brand;
@@ -172,7 +173,36 @@ const ROWS: [Row; 103] = [
     &[(Unclosed, "<?a ?")],
 ];
 
-/// Whether these are the text's tokens, cut at each border in turn.
+/// Texts with tokens that are longer than what is looked at or copied at once, just as long, or a byte shorter.
+const LONG: [Row; 3] = [
+    &[
+        (Start, "<aNameOfMoreThanSixteenLetters>"),
+        (
+            CHARS,
+            "a text of more bytes than are looked at by sixteen at once, so that the others are looked for in another way, up to its end, which is here",
+        ),
+        (End, "</aNameOfMoreThanSixteenLetters>"),
+    ],
+    &[
+        (Start, "<sixteen.letters>"),
+        (CHARS, "as many bytes as two stores hold:"),
+        (Empty, "<or_1-more/>"),
+        (CHARS, "those are thirty-two bytes, here:"),
+        (End, "</sixteen.letters>"),
+        (CHARS, "\n"),
+    ],
+    &[
+        (Start, "<a>"),
+        (CHARS, "fifteen letters"),
+        (Start, "<b>"),
+        (CHARS, "sixteen letters."),
+        (End, "</b>"),
+        (CHARS, "seventeen letters"),
+        (End, "</a>"),
+    ],
+];
+
+/// Whether these are the text's tokens, cut at each border in turn, also where each is put into the room of the one before it.
 fn is_cut<R: Abort, L: Ledger>(rt: &R, alloc: Global, tokens: Row, blank: Blank) -> Result<(), Fail>
     requires name { blank.name ≡ L.name }
     requires parts { blank.parts ≡ L.parts }
@@ -184,9 +214,14 @@ fn is_cut<R: Abort, L: Ledger>(rt: &R, alloc: Global, tokens: Row, blank: Blank)
         text.insert(end, bytes)?;
     }
     let mut steps = Steps::<L>::new(blank);
+    let mut next = Token {
+        kind: CHARS,
+        from: 0,
+        bytes: Bytes::new(alloc),
+    };
     let mut at = 0;
     for (kind, bytes) in tokens {
-        if !text.is_place(at) {
+        if !text.is_place(at) || at >= text.len() {
             panic!(rt; "no place in front of {bytes}");
         }
         let Ok(Some(token)) = scan_token(alloc, &text, at, &mut steps) else {
@@ -202,6 +237,14 @@ fn is_cut<R: Abort, L: Ledger>(rt: &R, alloc: Global, tokens: Row, blank: Blank)
             bytes.as_bytes(),
             "the bytes of {bytes}"
         );
+        if scan_token_into(&text, at, &mut next, &mut steps).is_err() {
+            panic!(rt; "no memory for {bytes}");
+        }
+        assert_eq!(rt;
+            (next.kind, next.from, next.bytes.as_slice()),
+            (*kind, at, bytes.as_bytes()),
+            "{bytes} in the room of another token"
+        );
         at = at.saturating_add(token.bytes.len());
     }
     assert_eq!(rt; at, text.len());
@@ -211,6 +254,14 @@ fn is_cut<R: Abort, L: Ledger>(rt: &R, alloc: Global, tokens: Row, blank: Blank)
 #[test]
 fn cuts_texts(rt: HostRuntime) -> Result<(), Fail> {
     for tokens in ROWS {
+        is_cut::<_, Brand>(&rt, rt.alloc(), tokens, Blank::new(1))?;
+    }
+    Ok(())
+}
+
+#[test]
+fn cuts_texts_with_long_tokens(rt: HostRuntime) -> Result<(), Fail> {
+    for tokens in LONG {
         is_cut::<_, Brand>(&rt, rt.alloc(), tokens, Blank::new(1))?;
     }
     Ok(())
