@@ -50,6 +50,7 @@ fn copy_held(alloc: Global, bytes: &[u8]) -> Result<Held, NoMemory>
 
 impl NameBytes {
     /// A copy of these bytes.
+    #[inline(always)]
     pub fn of(alloc: Global, bytes: &[u8]) -> Result<NameBytes, NoMemory>
         ensures { IfOk result (λ name. name ≡ bytes.now) }
     {
@@ -99,14 +100,27 @@ impl NameBytes {
     }
 }
 
+// A copy of many bytes. Few names have so many, so this stays out of the way of the others.
+#[inline(never)]
+fn copied_long(alloc: Global, bytes: &[u8]) -> Result<NameBytes, NoMemory>
+    ensures { IfOk result (λ name. name ≡ bytes.now) }
+{
+    Ok(NameBytes {
+        alloc,
+        held: Held::Heap(Vec::from_slice(alloc, bytes)?),
+    })
+}
+
 impl TryCopy for NameBytes {
+    // States are copied by the ten thousand, and their names are most of them.
+    #[inline(always)]
     fn copy(&self) -> Result<NameBytes, NoMemory> {
         match &self.held {
             Held::Here(short) => Ok(NameBytes {
                 alloc: self.alloc,
                 held: Held::Here(short.duplicate()),
             }),
-            Held::Heap(memory) => NameBytes::of(self.alloc, memory.as_slice()),
+            Held::Heap(memory) => copied_long(self.alloc, memory.as_slice()),
         }
     }
 }

@@ -55,6 +55,7 @@ impl ShortBytes {
     }
 
     /// The same bytes.
+    #[inline(always)]
     pub(crate) fn duplicate(&self) -> ShortBytes
         ensures { result ≡ self.now }
     {

@@ -15,6 +15,7 @@ use std::mem;
 /// each is a copy of another. To a contract it is the name.
 #[derive(Drop)]
 pub struct OpenName {
+    alloc: Global,
     ns: Bytes,
     local: NameBytes,
 }
@@ -27,6 +28,19 @@ impl Model for OpenName {
     ghost view = { λ name. record { ns = name.ns; local = name.local } };
 }
 
+// A copy of a namespace.
+#[inline(always)]
+fn copied_namespace(alloc: Global, ns: &Bytes) -> Result<Bytes, NoMemory>
+    ensures { IfOk result (λ copied. copied ≡ ns.now) }
+{
+    // Most names have none: then no memory is asked for.
+    if ns.is_empty() {
+        return Ok(Sequence::new(alloc));
+    }
+    let copied = ns.copy()?;
+    Ok(copied)
+}
+
 impl OpenName {
     /// This name. Its namespace is taken out of it, and the memory of its local part stays there.
     pub(crate) fn take(alloc: Global, name: &mut Name) -> Result<OpenName, NoMemory>
@@ -34,7 +48,7 @@ impl OpenName {
     {
         let local = NameBytes::of(alloc, name.local.as_slice())?;
         let ns = mem::replace(&mut name.ns, Sequence::new(alloc));
-        Ok(OpenName { ns, local })
+        Ok(OpenName { alloc, ns, local })
     }
 
     /// The same name.
@@ -49,9 +63,12 @@ impl OpenName {
 }
 
 impl TryCopy for OpenName {
+    // States are copied by the ten thousand, and these are most of them.
+    #[inline(always)]
     fn copy(&self) -> Result<OpenName, NoMemory> {
         Ok(OpenName {
-            ns: self.ns.copy()?,
+            alloc: self.alloc,
+            ns: copied_namespace(self.alloc, &self.ns)?,
             local: self.local.copy()?,
         })
     }

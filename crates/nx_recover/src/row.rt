@@ -51,6 +51,7 @@ pub fn copy_here<M: Matcher>(
 }
 
 /// An open element of the same meaning.
+#[inline(always)]
 pub fn copy_open<M: Matcher>(
     alloc: Global,
     matcher: &M,

@@ -155,7 +155,10 @@ fn copy_each<M: Matcher>(
 {
     let mut copied = Vec::with_capacity(alloc, elements.len())?;
     for element in elements {
-        copied.push(copy_open(alloc, matcher, element)?)?;
+        let element = copy_open(alloc, matcher, element)?;
+        // There is room: with a word of it, what is copied is moved once.
+        copied.reserve(1)?;
+        copied.push_reserved(element);
     }
     Ok(copied)
 }
