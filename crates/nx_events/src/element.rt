@@ -20,7 +20,9 @@ use crate::tag_names::TagNames;
 use nx_base::fault::{Kind, Span};
 use nx_base::memory::NoMemory;
 use nx_base::name::Name;
+use nx_base::sequence::Bytes;
 use std::alloc::Global;
+use std::mem;
 
 // What is wrong, with a copy of these bytes as its detail.
 fn flawed(alloc: Global, kind: Kind, detail: &[u8]) -> Result<Resolved, NoMemory>
@@ -54,19 +56,41 @@ fn declared_or_flaw(
     }
 }
 
-/// The name of an element that is written without a prefix. It is put in this memory.
-pub(crate) fn unprefixed_name(
+// Puts a copy of these bytes in the place of what is there, in its memory.
+#[inline(always)]
+fn refill(alloc: Global, bytes: &mut Bytes, copied: &[u8]) -> Result<(), NoMemory>
+    ensures { OnOk result (bytes.new ≡ copied.now) }
+{
+    let memory = mem::replace(bytes, Bytes::new(alloc)).into_vec();
+    *bytes = copy_in(memory, copied)?;
+    Ok(())
+}
+
+// Puts a namespace in the place of another.
+fn put_namespace(alloc: Global, ns: &mut Bytes, uri: &[u8]) -> Result<(), NoMemory>
+    ensures { OnOk result (ns.new ≡ uri.now) }
+{
+    // Most names have none: then nothing is moved.
+    if uri.is_empty() {
+        ns.clear();
+        return Ok(());
+    }
+    refill(alloc, ns, uri)
+}
+
+/// Puts the name of an element that is written without a prefix in the place of another name, in that one's memory. Where it is refused,
+/// anything may be there.
+pub(crate) fn put_unprefixed_name(
     alloc: Global,
-    memory: Vec<u8>,
+    name: &mut Name,
     scope: &Bindings,
     written: &[u8],
-) -> Result<Name, NoMemory>
-    ensures { IfOk result (λ name. name ≡ unprefixed_name scope.now written.now) }
+) -> Result<(), NoMemory>
+    ensures { OnOk result (name.new ≡ unprefixed_name scope.now written.now) }
 {
-    Ok(Name {
-        ns: copy_of(alloc, default_uri(scope))?,
-        local: copy_in(memory, written)?,
-    })
+    put_namespace(alloc, &mut name.ns, default_uri(scope))?;
+    refill(alloc, &mut name.local, written)?;
+    Ok(())
 }
 
 /// The name of an element, with the declarations around its tag and the tag's own. Its local part is put in this memory.

@@ -12,7 +12,6 @@ ghost use Rattle.nx_events.specs.PlainTokens.{StandsForItself, element_begun, in
 ghost use Rattle.nx_events.specs.Runs.{run_back};
 
 use crate::end_tag::close;
-use crate::item::Items;
 use crate::nesting::is_end_of_innermost;
 use crate::plain_opening::plain_opening;
 use crate::reading::Reading;
@@ -67,19 +66,17 @@ pub fn ended_run(state: &EventState) -> Option<&[u8]>
     Some(run.string.as_slice())
 }
 
-/// The name of an element that is written without a prefix (Namespaces in XML 1.0, 6.2). It is put in memory that the list keeps; NoMemory
-/// where that is wanting.
-pub fn unprefixed_name(
+/// Puts the name of an element that is written without a prefix (Namespaces in XML 1.0, 6.2) in the place of another name, in that one's
+/// memory. Where it is refused, anything may be there.
+pub fn put_unprefixed_name(
     alloc: Global,
-    memory: &mut Items,
+    name: &mut Name,
     state: &EventState,
     written: &[u8],
-) -> Result<Name, NoMemory>
-    ensures name { IfOk result (λ name. name ≡ unprefixed_name state.now.scope written.now) }
-    ensures memory { memory.new ≡ memory.old }
+) -> Result<(), NoMemory>
+    ensures { OnOk result (name.new ≡ unprefixed_name state.now.scope written.now) }
 {
-    let name = element::unprefixed_name(alloc, memory.spare_memory(), &state.scope, written)?;
-    Ok(name)
+    element::put_unprefixed_name(alloc, name, &state.scope, written)
 }
 
 /// Begins an element that declares nothing. Where it is refused, the state is as before.

@@ -4,6 +4,7 @@
 ghost use Rattle.std.specs.Prelude.{◌≡◌, ◌++◌, ◌∷◌, ◌+◌, ◌<◌, ◌≤◌, ◌^◌, [], true, false, length, IsUtf8, IfOk, IfSome, OnErr, option_copied};
 ghost use Rattle.rng_live.specs.Calls.{Answers};
 ghost use Rattle.nx_base.specs.declared.token.Token.{Token};
+ghost use Rattle.nx_base.specs.declared.token.TokenKind.TheVariants as kinds;
 ghost use Rattle.nx_events.specs.PlainAttributes.{attribute_name, one_if, AreTexts, IsPlainOpening};
 ghost use Rattle.nx_events.specs.PlainTokens.{IsPlainEnd};
 ghost use Rattle.nx_events.specs.Runs.{run_back};
@@ -25,7 +26,7 @@ use nx_events::item::Items;
 use nx_events::plain_opening::{PlainAttribute, PlainAttributes, attribute_name, plain_opening};
 use nx_events::plain_token::{
     add_characters, begin_element, end_innermost, ended_run, is_plain_end, is_plain_text,
-    plain_start, unprefixed_name,
+    plain_start, put_unprefixed_name,
 };
 use rng_live::matcher::Matcher;
 use std::alloc::Global;
@@ -52,6 +53,7 @@ fn behind_attribute<M: Matcher>(
 }
 
 // Behind the second attribute of a tag, if there is one, and the end of the tag.
+#[inline(never)]
 fn behind_second<M: Matcher>(
     alloc: Global,
     matcher: &mut M,
@@ -80,6 +82,7 @@ fn behind_second<M: Matcher>(
 }
 
 // Behind the attributes of a tag, if there are some, and the end of the tag.
+#[inline(always)]
 fn behind_attributes<M: Matcher>(
     alloc: Global,
     matcher: &mut M,
@@ -108,6 +111,7 @@ fn behind_attributes<M: Matcher>(
 }
 
 // Behind the start of an element and the end of its tag.
+#[inline(always)]
 fn inside_of<M: Matcher>(
     alloc: Global,
     matcher: &mut M,
@@ -133,6 +137,7 @@ fn inside_of<M: Matcher>(
 }
 
 // Behind the run in front of a start tag, if there is one, the start of its element and the end of the tag.
+#[inline(always)]
 fn behind_start<M: Matcher>(
     alloc: Global,
     matcher: &mut M,
@@ -190,11 +195,13 @@ fn behind_end<M: Matcher>(
 }
 
 // Takes a start tag that is this name and these attributes, and answers whether all that it gives is admitted. Where it isn't, the state is
-// as before.
+// as before. The name is put in memory that is kept for it. Inlined, so that for tags without attributes none are asked for.
+#[inline(always)]
 fn take_start<M: Matcher>(
     alloc: Global,
     matcher: &mut M,
     memory: &mut Items,
+    name: &mut Name,
     state: &mut RecoverState<M::State>,
     written: &[u8],
     attributes: &Option<PlainAttributes<'_>>,
@@ -215,19 +222,54 @@ fn take_start<M: Matcher>(
         return Ok(false);
     };
     let run = ended_run(&state.events);
-    let mut name = unprefixed_name(alloc, memory, &state.events, written)?;
-    let admitted = behind_start(alloc, matcher, memory, here, run, &name, attributes)?;
+    put_unprefixed_name(alloc, name, &state.events, written)?;
+    let admitted = behind_start(alloc, matcher, memory, here, run, name, attributes)?;
     let Some(inside) = admitted else {
-        memory.keep_name(name);
         return Ok(false);
     };
-    let kept = OpenName::take(alloc, &mut name)?;
-    memory.keep_name(name);
+    let kept = OpenName::of(alloc, name)?;
     state.levels.elements.reserve(1)?;
     begin_element(&mut state.events, written)?;
     state.levels.elements.push_reserved(Open::In(kept));
     state.levels.here = Some(inside);
     Ok(true)
+}
+
+// Takes a start tag that has attributes, if one look tells what it gives, and answers whether it does, and all of that is admitted. Where it
+// isn't, the state is as before. Its frame is large, and most start tags are a name alone.
+#[inline(never)]
+fn take_opening<M: Matcher>(
+    alloc: Global,
+    matcher: &mut M,
+    memory: &mut Items,
+    name: &mut Name,
+    state: &mut RecoverState<M::State>,
+    token: &Token,
+) -> Result<bool, NoMemory>
+    requires kind { token.now.kind ≡ kinds.Start }
+    requires states { AreStates (M.is_state matcher.old) (view_of state.old.levels) }
+    requires text { StateIsText state.old.events }
+    ensures later { M.later matcher.old matcher.new }
+    ensures taken { IfOk result (λ taken. taken ≡ true → IsAdmitted (M.is_state matcher.new) (M.means matcher.old) (M.means matcher.new)
+        (M.language matcher.old) state.old state.new token.now) }
+    ensures stays { IfOk result (λ taken. taken ≡ false → state.new ≡ state.old) }
+    ensures same_events { OnErr result (state.new.events ≡ state.old.events) }
+    ensures same_levels { OnErr result (view_of state.new.levels ≡ view_of state.old.levels) }
+    ensures memory { memory.new ≡ memory.old }
+{
+    let Some(tag) = plain_opening(&state.events, token) else {
+        return Ok(false);
+    };
+    let attributes = Some(tag.attributes);
+    take_start(
+        alloc,
+        matcher,
+        memory,
+        name,
+        state,
+        tag.written,
+        &attributes,
+    )
 }
 
 // The name of the innermost element, if it goes on in the frame around it.
@@ -281,11 +323,12 @@ fn take_end<M: Matcher>(
 }
 
 /// Takes a token of which one look tells what it gives, and answers whether it is one, and all of that is admitted. Where it isn't, or there
-/// was no memory for it, the state is as before.
+/// was no memory for it, the state is as before. The name of an element that begins is put in the memory of another.
 pub fn step_plain<M: Matcher>(
     alloc: Global,
     matcher: &mut M,
     memory: &mut Items,
+    name: &mut Name,
     state: &mut RecoverState<M::State>,
     token: &Token,
 ) -> Result<bool, NoMemory>
@@ -303,18 +346,8 @@ pub fn step_plain<M: Matcher>(
 {
     match token.kind {
         TokenKind::Start => match plain_start(&state.events, token) {
-            Some(written) => take_start(alloc, matcher, memory, state, written, &None),
-            None => match plain_opening(&state.events, token) {
-                Some(tag) => take_start(
-                    alloc,
-                    matcher,
-                    memory,
-                    state,
-                    tag.written,
-                    &Some(tag.attributes),
-                ),
-                None => Ok(false),
-            },
+            Some(written) => take_start(alloc, matcher, memory, name, state, written, &None),
+            None => take_opening(alloc, matcher, memory, name, state, token),
         },
         TokenKind::End => {
             if is_plain_end(&state.events, token) {

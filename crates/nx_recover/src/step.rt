@@ -18,6 +18,8 @@ use crate::plain_step::step_plain;
 use crate::state::RecoverState;
 use nx_base::fault::Faults;
 use nx_base::memory::NoMemory;
+use nx_base::name::Name;
+use nx_base::sequence::Sequence;
 use nx_base::token::Token;
 use nx_events::item::Items;
 use nx_events::law::tokens_give_text;
@@ -32,6 +34,8 @@ use std::mem;
 pub struct Scratch<S> {
     /// The items of the last token that was taken item by item.
     pub items: Items,
+    /// The name of an element that began, so that the next one's is put in its memory.
+    pub name: Name,
     /// The levels behind it.
     pub change: Change<S>,
     /// The faults among its items, and those of recovery.
@@ -43,6 +47,10 @@ impl<S: Drop> Scratch<S> {
     pub fn new(alloc: Global) -> Scratch<S> {
         Scratch {
             items: Items::new(alloc),
+            name: Name {
+                ns: Sequence::new(alloc),
+                local: Sequence::new(alloc),
+            },
             change: Change::new(alloc),
             found: Faults::new(alloc),
         }
@@ -154,7 +162,9 @@ fn drop_left(found: &mut Faults)
     }
 }
 
-// A step item by item. For want of memory the state means what it meant, and the faults are as before.
+// A step item by item. For want of memory the state means what it meant, and the faults are as before. Few tokens are taken so, and it is
+// large.
+#[inline(never)]
 fn step_by_items<M: Matcher>(
     alloc: Global,
     matcher: &mut M,
@@ -182,6 +192,7 @@ fn step_by_items<M: Matcher>(
 {
     let Scratch {
         items,
+        name: _,
         change,
         found,
     } = scratch;
@@ -230,7 +241,8 @@ pub fn step_over<M: Matcher>(
     if !scratch.items.is_empty() {
         scratch.items.clear();
     }
-    if step_plain(alloc, matcher, &mut scratch.items, state, token)? {
+    let Scratch { items, name, .. } = &mut *scratch;
+    if step_plain(alloc, matcher, items, name, state, token)? {
         tokens_give_text();
         return Ok(());
     }
