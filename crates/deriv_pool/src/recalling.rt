@@ -1,4 +1,5 @@
-//! Calls whose answers are noted, so that they answer again.
+//! Calls whose answers are noted, so that they answer again. What is noted is told in line, so that a call's form is known where it is
+//! made; what isn't is asked out of line, so that the usual way sets up no frame for it.
 
 ghost use Rattle.std.specs.Prelude.{◌≡◌, ◌<◌, length, map, [], true, is_some, IfOk, IfSome, IfNone, OnOk};
 ghost use Rattle.rng_core.specs.Meaning.{definition_of};
@@ -28,6 +29,7 @@ use rng_core::grammar::Def;
 use std::alloc::Global;
 
 /// An answer that was noted, as a state.
+#[inline(always)]
 fn as_state(kept: Option<usize>) -> Option<PoolState>
     ensures { result ≡ as_states kept }
 {
@@ -48,6 +50,7 @@ fn as_number(given: Option<PoolState>) -> Option<usize>
 }
 
 /// The answer that was noted of a call; none where nothing was noted.
+#[inline(always)]
 fn recalled(
     states: &States,
     memory: &Memory,
@@ -65,6 +68,7 @@ fn recalled(
 }
 
 /// The answer that was noted of the start of an element; none where nothing was noted.
+#[inline(always)]
 pub(crate) fn recalled_enter(
     states: &States,
     memory: &Memory,
@@ -85,6 +89,7 @@ pub(crate) fn recalled_enter(
 }
 
 /// The answer that was noted of the end of a start tag; none where nothing was noted.
+#[inline(always)]
 pub(crate) fn recalled_tag_end(
     states: &States,
     memory: &Memory,
@@ -103,6 +108,7 @@ pub(crate) fn recalled_tag_end(
 }
 
 /// The answer that was noted of the end of an element; none where nothing was noted.
+#[inline(always)]
 pub(crate) fn recalled_leave(
     states: &States,
     memory: &Memory,
@@ -121,6 +127,7 @@ pub(crate) fn recalled_leave(
 }
 
 /// The answer that was noted of strings of this one's kind; none where nothing was noted.
+#[inline(always)]
 pub(crate) fn recalled_chars(
     states: &States,
     memory: &Memory,
@@ -140,6 +147,7 @@ pub(crate) fn recalled_chars(
 }
 
 /// The answer that was noted of values of this one's kind; none where nothing was noted.
+#[inline(always)]
 pub(crate) fn recalled_attribute(
     states: &States,
     memory: &Memory,
@@ -201,6 +209,7 @@ pub(crate) fn noted_answer(
 }
 
 /// Behind the start of an element; the answer is noted.
+#[inline(never)]
 pub(crate) fn entered(
     alloc: Global,
     states: &mut States,
@@ -232,6 +241,7 @@ pub(crate) fn entered(
 }
 
 /// Behind the end of a start tag; the answer is noted.
+#[inline(never)]
 pub(crate) fn tag_ended(
     alloc: Global,
     states: &mut States,
@@ -260,6 +270,7 @@ pub(crate) fn tag_ended(
 }
 
 /// Behind the end of an element; the answer is noted.
+#[inline(never)]
 pub(crate) fn left(
     alloc: Global,
     states: &mut States,
@@ -288,6 +299,7 @@ pub(crate) fn left(
 }
 
 /// Behind a string. Where strings of its kind are all alike, one of them is taken, and the answer is noted of them all.
+#[inline(never)]
 pub(crate) fn read_chars(
     alloc: Global,
     states: &mut States,
@@ -317,6 +329,7 @@ pub(crate) fn read_chars(
 }
 
 /// Behind an attribute. Where values of its kind are all alike, one of them is taken, and the answer is noted of them all.
+#[inline(never)]
 pub(crate) fn read_attribute(
     alloc: Global,
     states: &mut States,
