@@ -8,7 +8,8 @@ use Rattle.nx_base.specs.Characters.{is_name_start}
 use Rattle.nx_base.specs.Tokens.{begins_with, bytes_up_to, order_mark, first_token}
 use Rattle.nx_base.specs.declared.token.TokenKind.TheVariants as kinds
 use Rattle.nx_text.specs.Reading.{StandFrom}
-use Rattle.nx_text.proofs.NextByte.{up_to_in_front}
+use Rattle.nx_text.proofs.NextByte.{up_to_in_front, up_to_in_back}
+use Rattle.std.proofs.Math.Seq.{drop-append-add}
 use Rattle.nx_scan.specs.Ending.{EndsAt}
 use Rattle.nx_scan.specs.declared.scan.End.{End}
 use Rattle.nx_scan.proofs.Fitting.{found-within, found-stands}
@@ -75,6 +76,18 @@ pub found-here : (byte : ℕ) (text piece : List ℕ) (at n : ℕ) → StandFrom
 found-here byte text piece at n is found less =
     ap (λ k. at + k)
     (found ∙ up_to_in_front byte piece is.rest (omega (arith, found, less)) ∙ ap (bytes_up_to byte) (sym is.whole))
+
+-- a byte that stands behind the piece
+pub found-behind : (byte : ℕ) (text piece : List ℕ) (at n found : ℕ) → StandFrom text at piece → n ≡ bytes_up_to byte piece →
+    n ≤ length piece → length piece ≤ n → found ≡ at + n + bytes_up_to byte (drop (at + n) text) → found ≡ at + bytes_up_to byte (drop at text)
+found-behind byte text piece at n found is here within past place =
+    let same : n ≡ length piece + 0 = omega (arith, within, past) in
+    let behind : drop (at + n) text ≡ is.rest =
+    sym (drop-drop n at text) ∙ ap (drop n) is.whole ∙ ap (λ k. drop k (piece ++ is.rest)) same ∙ drop-append-add piece is.rest 0 in
+    let sum = up_to_in_back byte piece is.rest (omega (arith, here, past)) in
+    let all : bytes_up_to byte (drop at text) ≡ bytes_up_to byte (piece ++ is.rest) = ap (bytes_up_to byte) is.whole in
+    let left : bytes_up_to byte (drop (at + n) text) ≡ bytes_up_to byte is.rest = ap (bytes_up_to byte) behind in
+    omega (arith, place, same, sum, all, left)
 
 -- character data
 pub text-ends : (text : List ℕ) (at : ℕ) (found : End) → (at == 0 && begins_with order_mark (drop at text)) ≡ false →

@@ -3,7 +3,7 @@
 ghost use Rattle.std.specs.Prelude.{◌≡◌, ◌+◌, ◌-◌, ◌<◌, ◌≤◌, ◌^◌, [], ◌∷◌, length, drop, slice_index, IsTrue, IfSome};
 ghost use Rattle.std.specs.Bool.{OnTrue};
 ghost use Rattle.std.specs.Option.{option_map};
-ghost use Rattle.nx_base.specs.Tokens.{begins_with, bytes_before, bytes_up_to};
+ghost use Rattle.nx_base.specs.Tokens.{begins_with, bytes_before};
 
 use nx_text::text::Text;
 
@@ -16,7 +16,6 @@ pub(crate) fn byte_is(text: &Text, at: usize, byte: u8) -> bool
 }
 
 /// Whether the mark stands at the byte offset `at`.
-#[inline(never)]
 pub(crate) fn stands_at(text: &Text, at: usize, mark: &[u8]) -> bool
     requires { at ≤ length text.now }
     ensures stands { result ≡ begins_with mark.now (drop at text.now) }
@@ -60,14 +59,4 @@ pub(crate) fn find_past(text: &Text, from: usize, mark: &[u8]) -> Option<usize>
 {
     let at = find(text, from, mark)?;
     Some(at + mark.len())
-}
-
-/// The first byte offset from `from` on at which the byte stands, or the length.
-pub(crate) fn find_byte(text: &Text, from: usize, byte: u8) -> usize
-    requires { from ≤ length text.now }
-    ensures first { result ≡ from + bytes_up_to byte (drop from text.now) }
-    ensures within { result ≤ length text.now }
-    ensures stands { result < length text.now → slice_index text.now result ≡ byte }
-{
-    text.find_byte(from, byte)
 }

@@ -11,7 +11,7 @@ ghost use Rattle.nx_text.specs.Reading.{StandFrom};
 ghost use Rattle.nx_scan.specs.Ending.{EndsAt};
 
 use crate::doctype::doctype_end;
-use crate::mark::{byte_is, find_byte, find_past, stands_at};
+use crate::mark::{byte_is, find_past, stands_at};
 use crate::tag::TagState;
 use crate::tag_part::{closed_name, read_on};
 use nx_base::character::is_space;
@@ -204,10 +204,10 @@ fn markup_end(text: &Text, at: usize) -> End
     }
 }
 
-/// The same where these bytes stand behind the `<`. Most are tags that are a name alone, `<name>` or `</name>`, where all its characters
-/// have one byte and stand here, and are read at once.
+/// A token that begins with `<`, which stands at `at` with these bytes behind it. Most are tags that are a name alone, `<name>` or
+/// `</name>`, where all its characters have one byte and stand here, and are read at once.
 #[inline(always)]
-fn near_markup_end(text: &Text, at: usize, behind: &[u8]) -> End
+fn markup_end_in(text: &Text, at: usize, behind: &[u8]) -> End
     requires utf8 { IsUtf8 text.now }
     requires within { at < length text.now }
     requires open { slice_index text.now at ≡ 60 }
@@ -228,6 +228,16 @@ fn near_markup_end(text: &Text, at: usize, behind: &[u8]) -> End
     }
 }
 
+/// Whether a byte order mark stands at `at`. It is asked once for a text, so it stands out of the way of all other tokens.
+#[inline(never)]
+fn is_order_mark(text: &Text, at: usize) -> bool
+    requires { at ≤ length text.now }
+    ensures stands { result ≡ begins_with order_mark (drop at text.now) }
+    ensures within { OnTrue result (at + 3 ≤ length text.now) }
+{
+    stands_at(text, at, &[0xEF, 0xBB, 0xBF])
+}
+
 /// Whether a byte order mark begins the text, and `at` is there.
 fn at_order_mark(text: &Text, at: usize) -> bool
     requires { at ≤ length text.now }
@@ -235,20 +245,20 @@ fn at_order_mark(text: &Text, at: usize) -> bool
     ensures within { OnTrue result (at + 3 ≤ length text.now) }
 {
     if at == 0 {
-        stands_at(text, at, &[0xEF, 0xBB, 0xBF])
+        is_order_mark(text, at)
     } else {
         false
     }
 }
 
-/// Character data from `at` on, where no `<` stands.
+/// Character data that goes on from `from` at the least, where no `<` was found before it.
 #[inline(never)]
-fn text_end(text: &Text, at: usize) -> End
-    requires { at ≤ length text.now }
+fn text_end(text: &Text, from: usize) -> End
+    requires { from ≤ length text.now }
     ensures kind { result.kind ≡ TokenKind.Text }
-    ensures first { result.place ≡ at + bytes_up_to 60 (drop at text.now) }
+    ensures first { result.place ≡ from + bytes_up_to 60 (drop from text.now) }
 {
-    End::new(TokenKind::Text, find_byte(text, at, b'<'))
+    End::new(TokenKind::Text, text.find_byte(from, b'<'))
 }
 
 /// The token at a place in front of the end, where these bytes stand. They tell all of most tokens; what they don't tell is looked for
@@ -269,30 +279,19 @@ fn token_end(text: &Text, at: usize, piece: &[u8]) -> End
         };
     }
     if piece[0] == b'<' {
-        return near_markup_end(text, at, &piece[1..]);
+        return markup_end_in(text, at, &piece[1..]);
     }
     let len = up_to_byte(piece, b'<');
     if len < piece.len() {
         End::new(TokenKind::Text, at + len)
     } else {
-        text_end(text, at)
+        text_end(text, at + len)
     }
-}
-
-/// Puts the bytes of a token that lies over the gap of the text in the place of what a list held.
-#[inline(never)]
-fn copy_far(text: &Text, at: usize, to: usize, list: &mut Bytes) -> Result<(), NoMemory>
-    requires from { IsPlace text.now at }
-    requires to { IsPlace text.now to }
-    requires ordered { at ≤ to }
-    ensures { OnOk result (list.new ≡ slice_range text.now at to) }
-{
-    text.copy_range_into(at, to, list)
 }
 
 /// Puts the bytes from one place to another in the place of what a list held, where these bytes stand at the first.
 #[inline(always)]
-fn copy_near(
+fn copy_from_piece(
     text: &Text,
     at: usize,
     piece: &[u8],
@@ -309,7 +308,7 @@ fn copy_near(
     if len <= piece.len() {
         text.copy_piece_into(piece, len, list)
     } else {
-        copy_far(text, at, to, list)
+        text.copy_range_into(at, to, list)
     }
 }
 
@@ -363,6 +362,6 @@ pub fn scan_token_into<L: Ledger>(
     let end = token_end(text, at, piece);
     token.kind = end.kind;
     token.from = at;
-    copy_near(text, at, piece, end.place, &mut token.bytes)?;
+    copy_from_piece(text, at, piece, end.place, &mut token.bytes)?;
     Ok(())
 }

@@ -26,6 +26,7 @@ fn is_name_first(byte: u8) -> bool
     ensures low { OnTrue result (byte < 128) }
     ensures first { OnTrue result (IsTrue (is_name_start byte)) }
 {
+    // Small letters first: most names begin with one.
     byte.is_ascii_lowercase() || matches!(byte, b'A'..=b'Z' | b'_' | b':')
 }
 

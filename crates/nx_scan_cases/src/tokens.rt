@@ -173,7 +173,7 @@ const ROWS: [Row; 103] = [
     &[(Unclosed, "<?a ?")],
 ];
 
-/// Texts with tokens that are longer than what is looked at or copied at once, just as long, or a byte shorter.
+/// Texts with tokens that are longer than what is looked at or copied at once, just as long, or a byte shorter or longer.
 const LONG: [Row; 3] = [
     &[
         (Start, "<aNameOfMoreThanSixteenLetters>"),
@@ -185,9 +185,9 @@ const LONG: [Row; 3] = [
     ],
     &[
         (Start, "<sixteen.letters>"),
-        (CHARS, "as many bytes as two stores hold:"),
+        (CHARS, "as many bytes as two stores hold"),
         (Empty, "<or_1-more/>"),
-        (CHARS, "those are thirty-two bytes, here:"),
+        (CHARS, "those are thirty-two bytes, here"),
         (End, "</sixteen.letters>"),
         (CHARS, "\n"),
     ],
@@ -199,6 +199,10 @@ const LONG: [Row; 3] = [
         (End, "</b>"),
         (CHARS, "seventeen letters"),
         (End, "</a>"),
+        (
+            CHARS,
+            "so many bytes as are looked at by sixteen at once, which are one hundred and twenty-eight, before others are asked for a bracket",
+        ),
     ],
 ];
 

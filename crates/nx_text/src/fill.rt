@@ -10,9 +10,9 @@ use std::mem;
 const LANES: usize = 16;
 
 /// How many bytes are written where no more are wanted.
-const FEW: usize = 32;
+const FEW: usize = 2 * LANES;
 
-/// Puts sixteen bytes behind those of a buffer that has room for them, by a single store.
+/// Puts sixteen bytes behind those of a buffer that has room for them, by a loop that compiles to one store.
 #[inline(always)]
 fn push_lanes(buffer: &mut Vec<u8>, lanes: [u8; LANES])
     requires { vec_len buffer.old + 16 ≤ vec_capacity buffer.old }
@@ -41,13 +41,15 @@ fn filled_with_few(buffer: Vec<u8>, first: [u8; LANES], second: [u8; LANES], len
     buffer
 }
 
-/// Puts these bytes in the place of what a list held. The buffer is what it held them in, and may have to get more room.
+/// Puts these bytes in the place of what a list held. The buffer is what it held them in, and may have to get more room: at the least
+/// that for few bytes, so that the next few are written at once.
 #[inline(never)]
 fn fill_with_all(list: &mut Bytes, buffer: Vec<u8>, bytes: &[u8]) -> Result<(), AllocError>
     ensures { OnOk result (list.new ≡ bytes.now) }
 {
     let mut buffer = buffer;
     buffer.clear();
+    buffer.reserve(bytes.len().max(FEW))?;
     buffer.extend_from_slice(bytes)?;
     *list = Bytes::from_vec(buffer);
     Ok(())

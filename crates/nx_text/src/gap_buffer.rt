@@ -90,6 +90,13 @@ impl<T: Copy> GapBuffer<T> {
         self.items.len() - (self.end - self.start)
     }
 
+    /// How many items the gap has room for.
+    pub(crate) fn room(&self) -> usize
+        ensures { result ≡ self.now.room }
+    {
+        self.end - self.start
+    }
+
     /// How many items there are in front of the gap.
     pub(crate) fn front_len(&self) -> usize
         ensures { result ≡ length self.now.front }
@@ -117,7 +124,6 @@ impl<T: Copy> GapBuffer<T> {
     }
 
     /// The items from one index to another, in the place of what the buffer held, in its room.
-    #[inline(always)]
     pub(crate) fn copy_range(
         &self,
         from: usize,

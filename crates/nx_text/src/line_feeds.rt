@@ -139,7 +139,7 @@ pub(crate) fn push_feeds(feeds: &mut GapBuffer<usize>, at: usize, added: &[u8])
     ensures back { feeds.new.back ≡ feeds.old.back }
 {
     let mut left = added;
-    while let Some(before) = first_byte(b'\n', left) {
+    while let Some(before) = first_byte(left, b'\n') {
         feeds.push(at + (added.len() - left.len()) + before);
         left = &left[before + 1..];
     }

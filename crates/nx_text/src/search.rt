@@ -11,6 +11,9 @@ use std::simd::prelude::*;
 /// How many bytes are looked at together.
 const LANES: usize = 16;
 
+/// How many bytes are looked at so, before the others by `memchr`.
+const BY_LANES: usize = 128;
+
 /// How many of the first sixteen bytes stand before the first such byte.
 #[inline(always)]
 fn lanes_up_to(bytes: &[u8], byte: u8) -> usize
@@ -27,12 +30,9 @@ fn lanes_up_to(bytes: &[u8], byte: u8) -> usize
     }
 }
 
-/// How many bytes are looked at so before all others.
-const NEAR: usize = 128;
-
-/// The same where the byte is looked for in all bytes at once, as is worth its while in many of them.
+/// How many bytes stand before the first such byte, or in all where there is none, by `memchr`, whose call pays in many bytes.
 #[inline(never)]
-fn far_up_to(bytes: &[u8], byte: u8) -> usize
+fn up_to_by_memchr(bytes: &[u8], byte: u8) -> usize
     ensures first { result ≡ bytes_up_to byte bytes.now }
     ensures within { result ≤ length bytes.now }
 {
@@ -42,27 +42,27 @@ fn far_up_to(bytes: &[u8], byte: u8) -> usize
     }
 }
 
-/// How many bytes stand before the first such byte, or in all where there is none. Most texts are short: the byte is looked for in
-/// the first few lanes before all others.
+/// How many bytes stand before the first such byte, or in all where there is none. Most texts and lines are short: the first bytes are
+/// looked at by sixteen, in line.
 #[inline(always)]
 pub fn up_to_byte(bytes: &[u8], byte: u8) -> usize
     ensures first { result ≡ bytes_up_to byte bytes.now }
     ensures within { result ≤ length bytes.now }
 {
     let mut passed = 0;
-    while passed < NEAR && bytes.len() - passed >= LANES {
+    while passed < BY_LANES && bytes.len() - passed >= LANES {
         let near = lanes_up_to(&bytes[passed..], byte);
         if near < LANES {
             return passed + near;
         }
         passed += LANES;
     }
-    passed + far_up_to(&bytes[passed..], byte)
+    passed + up_to_by_memchr(&bytes[passed..], byte)
 }
 
 /// The index of the first such byte.
 #[inline(always)]
-pub(crate) fn first_byte(byte: u8, bytes: &[u8]) -> Option<usize>
+pub(crate) fn first_byte(bytes: &[u8], byte: u8) -> Option<usize>
     ensures { IsFirstByte (is_byte byte) bytes.now result }
 {
     let before = up_to_byte(bytes, byte);

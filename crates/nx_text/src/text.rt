@@ -119,7 +119,7 @@ impl Text {
             let len = self.len();
             return Err(TextFault::BadPosition { at, len });
         }
-        if self.bytes.len() == 0 {
+        if self.bytes.len() == 0 && self.bytes.room() < added.len() {
             self.begin(added)?;
             return Ok(());
         }
@@ -131,7 +131,7 @@ impl Text {
         Ok(())
     }
 
-    /// Puts a text in where there is none.
+    /// Puts a text in where there is none, and no room for it: in memory of its own, so that it is written once.
     fn begin(&mut self, added: &str) -> Result<(), AllocError>
         requires { length self.old ≡ 0 }
         ensures ok { OnOk result (self.new ≡ added.now) }
@@ -185,8 +185,8 @@ impl Text {
     }
 
     /// Puts the bytes from the place `from` to the place `to` in the place of what a list held, in its room. Where there is no
-    /// memory the list may hold anything.
-    #[inline(always)]
+    /// memory the list may hold anything. It stands out of line: most tokens lie in one piece, and are copied from there.
+    #[inline(never)]
     pub fn copy_range_into(&self, from: usize, to: usize, list: &mut Bytes) -> Result<(), NoMemory>
         requires from { IsPlace self.now from }
         requires to { IsPlace self.now to }
@@ -201,8 +201,8 @@ impl Text {
         Ok(())
     }
 
-    /// Puts the first so many bytes of a piece of the text in the place of what a list held, in its room. Where there is no memory the
-    /// list may hold anything.
+    /// Puts the first so many bytes of a piece in the place of what a list held, in its room. The whole piece is given, since up to 32 of
+    /// its bytes are copied, however few are wanted. Where there is no memory the list may hold anything.
     #[inline(always)]
     pub fn copy_piece_into(
         &self,

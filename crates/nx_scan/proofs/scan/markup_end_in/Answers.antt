@@ -2,7 +2,7 @@ use Rattle.std.proofs.Common.{rules, ◌+◌}
 use Rattle.nx_scan.proofs.Pieces.{name-no_mark, slash-no_mark}
 use Rattle.nx_scan.proofs.Rows.{markup-plain}
 use Rattle.nx_scan.proofs.TagParts.{end-named, start-named}
-use Rattle.nx_scan.proofs.scan.near_markup_end.Goals as goal
+use Rattle.nx_scan.proofs.scan.markup_end_in.Goals as goal
 
 pub returns-in-Some : goal.returns-in-Some
 returns-in-Some c =
