@@ -15,7 +15,6 @@ ghost use Rattle.nx_marks.specs.declared.mark.Mark.{Mark};
 use crate::listing::add_faults;
 use crate::mark::{Mark, lengthen};
 use crate::single::Single;
-use crate::stored::Stored;
 use crate::tree::Tree;
 use nx_base::fault::Faults;
 use nx_base::machine::Machine;
@@ -210,7 +209,7 @@ impl<S: Drop> Front<S> {
 pub(crate) fn lengthen_last<A: Machine>(
     alloc: Global,
     machine: &mut A,
-    state: &mut Stored<A::State>,
+    state: &mut A::State,
     token: &mut Token,
     front: &mut Front<A::State>,
 ) -> Result<usize, NoMemory>

@@ -10,7 +10,6 @@ ghost use Rattle.nx_marks.specs.Walking.{Fits};
 
 use crate::line::Line;
 use crate::mark::Mark;
-use crate::stored::Stored;
 use nx_base::edit::Edit;
 use nx_base::fault::Faults;
 use nx_base::memory::NoMemory;
@@ -38,7 +37,7 @@ impl<S> Model for Kept<S> {
 
 impl<S: Drop> Kept<S> {
     /// Nothing is taken yet.
-    pub(crate) fn start(alloc: Global, state: Stored<S>) -> Kept<S>
+    pub(crate) fn start(alloc: Global, state: S) -> Kept<S>
         ensures { result ≡ started state }
     {
         Kept {

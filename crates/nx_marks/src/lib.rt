@@ -25,7 +25,6 @@ pub mod marks;
 mod parts;
 mod rows;
 mod single;
-pub mod stored;
 mod sums;
 mod tree;
 

@@ -21,7 +21,6 @@ use crate::front::{Front, lengthen_last};
 use crate::listing::add_faults;
 use crate::mark::Mark;
 use crate::single::Single;
-use crate::stored::{Stored, copied};
 use crate::tree::Tree;
 use nx_base::edit::Edit;
 use nx_base::fault::Faults;
@@ -80,7 +79,7 @@ fn one_more(count: usize, all: usize) -> usize
 
 impl<S: Drop> Line<S> {
     /// Nothing is taken yet.
-    pub(crate) fn start(alloc: Global, state: Stored<S>) -> Line<S>
+    pub(crate) fn start(alloc: Global, state: S) -> Line<S>
         ensures { result ≡ started state }
     {
         Line {
@@ -383,9 +382,9 @@ impl<S: Drop> Line<S> {
         ensures { result.now ≡ (seen joined self.now).here.state }
     {
         if joined {
-            self.last().state.get()
+            &self.last().state
         } else {
-            self.here.state.get()
+            &self.here.state
         }
     }
 
@@ -527,7 +526,7 @@ impl<S: Drop> Line<S> {
             return Err(NoMemory);
         }
         let mark = Mark {
-            state: Stored::new(state),
+            state,
             len: 0,
             tags: 0,
             faults: Faults::new(alloc),
@@ -552,12 +551,12 @@ pub(crate) fn next_is_same<A: Machine>(machine: &A, line: &Line<A::State>) -> bo
         return false;
     }
     let (_, next) = line.aside.get(0);
-    machine.same(next.state.get(), line.here.state.get())
+    machine.same(&next.state, &line.here.state)
 }
 
 /// Whether a mark is saved behind a token: no text run is pending, and as many tags lie since the last mark as elements are open,
 /// and 16 at the least.
-pub(crate) fn is_due<A: Machine>(machine: &A, state: &Stored<A::State>, tags: usize) -> bool
+pub(crate) fn is_due<A: Machine>(machine: &A, state: &A::State, tags: usize) -> bool
     requires { A.is_state machine.now state.now }
     ensures { result ≡ is_due (A.rules machine.now) (A.means machine.now state.now) tags }
 {
@@ -565,7 +564,6 @@ pub(crate) fn is_due<A: Machine>(machine: &A, state: &Stored<A::State>, tags: us
     if tags < 16 {
         return false;
     }
-    let state = state.get();
     machine.may_mark(state) && machine.depth(state) <= tags
 }
 
@@ -587,7 +585,7 @@ fn save_here<A: Machine>(
     ensures gap { line.new.here.len ≡ line.old.here.len }
     ensures keeps { KeepsMarks (A.means machine.now) (A.rules machine.now) text.now line.old line.new }
 {
-    let state = copied(alloc, machine, &line.here.state)?;
+    let state = machine.copy(alloc, &line.here.state)?;
     line.begin(alloc, state)?;
     Ok(())
 }

@@ -7,7 +7,6 @@ ghost use Rattle.nx_marks.specs.Chain.{is_mark};
 ghost use Rattle.nx_marks.specs.Tags.{tag_of};
 ghost use Rattle.nx_marks.specs.Taking.{longer};
 
-use crate::stored::{Stored, step_stored};
 use nx_base::fault::Faults;
 use nx_base::machine::Machine;
 use nx_base::memory::NoMemory;
@@ -18,9 +17,12 @@ use std::alloc::Global;
 /// tokens from here up to the next one, whose state is the one behind them; otherwise nothing is known of it. The places of the
 /// faults are counted from here. Where it isn't `whole`, `saved` tells whether the state was saved as a mark; the state at which a row
 /// ends was kept without. What is `whole` is a mark.
+///
+/// A mark stands in a node of its own on the heap and is moved with it, but for the one that changes places with the mark at hand
+/// (`Single::swap`).
 #[derive(Drop)]
 pub struct Mark<S> {
-    pub state: Stored<S>,
+    pub state: S,
     pub len: usize,
     pub tags: usize,
     pub faults: Faults,
@@ -53,7 +55,7 @@ fn tags_of(kind: TokenKind) -> usize
 pub(crate) fn lengthen<A: Machine>(
     alloc: Global,
     machine: &mut A,
-    state: &mut Stored<A::State>,
+    state: &mut A::State,
     token: &mut Token,
     mark: &mut Mark<A::State>,
 ) -> Result<usize, NoMemory>
@@ -77,7 +79,7 @@ pub(crate) fn lengthen<A: Machine>(
 {
     // The faults of a segment are counted from its mark.
     token.from = mark.len;
-    step_stored(alloc, machine, state, token, &mut mark.faults)?;
+    machine.step(alloc, state, token, &mut mark.faults)?;
     mark.len += token.bytes.len();
     mark.tags += tags_of(token.kind);
     Ok(mark.tags)

@@ -18,7 +18,6 @@ ghost use Rattle.nx_marks.specs.Walking.{Fits};
 use crate::kept::Kept;
 use crate::line::{Line, begin_here, step};
 use crate::rows::rejoin;
-use crate::stored::{Stored, copied};
 use nx_base::edit::Edit;
 use nx_base::fault::Faults;
 use nx_base::machine::Machine;
@@ -206,7 +205,7 @@ impl<A: Machine> Marks<A> {
         let first = machine.start(alloc)?;
         Ok(Marks {
             alloc,
-            kept: Kept::start(alloc, Stored::new(first)),
+            kept: Kept::start(alloc, first),
             taken: 0,
             token: Token {
                 kind: TokenKind::Text,
@@ -403,7 +402,7 @@ impl<A: Machine> Marks<A> {
             → IsMarkBefore (A.is_state machine.now) (A.means machine.now) (A.rules machine.now) text at self.now.kept found.0 found.1) }
     {
         let (place, mark) = self.kept.mark_before(at);
-        let state = copied(self.alloc, machine, &mark.state)?;
+        let state = machine.copy(self.alloc, &mark.state)?;
         Ok((place, state))
     }
 

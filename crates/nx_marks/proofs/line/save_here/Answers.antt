@@ -9,8 +9,8 @@ use Rattle.nx_marks.specs.Keeping.{KeepsMarks}
 use Rattle.nx_marks.proofs.Keeping.{keeps_all, keeps_begun}
 use Rattle.nx_marks.proofs.line.save_here.Goals as goal
 
-pub copied-requires : goal.copied-requires
-copied-requires g c =
+pub copy-requires : goal.copy-requires
+copy-requires g c =
     let m = g.A.Machine in
     let a = c.args.machine.now in
     let P : Kept _ → Type 0 = λ k. m.is_state a k.here.state in

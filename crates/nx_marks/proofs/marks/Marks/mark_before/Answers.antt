@@ -1,8 +1,8 @@
 use Rattle.nx_marks.proofs.Marking.{led_there, mark_before_right}
 use Rattle.nx_marks.proofs.marks.Marks.mark_before.Goals as goal
 
-pub copied-requires : goal.copied-requires
-copied-requires g c =
+pub copy-requires : goal.copy-requires
+copy-requires g c =
     let m = g.A.Machine in
     let a = c.args.machine.now in
     (led_there (m.is_state a) (m.means a) (m.rules a) (g.met.A.Machine.rule_laws a) c.requires.text c.args.at c.mark_before-place.result.0 c.args.self.now.kept c.mark_before-place.result.1.now c.requires.right c.mark_before-place.ensures).own
