@@ -1,6 +1,7 @@
 -- What is at hand, while answers are put.
 use Rattle.std.proofs.Common.{◌≡◌, ◌⊎◌, ◌<◌, inl, inr, ⊎_elim, ℕ, zero, suc, List, [], ◌∷◌, ◌++◌, length, refl, sym, ap, ◌∙◌, subst, arith, Option, Some, None, Bool, true, false, not, cond, IfSome, slice_index_or, slice_set}
 use Rattle.std.specs.Map.{lookup}
+use Rattle.std.specs.Option.{option_eq}
 use Rattle.std.specs.Prelude.{eqb, ◌&&◌}
 use Rattle.std.proofs.lemmas.Bool.{and_parts, false≢true}
 use Rattle.std.proofs.lemmas.Bool.Decides.{Decides-eqb}
@@ -229,6 +230,33 @@ noted_anew before after old new call answer named updates rows none right = reco
   rows = rows_apart before after old new call answer named updates rows right;
   slots = λ other kept held is. let P : List Slot → Type 0 = λ ss. SlotHolds ss other kept in absurd (no_slot other kept (subst P none held));
 }
+
+same_answer : (a b : Option ℕ) → option_eq eqb a b ≡ true → a ≡ b
+same_answer None None same = refl
+same_answer None (Some n) same = absurd (false≢true same)
+same_answer (Some m) None same = absurd (false≢true same)
+same_answer (Some m) (Some n) same = ap (λ x. Some x) ((Decides-eqb m n).0 same)
+
+-- and where the same was noted before
+pub noted_again : (before after : List (Asked × Option ℕ)) (hand : AtHand) (call : Asked) (was answer : Option ℕ)
+    → Some was ≡ lookup (same_asked call) before → option_eq eqb was answer ≡ true
+    → ((other : Asked) → lookup (same_asked other) after ≡ cond (same_asked call other) (Some answer) (lookup (same_asked other) before))
+    → AreNoted before hand → AreNoted after hand
+noted_again before after hand call was answer is same updates right = record {
+  rows = λ other plain. stays other ∙ right.rows other plain;
+  slots = λ other kept held named. stays other ∙ right.slots other kept held named;
+}
+  where
+    stays_by : (other : Asked) (b : Bool) → same_asked call other ≡ b → lookup (same_asked other) after ≡ lookup (same_asked other) before
+    stays_by other true here =
+        let P : Asked → Type 0 = λ c. Some was ≡ lookup (same_asked c) before in
+        updates other
+        ∙ (ap (λ b. cond b (Some answer) (lookup (same_asked other) before)) here
+        ∙ (ap (λ x. Some x) (sym (same_answer was answer same)) ∙ subst P ((calls_decided call other).0 here) is))
+    stays_by other false apart = updates other ∙ ap (λ b. cond b (Some answer) (lookup (same_asked other) before)) apart
+
+    stays : (other : Asked) → lookup (same_asked other) after ≡ lookup (same_asked other) before
+    stays other = stays_by other (same_asked call other) refl
 
 -- where nothing was noted and nothing is at hand
 pub none_noted : (answers : List (Asked × Option ℕ)) (hand : AtHand) → answers ≡ [] → hand.rows.items ≡ [] → hand.slots.items ≡ [] → AreNoted answers hand

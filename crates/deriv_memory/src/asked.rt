@@ -9,13 +9,13 @@ ghost use Rattle.deriv_memory.specs.Calls.{form_of, state_of, ns_of, local_of, s
 use std::hash::{Hash, Hasher};
 
 /// The number of the form `Enter`.
-pub const ENTER: u8 = 0;
+pub(crate) const ENTER: u8 = 0;
 
 /// The number of the form `BlankValue`.
-pub const BLANK_VALUE: u8 = 5;
+pub(crate) const BLANK_VALUE: u8 = 5;
 
 /// The number of the form `SolidValue`.
-pub const SOLID_VALUE: u8 = 6;
+pub(crate) const SOLID_VALUE: u8 = 6;
 
 /// A call on a state, by the state's number. A name is two numbers: that of its namespace and that of its local part. Strings stand
 /// here by whether they are blank alone: such a call is noted where all strings of its kind have one answer.
@@ -38,8 +38,8 @@ pub enum Asked {
 }
 
 impl Asked {
-    /// A number for each form.
-    pub fn form(&self) -> u8
+    /// A number for each form. Only those that slots compare have names.
+    pub(crate) fn form(&self) -> u8
         ensures { result ≡ form_of self.now }
     {
         match self {
@@ -69,7 +69,7 @@ impl Asked {
     }
 
     /// Whether there is a name.
-    pub fn has_name(&self) -> bool
+    pub(crate) fn has_name(&self) -> bool
         ensures { result ≡ is_named self.now }
     {
         match self {
@@ -81,7 +81,7 @@ impl Asked {
     }
 
     /// The number of the name's namespace; 0 where there is no name.
-    pub fn ns(&self) -> usize
+    pub(crate) fn ns(&self) -> usize
         ensures { result ≡ ns_of self.now }
     {
         match self {
@@ -93,7 +93,7 @@ impl Asked {
     }
 
     /// The number of the name's local part; 0 where there is no name.
-    pub fn local(&self) -> usize
+    pub(crate) fn local(&self) -> usize
         ensures { result ≡ local_of self.now }
     {
         match self {

@@ -4,7 +4,7 @@
 //! needed. Calls with names share one table: a call and its answer stand where its state and name lead, unless another call came first,
 //! and one that isn't there is looked for by its hash. The memory's invariant says both.
 
-ghost use Rattle.std.specs.Prelude.{◌≡◌, ◌<◌, ℕ, [], length, Option, Some, false, IfSome, OnOk, slice_index_or};
+ghost use Rattle.std.specs.Prelude.{◌≡◌, ◌<◌, ◌≤◌, ℕ, [], length, Option, Some, false, IfSome, IfNone, OnOk, slice_index_or};
 ghost use Rattle.deriv_memory.specs.declared.asked.Asked.{Asked as TheAsked};
 ghost use Rattle.deriv_memory.specs.declared.asked.Asked.TheVariants as calls;
 ghost use Rattle.deriv_memory.specs.AtHand.{said, HoldOneMore, ReadAlike, SayOneMore, SlotHolds, free_row, free_slot, is_named, is_slot, row_says, row_with, slot_of};
@@ -24,11 +24,14 @@ const STRIDE: usize = 10_007;
 /// Where nothing is at hand.
 const NOTHING: u32 = 0;
 
-/// That there is no state behind a call. The state of number `n` is written as `n + 2`.
+/// That there is no state behind a call.
 const NO_STATE: u32 = 1;
 
-/// From this number on no state can be written.
-const MOST: usize = u32::MAX as usize - 1;
+/// How state 0 is written. Each next state is written as the next number.
+const FIRST_STATE: u32 = 2;
+
+/// How many states can be written.
+const STATES: usize = (u32::MAX - FIRST_STATE) as usize + 1;
 
 /// The answers of one state's calls that have no name.
 #[derive(Clone, Copy)]
@@ -39,7 +42,8 @@ struct Row {
     solid: u32,
 }
 
-/// A call with a name, and its answer.
+/// A call with a name, and its answer. Sixteen bytes, so four in a cache line. For that a namespace's number has 16 bits; calls with a
+/// higher one are looked up by hash.
 #[derive(Clone, Copy)]
 struct Slot {
     state: u32,
@@ -72,22 +76,19 @@ const FREE_SLOT: Slot = Slot {
 };
 
 // Another number for a name, so that its blank values and its other ones have a slot each.
+#[inline(always)]
 fn beside(local: usize) -> usize {
     local ^ (SLOTS / 2)
 }
 
 // Where the answer of a call with a name stands. Two may have one place.
 #[inline(always)]
-fn dealt(state: usize, local: usize) -> usize {
-    (state.wrapping_mul(STRIDE) ^ local) % SLOTS
-}
-
-// The place of a call.
-fn place_of(call: &Asked) -> usize {
-    match call {
-        Asked::BlankValue(state, _, local) => dealt(*state, beside(*local)),
-        _ => dealt(call.state(), call.local()),
-    }
+fn place(form: u8, state: usize, local: usize) -> usize {
+    let name = match form {
+        BLANK_VALUE => beside(local),
+        _ => local,
+    };
+    (state.wrapping_mul(STRIDE) ^ name) % SLOTS
 }
 
 // What a number says of a call's answer.
@@ -98,18 +99,19 @@ fn read(number: u32) -> Option<Option<usize>>
     match number {
         NOTHING => None,
         NO_STATE => Some(None),
-        _ => Some(Some(number as usize - 2)),
+        _ => Some(Some((number - FIRST_STATE) as usize)),
     }
 }
 
-/// The number that says this answer; none where the state's number is too large.
+/// The number that says this answer; none where the state's number is 2^32 - 2 or more.
 pub fn written(answer: Option<usize>) -> Option<u32>
-    ensures { IfSome result (λ number. said number ≡ Some answer) }
+    ensures some { IfSome result (λ number. said number ≡ Some answer) }
+    ensures none { IfNone result ((n : ℕ) × (answer ≡ Some n) × (4294967294 ≤ n)) }
 {
     match answer {
         Some(state) => {
-            if state < MOST {
-                Some((state + 2) as u32)
+            if state < STATES {
+                Some(state as u32 + FIRST_STATE)
             } else {
                 None
             }
@@ -210,20 +212,13 @@ impl AtHand {
         }
     }
 
-    // The answer of the call with these numbers, if it is at this place.
+    // The answer of the call with these numbers, if it is at hand.
     #[inline(always)]
-    fn at(
-        &self,
-        place: usize,
-        form: u8,
-        state: usize,
-        ns: usize,
-        local: usize,
-    ) -> Option<Option<usize>>
+    fn at(&self, form: u8, state: usize, ns: usize, local: usize) -> Option<Option<usize>>
         ensures { (call : TheAsked) → form_of call ≡ form → state_of call ≡ state → ns_of call ≡ ns → local_of call ≡ local
             → IfSome result (SlotHolds self.now.slots.items call) }
     {
-        let slot = self.slot(place);
+        let slot = self.slot(place(form, state, local));
         if slot.is_of(form, state, ns, local) {
             read(slot.answer)
         } else {
@@ -268,7 +263,7 @@ impl AtHand {
     pub fn entered(&self, state: usize, ns: usize, local: usize) -> Option<Option<usize>>
         ensures { IfSome result (SlotHolds self.now.slots.items (calls.Enter state ns local)) }
     {
-        self.at(dealt(state, local), ENTER, state, ns, local)
+        self.at(ENTER, state, ns, local)
     }
 
     /// The answer of an attribute's blank values.
@@ -276,7 +271,7 @@ impl AtHand {
     pub fn blank_value(&self, state: usize, ns: usize, local: usize) -> Option<Option<usize>>
         ensures { IfSome result (SlotHolds self.now.slots.items (calls.BlankValue state ns local)) }
     {
-        self.at(dealt(state, beside(local)), BLANK_VALUE, state, ns, local)
+        self.at(BLANK_VALUE, state, ns, local)
     }
 
     /// The answer of an attribute's other values.
@@ -284,7 +279,7 @@ impl AtHand {
     pub fn solid_value(&self, state: usize, ns: usize, local: usize) -> Option<Option<usize>>
         ensures { IfSome result (SlotHolds self.now.slots.items (calls.SolidValue state ns local)) }
     {
-        self.at(dealt(state, local), SOLID_VALUE, state, ns, local)
+        self.at(SOLID_VALUE, state, ns, local)
     }
 
     /// A row for the state.
@@ -301,6 +296,9 @@ impl AtHand {
         ensures rows { ReadAlike free_row self.old.rows.items self.new.rows.items }
         ensures slots { ReadAlike free_slot self.old.slots.items self.new.slots.items }
     {
+        if self.slots.is_empty() {
+            self.slots.reserve(SLOTS)?;
+        }
         lengthen(&mut self.slots, SLOTS - 1, FREE_SLOT)
     }
 
@@ -331,9 +329,10 @@ impl AtHand {
             → HoldOneMore self.old.slots.items self.new.slots.items call.now answer }
     {
         if let Some(slot) = Slot::of(call, number) {
-            if let Some(place) = self.slots.get_mut(place_of(call)) {
-                if place.answer == NOTHING {
-                    *place = slot;
+            let place = place(call.form(), call.state(), call.local());
+            if let Some(kept) = self.slots.get_mut(place) {
+                if kept.answer == NOTHING {
+                    *kept = slot;
                 }
             }
         }

@@ -173,9 +173,9 @@ impl Memory {
         }
     }
 
-    /// The answer that was noted of the start of an element.
+    // The answer that was noted of the start of an element.
     #[inline(always)]
-    pub fn recalled_enter(&self, state: usize, ns: usize, local: usize) -> Option<Option<usize>>
+    fn recalled_enter(&self, state: usize, ns: usize, local: usize) -> Option<Option<usize>>
         ensures { result ≡ noted self.now (calls.Enter state ns local) }
     {
         match self.at_hand.entered(state, ns, local) {
@@ -184,46 +184,41 @@ impl Memory {
         }
     }
 
-    /// The answer that was noted of the end of a start tag.
+    // The answer that was noted of the end of a start tag.
     #[inline(always)]
-    pub fn recalled_tag_end(&self, state: usize) -> Option<Option<usize>>
+    fn recalled_tag_end(&self, state: usize) -> Option<Option<usize>>
         ensures { result ≡ noted self.now (calls.TagEnd state) }
     {
         self.at_hand.tag_end(state)
     }
 
-    /// The answer that was noted of the end of an element.
+    // The answer that was noted of the end of an element.
     #[inline(always)]
-    pub fn recalled_leave(&self, state: usize) -> Option<Option<usize>>
+    fn recalled_leave(&self, state: usize) -> Option<Option<usize>>
         ensures { result ≡ noted self.now (calls.Leave state) }
     {
         self.at_hand.leave(state)
     }
 
-    /// The answer that was noted of blank strings.
+    // The answer that was noted of blank strings.
     #[inline(always)]
-    pub fn recalled_blank(&self, state: usize) -> Option<Option<usize>>
+    fn recalled_blank(&self, state: usize) -> Option<Option<usize>>
         ensures { result ≡ noted self.now (calls.Blank state) }
     {
         self.at_hand.blank(state)
     }
 
-    /// The answer that was noted of other strings.
+    // The answer that was noted of other strings.
     #[inline(always)]
-    pub fn recalled_solid(&self, state: usize) -> Option<Option<usize>>
+    fn recalled_solid(&self, state: usize) -> Option<Option<usize>>
         ensures { result ≡ noted self.now (calls.Solid state) }
     {
         self.at_hand.solid(state)
     }
 
-    /// The answer that was noted of an attribute's blank values.
+    // The answer that was noted of an attribute's blank values.
     #[inline(always)]
-    pub fn recalled_blank_value(
-        &self,
-        state: usize,
-        ns: usize,
-        local: usize,
-    ) -> Option<Option<usize>>
+    fn recalled_blank_value(&self, state: usize, ns: usize, local: usize) -> Option<Option<usize>>
         ensures { result ≡ noted self.now (calls.BlankValue state ns local) }
     {
         match self.at_hand.blank_value(state, ns, local) {
@@ -232,14 +227,9 @@ impl Memory {
         }
     }
 
-    /// The answer that was noted of an attribute's other values.
+    // The answer that was noted of an attribute's other values.
     #[inline(always)]
-    pub fn recalled_solid_value(
-        &self,
-        state: usize,
-        ns: usize,
-        local: usize,
-    ) -> Option<Option<usize>>
+    fn recalled_solid_value(&self, state: usize, ns: usize, local: usize) -> Option<Option<usize>>
         ensures { result ≡ noted self.now (calls.SolidValue state ns local) }
     {
         match self.at_hand.solid_value(state, ns, local) {
@@ -259,7 +249,8 @@ impl Memory {
         }
     }
 
-    /// Notes what a call answers. A state whose number is too large is refused as want of memory.
+    /// Notes what a call answers. A state whose number is 2^32 - 2 or more is refused as want of memory. A second, other note of a call
+    /// with a name empties the slots.
     pub fn note(&mut self, call: Asked, answer: Option<usize>) -> Result<(), NoMemory>
         ensures made { OnOk result (IsNoted self.old self.new call answer) }
         ensures refused { OnErr result (self.new ≡ self.old) }
@@ -287,6 +278,7 @@ impl Memory {
         ensures refused { OnErr result (self.new ≡ self.old) }
     {
         self.at_hand.make_row(call.state())?;
+        // The map has them for the memory's value alone, which is what contracts see.
         self.answers.insert(call, answer)?;
         self.at_hand.put_plain(&call, number);
         Ok(())
@@ -310,9 +302,11 @@ impl Memory {
                 self.at_hand.put_named(&call, number);
                 Ok(())
             }
-            Some(_) => {
+            Some(before) => {
                 // a slot may hold the answer that was noted before
-                self.at_hand.clear_slots();
+                if before != answer {
+                    self.at_hand.clear_slots();
+                }
                 Ok(())
             }
         }

@@ -1,7 +1,8 @@
 use Rattle.std.proofs.Common.{List, Option, ℕ, sym, ◌∙◌, subst}
+use Rattle.std.proofs.lemmas.Bool.{not-false}
 use Rattle.deriv_memory.specs.declared.asked.Asked.{Asked}
 use Rattle.deriv_memory.specs.AtHand.{AreNoted}
-use Rattle.deriv_memory.proofs.Holding.{noted_still, noted_named, noted_anew}
+use Rattle.deriv_memory.proofs.Holding.{noted_still, noted_named, noted_anew, noted_again}
 use Rattle.deriv_memory.proofs.memory.Memory.note_named.Goals as goal
 
 pub invariant_of-self : goal.invariant_of-self
@@ -28,10 +29,19 @@ invariant_of-self-in-None c =
           (c.put_named.ensures.slots c.args.answer c.requires.says) right,
     )
 
-pub invariant_of-self-in-Some : goal.invariant_of-self-in-Some
-invariant_of-self-in-Some c =
+pub invariant_of-self-then-ne : goal.invariant_of-self-then-ne
+invariant_of-self-then-ne c =
     let right = noted_still c.self.inside.answers.entries c.self.inside.at_hand c.make_slots.new.self c.make_slots.ensures.rows c.make_slots.ensures.slots c.self.invariant.1 in (
       c.self.invariant.0,
       noted_anew c.self.inside.answers.entries c.insert.new.self.entries c.make_slots.new.self c.clear_slots.new.self c.args.call c.args.answer
           c.requires.named c.in_ok-insert.ensures.updates.0 c.clear_slots.ensures.rows c.clear_slots.ensures.slots right,
+    )
+
+pub invariant_of-self-else-ne : goal.invariant_of-self-else-ne
+invariant_of-self-else-ne c =
+    let right = noted_still c.self.inside.answers.entries c.self.inside.at_hand c.make_slots.new.self c.make_slots.ensures.rows c.make_slots.ensures.slots c.self.invariant.1 in
+    let same = not-false _ (sym c.ne.ensures ∙ c.if-ne.false) in (
+      c.self.invariant.0,
+      noted_again c.self.inside.answers.entries c.insert.new.self.entries c.make_slots.new.self c.args.call c.in-Some.before c.args.answer
+          (sym c.in-Some.is ∙ c.in_ok-insert.ensures.old) same c.in_ok-insert.ensures.updates.0 right,
     )
