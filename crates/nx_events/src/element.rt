@@ -11,7 +11,7 @@ ghost use Rattle.nx_events.specs.SeenNames.{AreKept, new_of};
 ghost use Rattle.nx_events.specs.PlainTokens.{unprefixed_name};
 
 use crate::flaw::{Flaw, Resolved};
-use crate::item::{Event, Item, Items};
+use crate::item::{Event, Item, Items, LONGEST_SPARE};
 use crate::namespace::{is_declaration, push_flaw};
 use crate::qname::{parted, prefix_of};
 use crate::scope::{Bindings, attribute_uri, default_uri, element_uri};
@@ -56,13 +56,17 @@ fn declared_or_flaw(
     }
 }
 
-// Puts a copy of these bytes in the place of what is there, in its memory.
+// Puts a copy of these bytes in the place of what is there, in its memory, if that isn't too long to be kept.
 #[inline(always)]
-fn refill(alloc: Global, bytes: &mut Bytes, copied: &[u8]) -> Result<(), NoMemory>
-    ensures { OnOk result (bytes.new ≡ copied.now) }
+fn refill(alloc: Global, bytes: &mut Bytes, source: &[u8]) -> Result<(), NoMemory>
+    ensures { OnOk result (bytes.new ≡ source.now) }
 {
-    let memory = mem::replace(bytes, Bytes::new(alloc)).into_vec();
-    *bytes = copy_in(memory, copied)?;
+    let mut memory = mem::replace(bytes, Bytes::new(alloc)).into_vec();
+    // So after one very long name no such memory stays.
+    if LONGEST_SPARE < memory.capacity() {
+        memory = Vec::new(alloc);
+    }
+    *bytes = copy_in(memory, source)?;
     Ok(())
 }
 

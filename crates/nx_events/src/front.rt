@@ -130,7 +130,7 @@ pub(crate) fn byte_place(bytes: &[u8], byte: u8) -> usize
     ensures value { result ≡ position_or_len (λ b. b == byte) bytes.now }
     ensures bound { result ≤ length bytes.now }
 {
-    // So are most values.
+    // What is looked for mostly stands near: most values and prefixes are short.
     if bytes.len() >= 8 {
         let first = first_byte::<8>(bytes, byte);
         if first < 8 {

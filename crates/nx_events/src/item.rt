@@ -39,7 +39,7 @@ pub enum Item {
 const MOST_SPARE: usize = 64;
 
 /// How long a name or a value may be, in bytes, whose memory is kept.
-const LONGEST_SPARE: usize = 4096;
+pub(crate) const LONGEST_SPARE: usize = 4096;
 
 /// A list of items, and memory of what was among them, in which the next ones are put. To a contract it is the list.
 #[derive(Drop)]
@@ -215,8 +215,8 @@ impl Items {
         self.items = items;
     }
 
-    /// Keeps the memory of a name's local part; the name is over.
-    pub fn keep_name(&mut self, name: Name)
+    // Keeps the memory of a name's local part; the name is over.
+    fn keep_name(&mut self, name: Name)
         ensures { self.new ≡ self.old }
     {
         self.keep_bytes(name.local);

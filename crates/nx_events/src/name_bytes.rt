@@ -36,6 +36,14 @@ impl Model for NameBytes {
     ghost view = { λ name. bytes_of name.held };
 }
 
+// A copy of many bytes. Few names have so many, so this stays out of the way of the others.
+#[inline(never)]
+fn held_long(alloc: Global, bytes: &[u8]) -> Result<Held, NoMemory>
+    ensures { IfOk result (λ held. bytes_of held ≡ bytes.now) }
+{
+    Ok(Held::Heap(Vec::from_slice(alloc, bytes)?))
+}
+
 // A copy of these bytes, where they have room.
 fn copy_held(alloc: Global, bytes: &[u8]) -> Result<Held, NoMemory>
     ensures { IfOk result (λ held. bytes_of held ≡ bytes.now) }
@@ -45,7 +53,7 @@ fn copy_held(alloc: Global, bytes: &[u8]) -> Result<Held, NoMemory>
         short.fill(bytes);
         return Ok(Held::Here(short));
     }
-    Ok(Held::Heap(Vec::from_slice(alloc, bytes)?))
+    held_long(alloc, bytes)
 }
 
 impl NameBytes {
@@ -100,17 +108,6 @@ impl NameBytes {
     }
 }
 
-// A copy of many bytes. Few names have so many, so this stays out of the way of the others.
-#[inline(never)]
-fn copied_long(alloc: Global, bytes: &[u8]) -> Result<NameBytes, NoMemory>
-    ensures { IfOk result (λ name. name ≡ bytes.now) }
-{
-    Ok(NameBytes {
-        alloc,
-        held: Held::Heap(Vec::from_slice(alloc, bytes)?),
-    })
-}
-
 impl TryCopy for NameBytes {
     // States are copied by the ten thousand, and their names are most of them.
     #[inline(always)]
@@ -120,7 +117,10 @@ impl TryCopy for NameBytes {
                 alloc: self.alloc,
                 held: Held::Here(short.duplicate()),
             }),
-            Held::Heap(memory) => copied_long(self.alloc, memory.as_slice()),
+            Held::Heap(memory) => Ok(NameBytes {
+                alloc: self.alloc,
+                held: held_long(self.alloc, memory.as_slice())?,
+            }),
         }
     }
 }

@@ -50,7 +50,7 @@ fn is_plain_or(also: u8, b: u8) -> bool
     is_plain(b) || b == also
 }
 
-// Whether all bytes do so or are this one, byte by byte.
+// Whether all bytes stand for themselves or are this one, byte by byte.
 fn are_few_plain_or(also: u8, bytes: &[u8]) -> bool
     ensures { OnTrue result (AllBetween (is_plain_or also) bytes.now 0 (length bytes.now)) }
 {
@@ -62,7 +62,7 @@ fn are_few_plain_or(also: u8, bytes: &[u8]) -> bool
     true
 }
 
-// Whether sixteen bytes or more do so or are this one. Those of the last load may be of the one before it too.
+// Whether sixteen bytes or more stand for themselves or are this one. Those of the last load may be of the one before it too.
 #[inline(always)]
 fn are_many_plain_or(also: u8, bytes: &[u8]) -> bool
     requires { 16 ≤ length bytes.now }

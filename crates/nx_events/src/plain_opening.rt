@@ -1,7 +1,6 @@
 //! Start tags with one or two attributes of which one look tells what they give: names are plain, but that an attribute's may have the
-//! prefix `xml`; `=` and the quote stand right behind a name, nothing is declared, no name comes twice, and each byte stands for itself.
-//! In a book most start tags that aren't a name alone are such. A schema can be asked of their attributes as they lie, and no list of
-//! them is made.
+//! prefix `xml`; nothing is declared, no name comes twice, and each byte stands for itself. In a book most start tags that aren't a name
+//! alone are such. A schema can be asked of their attributes as they lie, and no list of them is made.
 
 ghost use Rattle.std.specs.Prelude.{◌≡◌, ◌<◌, ◌∷◌, [], ℕ, true, false, length, IfOk, IfSome};
 ghost use Rattle.std.specs.List.{prefix_len};
@@ -10,9 +9,9 @@ ghost use Rattle.nx_events.specs.ByteClasses.{AllBetween, goes_on_name, IsBefore
 ghost use Rattle.nx_events.specs.Elements.{has_name};
 ghost use Rattle.nx_events.specs.Plain.{is_plain};
 ghost use Rattle.nx_events.specs.PlainAttributes.{namespace_if, attribute_name, listed, IsPlainOpening, IsNameOf, IsFront, AreReadAs};
-ghost use Rattle.nx_events.specs.Tags.{attributes_from};
+ghost use Rattle.nx_events.specs.Tags.{attributes_from, written_name};
 
-use crate::front::{is_between, name_end};
+use crate::front::{is_between, is_space, name_end};
 use crate::item::Items;
 use crate::namespace::is_declaration;
 use crate::plain::are_plain;
@@ -21,7 +20,7 @@ use crate::reading::Reading;
 use crate::scope::XML_URI;
 use crate::stage::is_behind;
 use crate::state::EventState;
-use crate::tag::{are_between, attribute_extent, copy_in};
+use crate::tag::{are_between, attribute_extent, copy_in, written_name};
 use nx_base::memory::NoMemory;
 use nx_base::name::Name;
 use nx_base::sequence::Bytes;
@@ -89,15 +88,28 @@ fn named<'t>(name: &'t [u8], value: &'t [u8]) -> Option<PlainAttribute<'t>>
     })
 }
 
-// What stands before the `=` in front of a quote, where nothing stands between those.
+// What stands before the `=` in front of a quote, where no white space stands around it.
 fn name_before(spelled: &[u8], quote: usize) -> Option<&[u8]>
     requires { quote < length spelled.now }
     ensures { IfSome result (λ name. IsBeforeSign spelled.now name.now) }
 {
-    if quote == 0 || spelled[quote - 1] != b'=' {
+    if quote < 2 || spelled[quote - 1] != b'=' || is_space(spelled[quote - 2]) {
         return None;
     }
     Some(&spelled[..quote - 1])
+}
+
+// The name in front of an attribute's quote, where each byte of this goes on a name.
+fn name_in_front(spelled: &[u8], quote: usize) -> &[u8]
+    requires { quote < length spelled.now }
+    ensures { AllBetween goes_on_name result.now 0 (length result.now) → result.now ≡ written_name spelled.now }
+{
+    match name_before(spelled, quote) {
+        // No byte of a plain name ends one, so it needn't be looked through for its end.
+        Some(name) => name,
+        // White space may stand around the `=`.
+        None => written_name(spelled),
+    }
 }
 
 // The attribute behind one byte that may stand between.
@@ -111,9 +123,7 @@ fn attribute_behind(bytes: &[u8]) -> Option<Front<'_>>
     let extent = attribute_extent(spelled)?;
     let from = extent.quote + 1;
     let to = from + extent.value;
-    // no byte of a plain name ends one, so it needn't be looked through for its end
-    let name = name_before(spelled, extent.quote)?;
-    let attribute = named(name, &spelled[from..to])?;
+    let attribute = named(name_in_front(spelled, extent.quote), &spelled[from..to])?;
     Some(Front {
         attribute,
         rest: &spelled[to + 1..],

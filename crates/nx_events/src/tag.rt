@@ -226,7 +226,7 @@ fn are_same_lanes<const N: usize>(a: &[u8], b: &[u8], at: usize) -> bool
     lanes::are_same::<N>(a, b, at) & lanes::are_high::<N>(a, at)
 }
 
-// Whether the two are the same such bytes, where two loads tell that, as of most names.
+// Whether the two are the same bytes, all behind `>` in ASCII, where two loads tell that, as of most names.
 #[inline(always)]
 fn are_same_high(a: &[u8], b: &[u8]) -> bool
     requires { length a.now ≡ length b.now }
@@ -251,11 +251,11 @@ fn are_same_name(a: &[u8], b: &[u8]) -> bool
     if a.len() != b.len() {
         return false;
     }
-    are_same_high(a, b) || are_same_few(a, b)
+    are_same_high(a, b) || are_same_by_bytes(a, b)
 }
 
 // Whether the two are the same bytes, none of which ends a name, byte by byte.
-fn are_same_few(a: &[u8], b: &[u8]) -> bool
+fn are_same_by_bytes(a: &[u8], b: &[u8]) -> bool
     requires { length a.now ≡ length b.now }
     ensures { OnTrue result (IsSameName a.now b.now 0 (length a.now)) }
 {
