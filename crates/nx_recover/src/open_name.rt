@@ -42,19 +42,9 @@ fn copied_namespace(alloc: Global, ns: &Bytes) -> Result<Bytes, NoMemory>
 }
 
 impl OpenName {
-    /// This name.
-    #[inline(always)]
-    pub(crate) fn of(alloc: Global, name: &Name) -> Result<OpenName, NoMemory>
-        ensures { IfOk result (λ copied. copied ≡ name.now) }
-    {
-        Ok(OpenName {
-            alloc,
-            ns: copied_namespace(alloc, &name.ns)?,
-            local: NameBytes::of(alloc, name.local.as_slice())?,
-        })
-    }
-
     /// This name. Its namespace is taken out of it, and the memory of its local part stays there.
+    // Each start tag that is admitted asks for one.
+    #[inline(always)]
     pub(crate) fn take(alloc: Global, name: &mut Name) -> Result<OpenName, NoMemory>
         ensures { IfOk result (λ taken. taken ≡ name.old) }
     {

@@ -52,7 +52,8 @@ fn behind_attribute<M: Matcher>(
     Ok(behind)
 }
 
-// Behind the second attribute of a tag, if there is one, and the end of the tag.
+// Behind the second attribute of a tag, if there is one, and the end of the tag. Few tags have a second one: out of line, this stays out
+// of the frame of the others.
 #[inline(never)]
 fn behind_second<M: Matcher>(
     alloc: Global,
@@ -81,7 +82,8 @@ fn behind_second<M: Matcher>(
     }
 }
 
-// Behind the attributes of a tag, if there are some, and the end of the tag.
+// Behind the attributes of a tag, if there are some, and the end of the tag. Inlined, so that where it is known that there are none, only the
+// end of the tag is left.
 #[inline(always)]
 fn behind_attributes<M: Matcher>(
     alloc: Global,
@@ -110,7 +112,7 @@ fn behind_attributes<M: Matcher>(
     }
 }
 
-// Behind the start of an element and the end of its tag.
+// Behind the start of an element and the end of its tag. Inlined for the sake of `behind_attributes`.
 #[inline(always)]
 fn inside_of<M: Matcher>(
     alloc: Global,
@@ -136,7 +138,8 @@ fn inside_of<M: Matcher>(
     }
 }
 
-// Behind the run in front of a start tag, if there is one, the start of its element and the end of the tag.
+// Behind the run in front of a start tag, if there is one, the start of its element and the end of the tag. Inlined for the sake of
+// `behind_attributes`.
 #[inline(always)]
 fn behind_start<M: Matcher>(
     alloc: Global,
@@ -227,7 +230,7 @@ fn take_start<M: Matcher>(
     let Some(inside) = admitted else {
         return Ok(false);
     };
-    let kept = OpenName::of(alloc, name)?;
+    let kept = OpenName::take(alloc, name)?;
     state.levels.elements.reserve(1)?;
     begin_element(&mut state.events, written)?;
     state.levels.elements.push_reserved(Open::In(kept));

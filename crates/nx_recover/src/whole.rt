@@ -156,7 +156,8 @@ fn copy_each<M: Matcher>(
     let mut copied = Vec::with_capacity(alloc, elements.len())?;
     for element in elements {
         let element = copy_open(alloc, matcher, element)?;
-        // There is room: with a word of it, what is copied is moved once.
+        // There is room from the start; `reserve` tells the checker so, and `push_reserved` moves the element once, where `push` hands it back
+        // on a refusal.
         copied.reserve(1)?;
         copied.push_reserved(element);
     }
