@@ -7,7 +7,8 @@
 ghost use Rattle.std.specs.Prelude.{◌≡◌, ◌<◌, ◌≤◌, ℕ, [], length, Option, Some, false, IfSome, IfNone, OnOk, slice_index_or};
 ghost use Rattle.deriv_memory.specs.declared.asked.Asked.{Asked as TheAsked};
 ghost use Rattle.deriv_memory.specs.declared.asked.Asked.TheVariants as calls;
-ghost use Rattle.deriv_memory.specs.AtHand.{said, HoldOneMore, ReadAlike, SayOneMore, SlotHolds, free_row, free_slot, is_named, is_slot, row_says, row_with, slot_of};
+ghost use Rattle.deriv_memory.specs.AtHand.{said, HoldOneMore, ReadAlike, SayOneMore, SlotHolds};
+ghost use Rattle.deriv_memory.specs.AtHand.{free_row, free_slot, is_named, is_slot, row_says, row_with, slot_of};
 ghost use Rattle.deriv_memory.specs.Calls.{form_of, state_of, ns_of, local_of};
 
 use crate::asked::{Asked, BLANK_VALUE, ENTER, SOLID_VALUE};

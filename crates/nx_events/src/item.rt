@@ -1,6 +1,7 @@
 //! Events and faults, in the order in which they arise.
 
-ghost use Rattle.std.specs.Prelude.{◌≡◌, ◌<◌, ◌≤◌, [], ◌∷◌, ◌++◌, ◌==◌, true, length, take, drop, insert, slice_get, option_copied, vec_len, vec_capacity, IfOk, OnOk, OnErr};
+ghost use Rattle.std.specs.Prelude.{◌≡◌, ◌<◌, ◌≤◌, [], ◌∷◌, ◌++◌, ◌==◌, true, length, take, drop, insert, slice_get, option_copied};
+ghost use Rattle.std.specs.Prelude.{vec_len, vec_capacity, IfOk, OnOk, OnErr};
 
 use crate::tag::copy_in;
 use nx_base::fault::{Fault, Span};

@@ -40,15 +40,15 @@ fn had<F: Files>(files: &mut F, alloc: Global, uri: &str) -> &'static str {
     }
 }
 
-pub fn finds<F: Files>(files: &mut F, alloc: Global, uri: &str, wanted: &str) -> bool {
+pub(crate) fn finds<F: Files>(files: &mut F, alloc: Global, uri: &str, wanted: &str) -> bool {
     found(files, alloc, uri) == wanted
 }
 
-pub fn stores<F: Files>(files: &mut F, alloc: Global, uri: &str, wanted: &str) -> bool {
+pub(crate) fn stores<F: Files>(files: &mut F, alloc: Global, uri: &str, wanted: &str) -> bool {
     stored(files, alloc, uri) == wanted
 }
 
-pub fn has<F: Files>(files: &mut F, alloc: Global, uri: &str, wanted: &str) -> bool {
+pub(crate) fn has<F: Files>(files: &mut F, alloc: Global, uri: &str, wanted: &str) -> bool {
     had(files, alloc, uri) == wanted
 }
 

@@ -7,7 +7,8 @@ use Rattle.std.specs.List.{prefix_len}
 use Rattle.std.proofs.lemmas.Bool.{false≢true, agree_below, agree_below_at, eq-eqb, ne_eqb, cases_lt, lt-ltb, le-ltb, lt-leb, le-leb}
 use Rattle.std.proofs.Common.{leb, ltb, bit_or, inl, inr}
 use Rattle.nx_base.specs.Characters.{is_name_start, is_name_char}
-use Rattle.nx_scan.specs.Tag.{is_letter, is_name_byte, is_value_byte}
+use Rattle.std.specs.Char.{is_ascii_alphabetic}
+use Rattle.nx_scan.specs.Tag.{is_name_byte, is_value_byte}
 use Rattle.std.proofs.lemmas.Simd.{mask_l-mod, length-chunk, chunk-drop, chunk-fits, first_set_mask_l, zip2-map}
 use Rattle.std.proofs.lemmas.List.{length-map, get_or-take}
 use Rattle.std.proofs.lemmas.List.Folds.{prefix_len-append}
@@ -104,20 +105,20 @@ implied : (p q : Bool) → (not p || q) ≡ true → p ≡ true → q ≡ true
 implied true q e h = e
 implied false q e h = absurd (false≢true h)
 
-letters_agree : agree_below (λ b. not (is_letter b) || is_name_byte b) (λ _. true) 256 ≡ true
+letters_agree : agree_below (λ b. not (is_ascii_alphabetic b) || is_name_byte b) (λ _. true) 256 ≡ true
 unfolding is_name_char is_name_start
 letters_agree = refl
 
-letter-in_name : (b : ℕ) → b < 256 → is_letter b ≡ true → is_name_byte b ≡ true
+letter-in_name : (b : ℕ) → b < 256 → is_ascii_alphabetic b ≡ true → is_name_byte b ≡ true
 letter-in_name b low =
-    implied (is_letter b) (is_name_byte b) (agree_below_at (λ x. not (is_letter x) || is_name_byte x) (λ _. true) 256 b letters_agree low)
+    implied (is_ascii_alphabetic b) (is_name_byte b) (agree_below_at (λ x. not (is_ascii_alphabetic x) || is_name_byte x) (λ _. true) 256 b letters_agree low)
 
-pub letters-in_name : (d : List ℕ) (r : ℕ) → ((k : ℕ) → Fits w8 (get_or d k 0)) → r ≡ prefix_len is_letter (take 16 d) → r < 16 →
+pub letters-in_name : (d : List ℕ) (r : ℕ) → ((k : ℕ) → Fits w8 (get_or d k 0)) → r ≡ prefix_len is_ascii_alphabetic (take 16 d) → r < 16 →
     (k : ℕ) → k < r → is_name_byte (get_or d k 0) ≡ true
 letters-in_name d r fits run short k less =
     letter-in_name (get_or d k 0) (fits k).fits
-    (ap is_letter (sym (get_or-take 16 d k 0 (omega (arith, less, short))))
-    ∙ prefix_len_passes is_letter (take 16 d) k 0 (omega (arith, run, less)))
+    (ap is_ascii_alphabetic (sym (get_or-take 16 d k 0 (omega (arith, less, short))))
+    ∙ prefix_len_passes is_ascii_alphabetic (take 16 d) k 0 (omega (arith, run, less)))
 
 pub run-in_name : (d : List ℕ) (r : ℕ) → r ≡ prefix_len is_name_byte d → (k : ℕ) → k < r → is_name_byte (get_or d k 0) ≡ true
 run-in_name d r run k less = prefix_len_passes is_name_byte d k 0 (omega (arith, run, less))

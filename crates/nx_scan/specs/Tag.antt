@@ -1,5 +1,5 @@
 -- What may still follow a part of a tag.
-use Rattle.std.specs.Prelude.{◌≡◌, ℕ, ◌+◌, ◌-◌, ◌<◌, ◌≤◌, nat_lt, nat_le, Bool, true, false, not, ◌&&◌, ◌||◌, ◌==◌, ◌⊎◌, List, length, slice_index, drop}
+use Rattle.std.specs.Prelude.{◌≡◌, ℕ, ◌+◌, ◌-◌, ◌<◌, ◌≤◌, nat_lt, Bool, true, false, not, ◌&&◌, ◌==◌, ◌⊎◌, List, length, slice_index, drop}
 use Rattle.nx_base.specs.Characters.{is_quote, is_name_start, is_name_char}
 use Rattle.nx_base.specs.Form.{Form, name_char, only, one, seq, alt, many, never, nothing, after, may_end}
 use Rattle.nx_base.specs.Tags.{name_form, spaces, quoted_rest, attribute_value, attribute_rest, attribute, tag_rest}
@@ -76,10 +76,6 @@ pub record Stays (read : TagState) (byte : ℕ) : Type 0 where
 -- a character of one byte of a name, and of a value in such quotes
 abbrev pub is_name_byte : ℕ → Bool
 is_name_byte byte = nat_lt byte 128 && is_name_char byte
-
--- a letter of one byte
-abbrev pub is_letter : ℕ → Bool
-is_letter byte = (nat_le 65 byte && nat_le byte 90) || (nat_le 97 byte && nat_le byte 122)
 
 -- a name of such characters from an index on, which `>` closes at another
 pub record IsClosedName (bytes : List ℕ) (from close : ℕ) : Type 0 where

@@ -3,7 +3,8 @@
 ghost use Rattle.std.specs.Prelude.{◌≡◌, ◌≤◌, ◌==◌, if◌then◌else◌, length, take};
 ghost use Rattle.std.specs.List.{prefix_len};
 ghost use Rattle.std.specs.Int.{w64, trailing_zeros};
-ghost use Rattle.nx_scan.specs.Tag.{is_letter, is_name_byte, is_value_byte};
+ghost use Rattle.std.specs.Char.{is_ascii_alphabetic};
+ghost use Rattle.nx_scan.specs.Tag.{is_name_byte, is_value_byte};
 
 use std::simd::prelude::*;
 
@@ -43,7 +44,7 @@ pub(crate) fn name_run(bytes: &[u8]) -> usize
 #[inline(always)]
 pub(crate) fn letter_run(bytes: &[u8]) -> usize
     requires { 16 ≤ length bytes.now }
-    ensures { result ≡ prefix_len is_letter (take 16 bytes.now) }
+    ensures { result ≡ prefix_len is_ascii_alphabetic (take 16 bytes.now) }
 {
     let lanes = u8x16::from_slice(bytes);
     let stops = ((lanes | u8x16::splat(0x20)) - u8x16::splat(b'a')).simd_ge(u8x16::splat(26));

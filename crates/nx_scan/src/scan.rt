@@ -5,8 +5,8 @@ ghost use Rattle.std.specs.Bool.{OnTrue};
 ghost use Rattle.std.specs.Str.{IsUtf8};
 ghost use Rattle.nx_base.specs.Characters.{is_space};
 ghost use Rattle.nx_base.specs.Text.{IsPlace};
-ghost use Rattle.nx_base.specs.Tokens.{CutAt, cut, cut_as, bytes_up_to, begins_with, begins_declaration, order_mark, first_token, markup, instruction};
-ghost use Rattle.nx_base.specs.Tokens.{doctype, closed, unclosed, bad_rest, tag, tags, end_of};
+ghost use Rattle.nx_base.specs.Tokens.{CutAt, cut, cut_as, bytes_up_to, begins_with, begins_declaration, order_mark, first_token};
+ghost use Rattle.nx_base.specs.Tokens.{markup, instruction, doctype, closed, unclosed, bad_rest, tag, tags, end_of};
 ghost use Rattle.nx_text.specs.Reading.{StandFrom};
 ghost use Rattle.nx_scan.specs.Ending.{EndsAt};
 

@@ -179,7 +179,7 @@ const LONG: [Row; 3] = [
         (Start, "<aNameOfMoreThanSixteenLetters>"),
         (
             CHARS,
-            "a text of more bytes than are looked at by sixteen at once, so that the others are looked for in another way, up to its end, which is here",
+            "a text of more bytes than are looked at by sixteen at once, so that the others are looked for in another way, up to its last: here",
         ),
         (End, "</aNameOfMoreThanSixteenLetters>"),
     ],
