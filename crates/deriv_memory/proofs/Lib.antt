@@ -1,3 +1,4 @@
 pub mod Holding
 pub mod Texts
+pub mod Ends
 pub mod Laws

@@ -9,3 +9,4 @@ pub mod asked;
 mod at_hand;
 mod guesses;
 pub mod memory;
+mod text;

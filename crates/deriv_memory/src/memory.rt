@@ -1,6 +1,6 @@
 //! Texts and answers that are kept.
 
-ghost use Rattle.std.specs.Prelude.{◌≡◌, ◌↔◌, ℕ, [], Some, None, Ok, Option, IfOk, IfSome, IfNone, OnOk, OnErr, IsTrue, true, false};
+ghost use Rattle.std.specs.Prelude.{◌≡◌, ℕ, [], Some, None, Ok, Option, IfOk, IfSome, IfNone, OnOk, OnErr, IsTrue, true, false};
 ghost use Rattle.deriv_memory.specs.declared.asked.Asked.{Asked as TheAsked};
 ghost use Rattle.deriv_memory.specs.declared.asked.Asked.TheVariants as calls;
 ghost use Rattle.deriv_memory.specs.AtHand.{is_named, said};
@@ -9,27 +9,12 @@ ghost use Rattle.deriv_memory.specs.Remembered.{noted, IsText, IsName, AreOnce, 
 use crate::asked::Asked;
 use crate::at_hand::{AtHand, written};
 use crate::guesses::Guesses;
+use crate::text::same_text;
 use indexmap::{IndexMap, IndexSet};
-use nx_base::equal::{EqualAll, same_each};
 use nx_base::memory::NoMemory;
 use nx_base::name::Name;
 use std::alloc::Global;
 use std::marker::Model;
-
-/// Up to this length, in bytes, texts are compared one byte after the other.
-const SHORT: usize = 16;
-
-// Whether two texts are equal. Most names are so short that a call, and what it must set up, takes longer than their bytes.
-#[inline(always)]
-fn same_text(a: &[u8], b: &[u8]) -> bool
-    ensures { IsTrue result ↔ (a.now ≡ b.now) }
-{
-    if a.len() <= SHORT {
-        same_each(a, b)
-    } else {
-        u8::all_equal(a, b)
-    }
-}
 
 /// The parts of names, each once, and what calls answered. Nothing is taken out.
 #[derive(Drop)]
