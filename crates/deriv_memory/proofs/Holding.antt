@@ -1,5 +1,5 @@
 -- What is at hand, while answers are put.
-use Rattle.std.proofs.Common.{◌≡◌, ◌⊎◌, ◌<◌, inl, inr, ⊎_elim, ℕ, zero, suc, List, [], ◌∷◌, ◌++◌, length, refl, sym, ap, ◌∙◌, subst, arith, Option, Some, None, Bool, true, false, not, cond, IfSome, slice_index_or, slice_set}
+use Rattle.std.proofs.Common.{◌≡◌, ◌⊎◌, ◌<◌, inl, inr, ⊎_elim, ℕ, zero, suc, List, [], ◌∷◌, ◌++◌, length, refl, sym, ap, ◌∙◌, subst, arith, Option, Some, None, Bool, true, false, not, cond, IfSome, replicate, slice_get, slice_index_or, slice_set}
 use Rattle.std.specs.Map.{lookup}
 use Rattle.std.specs.Option.{option_eq}
 use Rattle.std.specs.Prelude.{eqb, ◌&&◌}
@@ -10,8 +10,10 @@ use Rattle.deriv_memory.specs.declared.asked.Asked.TheVariants as calls
 use Rattle.deriv_memory.specs.declared.at_hand.AtHand.{AtHand}
 use Rattle.deriv_memory.specs.declared.at_hand.Row.{Row}
 use Rattle.deriv_memory.specs.declared.at_hand.Slot.{Slot}
+use Rattle.deriv_memory.specs.declared.block.Block.{Block}
 use Rattle.deriv_memory.specs.Calls.{form_of, state_of, ns_of, local_of, same_asked, by_parts, calls_decided}
-use Rattle.deriv_memory.specs.AtHand.{said, free_row, free_slot, is_named, number_in, row_with, row_says, slot_of, is_slot, SlotHolds, HoldOneMore, SayOneMore, AreNoted, ReadAlike}
+use Rattle.deriv_memory.specs.AtHand.{said, free_row, free_slot, free_block, is_named, is_block, is_slot, number_for, number_in, row_with, row_says, slot_of}
+use Rattle.deriv_memory.specs.AtHand.{AreNoted, BlockHolds, BlockSays, HoldNoMore, HoldOneMore, HoldThisMore, IsFree, ReadAlike, SayOneMore, SayThisMore, SlotHolds}
 
 -- ---- lists with free places
 
@@ -134,15 +136,104 @@ slot_says hand place form state ns local slot (Some answer) is same says call f 
     λ i. record { state = of_state i; local = of_local i; answer = slot.answer; ns = of_ns i; form = of_form i } in
     record { place = place; number = slot.answer; here = sym is ∙ whole; says = sym says }
 
+-- ---- blocks
+
+-- a place that is there has its item
+got : {A : Type 0} (xs : List A) (i : ℕ) (x free : A) → slice_get xs i ≡ Some x → slice_index_or xs i free ≡ x
+got [] i x free e = cc
+got (y ∷ ys) zero x free e = cc
+got (y ∷ ys) (suc i) x free e = got ys i x free e
+
+-- where one item is put last, it is at one place, and each other is what it was
+pushed_read : {A : Type 0} (xs : List A) (y free : A) (i : ℕ)
+    → (slice_index_or (xs ++ y ∷ []) i free ≡ y) ⊎ (slice_index_or (xs ++ y ∷ []) i free ≡ slice_index_or xs i free)
+pushed_read [] y free zero = inl refl
+pushed_read [] y free (suc i) = inr refl
+pushed_read (x ∷ xs) y free zero = inr refl
+pushed_read (x ∷ xs) y free (suc i) = pushed_read xs y free i
+
+pub free_numbers : (n local free : ℕ) → slice_index_or (replicate n free) local free ≡ free
+free_numbers zero local free = refl
+free_numbers (suc n) zero free = refl
+free_numbers (suc n) (suc local) free = free_numbers n local free
+
+-- a block in which nothing stands holds nothing more
+pub block_pushed : (blocks : List Block) (block : Block) → IsFree block → HoldNoMore blocks (blocks ++ block ∷ [])
+block_pushed blocks block free = λ other kept held.
+    let P : Block → Type 0 = λ b. BlockSays b other kept in
+    ⊎_elim
+    (λ here.
+    let says : BlockSays block other kept = subst P here held.here in
+    let two : None ≡ Some kept = sym (ap said (free (local_of other))) ∙ says.says in cc)
+    (λ before. record { place = held.place; here = subst P before held.here })
+    (pushed_read blocks block free_block held.place)
+
+owner_is : (block : Block) (s n : ℕ) → is_block block s n ≡ true → (block.state ≡ s) × (block.ns ≡ n)
+owner_is block s n owner =
+    let parts = and_parts (eqb block.state s) (eqb block.ns n) owner in
+    ((Decides-eqb block.state s).0 parts.0, (Decides-eqb block.ns n).0 parts.1)
+
+-- a block in which one number is put, of a call that is its own
+pub number_put : (block new : Block) (call : Asked) (n : ℕ) → form_of call ≡ 0 → is_block block (state_of call) (ns_of call) ≡ true
+    → new ≡ (record { state = block.state; ns = block.ns; answers = slice_set block.answers (local_of call) n })
+    → (answer : Option ℕ) → said n ≡ Some answer → SayThisMore block new call answer
+number_put block new call n enters owner is answer told = λ other kept held.
+    let P : Block → Type 0 = λ b. BlockSays b other kept in
+    let says = subst P is held in
+    let own = owner_is block (state_of call) (ns_of call) owner in
+    let its = owner_is block (state_of other) (ns_of other) says.owner in
+    ⊎_elim
+    (λ here. inl (
+      by_parts other call (says.enters ∙ sym enters) (sym its.0 ∙ own.0) (sym its.1 ∙ own.1) here.0,
+      let two : Some kept ≡ Some answer = sym says.says ∙ (ap said here.1 ∙ told) in cc,
+    ))
+    (λ same. inr (record { enters = says.enters; owner = says.owner; says = sym (ap said same) ∙ says.says }))
+    (set_read block.answers (local_of call) (local_of other) n 0)
+
+-- and blocks of which that is one
+pub block_put : (blocks : List Block) (i : ℕ) (block after : Block) (call : Asked) (answer : Option ℕ) → slice_get blocks i ≡ Some block
+    → SayThisMore block after call answer → HoldThisMore blocks (slice_set blocks i after) call answer
+block_put blocks i block after call answer there more = λ other kept held.
+    let P : Block → Type 0 = λ b. BlockSays b other kept in
+    ⊎_elim
+    (λ here. ⊎_elim (λ one. inl one)
+    (λ before. inr (record { place = i; here = subst P (sym (got blocks i block free_block there)) before }))
+    (more other kept (subst P here.1 held.here)))
+    (λ same. inr (record { place = held.place; here = subst P same held.here }))
+    (set_read blocks i held.place after free_block)
+
+-- the block of the call with these numbers says its answer
+pub block_says : (blocks : List Block) (i : ℕ) (block : Block) (state ns local : ℕ) (r : Option (Option ℕ)) → slice_get blocks i ≡ Some block
+    → is_block block state ns ≡ true → r ≡ said (number_for block local) → IfSome r (BlockHolds blocks (calls.Enter state ns local))
+block_says blocks i block state ns local None there owner says = tt
+block_says blocks i block state ns local (Some answer) there owner says =
+    let P : Block → Type 0 = λ b. BlockSays b (calls.Enter state ns local) answer in
+    record { place = i; here = subst P (sym (got blocks i block free_block there)) (record { enters = refl; owner = owner; says = sym says }) }
+
+-- ---- one after the other
+
+pub alike_slots : (old new : List Slot) (call : Asked) (answer : Option ℕ) → ReadAlike free_slot old new → HoldOneMore old new call answer
+alike_slots old new call answer alike = λ other kept held.
+    inr (record { place = held.place; number = held.number; here = sym (alike held.place) ∙ held.here; says = held.says })
+
+pub then_one_more : (old mid new : List Slot) (call : Asked) (answer : Option ℕ) → ReadAlike free_slot old mid → HoldOneMore mid new call answer
+    → HoldOneMore old new call answer
+then_one_more old mid new call answer alike more = λ other kept held. ⊎_elim (λ one. inl one) (λ was. alike_slots old mid call answer alike other kept was) (more other kept held)
+
+pub then_no_more : (old mid new : List Block) (call : Asked) (answer : Option ℕ) → HoldThisMore old mid call answer → HoldNoMore mid new
+    → HoldThisMore old new call answer
+then_no_more old mid new call answer more none = λ other kept held. more other kept (none other kept held)
+
 -- ---- what is at hand was noted
 
 -- where lists read alike
 pub noted_still : (answers : List (Asked × Option ℕ)) (old new : AtHand) → ReadAlike free_row old.rows.items new.rows.items
-    → ReadAlike free_slot old.slots.items new.slots.items → AreNoted answers old → AreNoted answers new
-noted_still answers old new rows slots right = record {
+    → ReadAlike free_slot old.slots.items new.slots.items → HoldNoMore old.blocks.items new.blocks.items → AreNoted answers old → AreNoted answers new
+noted_still answers old new rows slots blocks right = record {
   rows = λ call plain. right.rows call plain ∙ sym (ap (λ r. said (number_in r call)) (rows (state_of call)));
   slots = λ call answer held named.
       right.slots call answer (record { place = held.place; number = held.number; here = sym (slots held.place) ∙ held.here; says = held.says }) named;
+  blocks = λ call answer held named. right.blocks call answer (blocks call answer held) named;
 }
 
 -- a call with a name is none without
@@ -168,8 +259,8 @@ pub noted_plain : (before after : List (Asked × Option ℕ)) (old new : AtHand)
     → said n ≡ Some answer
     → ((other : Asked) → lookup (same_asked other) after ≡ cond (same_asked call other) (Some answer) (lookup (same_asked other) before))
     → SayOneMore old.rows.items new.rows.items call n → ReadAlike free_slot old.slots.items new.slots.items
-    → AreNoted before old → AreNoted after new
-noted_plain before after old new call answer n plain says updates rows slots right = record {
+    → HoldNoMore old.blocks.items new.blocks.items → AreNoted before old → AreNoted after new
+noted_plain before after old new call answer n plain says updates rows slots blocks right = record {
   rows = λ other is.
       updates other
       ∙ (ap (λ x. cond (same_asked call other) (Some answer) x) (right.rows other is)
@@ -177,6 +268,8 @@ noted_plain before after old new call answer n plain says updates rows slots rig
   slots = λ other kept held named.
       kept_apart before after call answer false plain updates other named
       ∙ right.slots other kept (record { place = held.place; number = held.number; here = sym (slots held.place) ∙ held.here; says = held.says }) named;
+  blocks = λ other kept held named.
+      kept_apart before after call answer false plain updates other named ∙ right.blocks other kept (blocks other kept held) named;
 }
 
 rows_apart : (before after : List (Asked × Option ℕ)) (old new : AtHand) (call : Asked) (answer : Option ℕ) → is_named call ≡ true
@@ -200,21 +293,32 @@ stays_noted before after call answer none updates other kept is = by (same_asked
         let two : None ≡ Some kept = subst P one none ∙ is in cc
     by false apart = updates other ∙ (ap (λ b. cond b (Some answer) (lookup (same_asked other) before)) apart ∙ is)
 
--- when one is noted of a call with a name, of which nothing was noted before, and put in a slot
+-- and what is noted of it is this answer
+one_or_noted : (before after : List (Asked × Option ℕ)) (call : Asked) (answer : Option ℕ)
+    → ((other : Asked) → lookup (same_asked other) after ≡ cond (same_asked call other) (Some answer) (lookup (same_asked other) before))
+    → lookup (same_asked call) after ≡ Some answer → None ≡ lookup (same_asked call) before
+    → (other : Asked) (kept : Option ℕ) → ((other ≡ call) × (kept ≡ answer)) ⊎ (lookup (same_asked other) before ≡ Some kept)
+    → lookup (same_asked other) after ≡ Some kept
+one_or_noted before after call answer updates here none other kept (inl one) =
+    let P : Asked → Type 0 = λ c. lookup (same_asked c) after ≡ Some kept in
+    let Q : Option ℕ → Type 0 = λ a. lookup (same_asked call) after ≡ Some a in
+    subst P (sym one.0) (subst Q (sym one.1) here)
+one_or_noted before after call answer updates here none other kept (inr was) = stays_noted before after call answer none updates other kept was
+
+-- when one is noted of a call with a name, of which nothing was noted before, and put in a block or a slot
 pub noted_named : (before after : List (Asked × Option ℕ)) (old new : AtHand) (call : Asked) (answer : Option ℕ) → is_named call ≡ true
     → ((other : Asked) → lookup (same_asked other) after ≡ cond (same_asked call other) (Some answer) (lookup (same_asked other) before))
     → lookup (same_asked call) after ≡ Some answer → None ≡ lookup (same_asked call) before
     → ReadAlike free_row old.rows.items new.rows.items → HoldOneMore old.slots.items new.slots.items call answer
-    → AreNoted before old → AreNoted after new
-noted_named before after old new call answer named updates here none rows slots right = record {
+    → HoldThisMore old.blocks.items new.blocks.items call answer → AreNoted before old → AreNoted after new
+noted_named before after old new call answer named updates here none rows slots blocks right = record {
   rows = rows_apart before after old new call answer named updates rows right;
-  slots = λ other kept held is. ⊎_elim
-      (λ one.
-      let P : Asked → Type 0 = λ c. lookup (same_asked c) after ≡ Some kept in
-      let Q : Option ℕ → Type 0 = λ a. lookup (same_asked call) after ≡ Some a in
-      subst P (sym one.0) (subst Q (sym one.1) here))
-      (λ was. stays_noted before after call answer none updates other kept (right.slots other kept was is))
-      (slots other kept held);
+  slots = λ other kept held is.
+      one_or_noted before after call answer updates here none other kept
+      (⊎_elim (λ one. inl one) (λ was. inr (right.slots other kept was is)) (slots other kept held));
+  blocks = λ other kept held is.
+      one_or_noted before after call answer updates here none other kept
+      (⊎_elim (λ one. inl one) (λ was. inr (right.blocks other kept was is)) (blocks other kept held));
 }
 
 no_slot : (call : Asked) (answer : Option ℕ) → SlotHolds [] call answer → ⊥
@@ -222,13 +326,17 @@ no_slot call answer held =
     let n : 0 ≡ held.number = ap (λ (s : Slot). s.answer) held.here in
     let two : None ≡ Some answer = ap said n ∙ held.says in cc
 
--- and where another was noted before, and no slot holds anything
+no_block : (call : Asked) (answer : Option ℕ) → BlockHolds [] call answer → ⊥
+no_block call answer held = let two : None ≡ Some answer = held.here.says in cc
+
+-- and where another was noted before, and nothing is in a block or a slot
 pub noted_anew : (before after : List (Asked × Option ℕ)) (old new : AtHand) (call : Asked) (answer : Option ℕ) → is_named call ≡ true
     → ((other : Asked) → lookup (same_asked other) after ≡ cond (same_asked call other) (Some answer) (lookup (same_asked other) before))
-    → ReadAlike free_row old.rows.items new.rows.items → new.slots.items ≡ [] → AreNoted before old → AreNoted after new
-noted_anew before after old new call answer named updates rows none right = record {
+    → ReadAlike free_row old.rows.items new.rows.items → new.slots.items ≡ [] → new.blocks.items ≡ [] → AreNoted before old → AreNoted after new
+noted_anew before after old new call answer named updates rows none empty right = record {
   rows = rows_apart before after old new call answer named updates rows right;
   slots = λ other kept held is. let P : List Slot → Type 0 = λ ss. SlotHolds ss other kept in absurd (no_slot other kept (subst P none held));
+  blocks = λ other kept held is. let P : List Block → Type 0 = λ bs. BlockHolds bs other kept in absurd (no_block other kept (subst P empty held));
 }
 
 same_answer : (a b : Option ℕ) → option_eq eqb a b ≡ true → a ≡ b
@@ -245,6 +353,7 @@ pub noted_again : (before after : List (Asked × Option ℕ)) (hand : AtHand) (c
 noted_again before after hand call was answer is same updates right = record {
   rows = λ other plain. stays other ∙ right.rows other plain;
   slots = λ other kept held named. stays other ∙ right.slots other kept held named;
+  blocks = λ other kept held named. stays other ∙ right.blocks other kept held named;
 }
   where
     stays_by : (other : Asked) (b : Bool) → same_asked call other ≡ b → lookup (same_asked other) after ≡ lookup (same_asked other) before
@@ -259,10 +368,12 @@ noted_again before after hand call was answer is same updates right = record {
     stays other = stays_by other (same_asked call other) refl
 
 -- where nothing was noted and nothing is at hand
-pub none_noted : (answers : List (Asked × Option ℕ)) (hand : AtHand) → answers ≡ [] → hand.rows.items ≡ [] → hand.slots.items ≡ [] → AreNoted answers hand
-none_noted answers hand none rows slots = record {
+pub none_noted : (answers : List (Asked × Option ℕ)) (hand : AtHand) → answers ≡ [] → hand.rows.items ≡ [] → hand.slots.items ≡ [] → hand.blocks.items ≡ []
+    → AreNoted answers hand
+none_noted answers hand none rows slots blocks = record {
   rows = λ call plain. ap (λ l. lookup (same_asked call) l) none ∙ (nothing call ∙ sym (ap (λ rs. row_says rs call) rows));
   slots = λ call answer held named. let P : List Slot → Type 0 = λ ss. SlotHolds ss call answer in absurd (no_slot call answer (subst P slots held));
+  blocks = λ call answer held named. let P : List Block → Type 0 = λ bs. BlockHolds bs call answer in absurd (no_block call answer (subst P blocks held));
 }
   where
     nothing : (call : Asked) → None ≡ row_says [] call

@@ -1,9 +1,10 @@
 -- What follows of a memory for those who keep one.
-use Rattle.std.proofs.Common.{◌≡◌, ℕ, List, refl, sym, ◌∙◌, subst, arith, Option, Some, None, Bool, true, false, ◌⊎◌, inl, inr}
+use Rattle.std.proofs.Common.{◌≡◌, ℕ, zero, suc, ◌<◌, List, [], ◌∷◌, ◌++◌, length, length-append, refl, sym, ap, ◌∙◌, subst, arith, slice_index_or, Option, Some, None, Bool, true, false, ◌⊎◌, inl, inr}
 use Rattle.nx_base.specs.declared.name.Name.{Name}
 use Rattle.deriv_memory.specs.declared.asked.Asked.{Asked}
 use Rattle.deriv_memory.specs.Calls.{same_asked, calls_decided}
-use Rattle.deriv_memory.specs.Remembered.{Remembered, noted, IsText, IsName, AreOnce, TextsGrow, LaterMemory, IsNoted}
+use Rattle.deriv_memory.specs.Remembered.{Remembered, noted, IsText, IsName, IsAtMostOneMore, AreOnce, TextsGrow, LaterMemory, IsNoted}
+use Rattle.std.specs.Map.{lookup}
 use Rattle.std.proofs.lemmas.Bool.{true≢false}
 
 -- ---- later memories
@@ -20,6 +21,25 @@ later_chain a b c first second = record {
     stays = λ i here. second.texts.stays i (omega (arith, here, first.texts.grows)) ∙ first.texts.stays i here;
   };
   answers = λ call answer is. second.answers call answer (first.answers call answer is);
+}
+
+read_before : (texts : List (List ℕ)) (text : List ℕ) (i : ℕ) → i < length texts
+    → slice_index_or (texts ++ text ∷ []) i [] ≡ slice_index_or texts i []
+read_before [] text i here = absurd (omega (arith, here))
+read_before (t ∷ ts) text zero here = refl
+read_before (t ∷ ts) text (suc i) here = read_before ts text i (omega (arith, here))
+
+one_more : (old new : List (List ℕ)) (text : List ℕ) → IsAtMostOneMore old new text → TextsGrow old new
+one_more old new text (inl same) = let P : List (List ℕ) → Type 0 = λ ts. TextsGrow old ts in
+    subst P (sym same) (record { grows = omega arith; stays = λ i here. refl })
+one_more old new text (inr more) = let P : List (List ℕ) → Type 0 = λ ts. TextsGrow old ts in
+    subst P (sym more) (record { grows = omega (arith, length-append old (text ∷ [])); stays = λ i here. read_before old text i here })
+
+-- where one text is put last at most
+pub later_by_text : (old new : Remembered) (text : List ℕ) → IsAtMostOneMore old.texts new.texts text → new.answers ≡ old.answers → LaterMemory old new
+later_by_text old new text more same = record {
+  texts = one_more old.texts new.texts text more;
+  answers = λ call answer is. ap (λ l. lookup (same_asked call) l) same ∙ is;
 }
 
 -- a text has its number later

@@ -1,12 +1,14 @@
 -- Keys that hold texts, read as texts.
-use Rattle.std.proofs.Common.{◌≡◌, ◌↔◌, ℕ, zero, suc, ◌+◌, ◌<◌, ◌≤◌, List, [], ◌∷◌, length, map, refl, sym, ap, ◌∙◌, arith, Option, Some, None, slice_get, slice_index_or, get_or, Bool, true, false, not, cond, nat_eq, nat_lt, IfSome, IfNone, IsTrue, true≢false}
+use Rattle.std.proofs.Common.{◌≡◌, ◌↔◌, ℕ, zero, suc, ◌+◌, ◌<◌, ◌≤◌, List, [], ◌∷◌, ◌++◌, inl, inr, length, map, refl, sym, ap, ◌∙◌, arith, Option, Some, None, slice_get, slice_index_or, get_or, Bool, true, false, not, cond, nat_eq, nat_lt, IfSome, IfNone, IsTrue, true≢false}
 use Rattle.std.specs.Cmp.Lexicographic.{pointwise, bytes_decides}
 use Rattle.std.specs.List.{IsDistinct, AllByRecursion, position, position_or_len}
 use Rattle.std.proofs.lemmas.Grind.{common_steps}
+use Rattle.std.proofs.lemmas.List.{map-append}
 use Rattle.std.proofs.lemmas.List.Quantifiers.{position-Some}
 use Rattle.std.proofs.lemmas.List.Sums.{prefix_len_passes}
 use Rattle.std.proofs.lemmas.Map.Keys.{IsDistinct-head, IsDistinct-tail}
-use Rattle.deriv_memory.specs.Remembered.{IsText}
+use Rattle.std.specs.Prelude.{if◌then◌else◌}
+use Rattle.deriv_memory.specs.Remembered.{IsText, IsAtMostOneMore}
 
 module _ {K : Type 0} (f : K → List ℕ) where
   as_many : (ks : List K) → length (map f ks) ≡ length ks
@@ -44,6 +46,12 @@ module _ {K : Type 0} (f : K → List ℕ) where
   stored [] n k e = cc
   stored (x ∷ ks) zero k e = (omega arith, let is : x ≡ k = cc in ap f is)
   stored (x ∷ ks) (suc n) k e = let behind = stored ks n k e in (omega (arith, behind.0), behind.1)
+
+  -- the texts of keys of which one was put last, or was there
+  pub texts_after : (ks after : List K) (k : K) (text : List ℕ) (there : Bool) → f k ≡ text → after ≡ (if there then ks else ks ++ k ∷ [])
+      → IsAtMostOneMore (map f ks) (map f after) text
+  texts_after ks after k text true is e = inl (ap (map f) e)
+  texts_after ks after k text false is e = inr (ap (map f) e ∙ (map-append f ks (k ∷ []) ∙ ap (λ t. map f ks ++ t ∷ []) is))
 
   -- the text of the key of a number
   pub text_stored : (ks : List K) (n : ℕ) (k : K) (text own : List ℕ) → own ≡ text → slice_get ks n ≡ Some k

@@ -1,10 +1,11 @@
--- Answers that are found without a hash: which of them stand in rows by states, and in slots of calls with names.
-use Rattle.std.specs.Prelude.{◌≡◌, ◌⊎◌, ℕ, zero, suc, Bool, true, false, cond, ◌&&◌, eqb, List, Option, None, Some, slice_index_or}
+-- Answers that are found without a hash: which of them stand in rows by states, in blocks by states and names, and in slots.
+use Rattle.std.specs.Prelude.{◌≡◌, ◌⊎◌, ℕ, zero, suc, Bool, true, false, cond, ◌&&◌, eqb, List, [], Option, None, Some, slice_index_or}
 use Rattle.deriv_memory.specs.declared.asked.Asked.{Asked}
 use Rattle.deriv_memory.specs.declared.asked.Asked.TheVariants as calls
 use Rattle.deriv_memory.specs.declared.at_hand.AtHand.{AtHand}
 use Rattle.deriv_memory.specs.declared.at_hand.Row.{Row}
 use Rattle.deriv_memory.specs.declared.at_hand.Slot.{Slot}
+use Rattle.deriv_memory.specs.declared.block.Block.{Block}
 use Rattle.std.specs.Map.{lookup}
 use Rattle.deriv_memory.specs.Calls.{form_of, state_of, ns_of, local_of, same_asked}
 
@@ -53,6 +54,34 @@ slot_of call n = record { state = state_of call; local = local_of call; answer =
 abbrev pub is_slot : Slot → ℕ → ℕ → ℕ → ℕ → Bool
 is_slot slot form state ns local = ((eqb slot.state state && eqb slot.local local) && eqb slot.ns ns) && eqb slot.form form
 
+-- ---- blocks of the starts of elements in a state
+
+abbrev pub free_block : Block
+free_block = record { state = 0; ns = 0; answers = [] }
+
+-- whether a block is of the state, for this namespace
+abbrev pub is_block : Block → ℕ → ℕ → Bool
+is_block block state ns = eqb block.state state && eqb block.ns ns
+
+-- what a block has of a local part
+abbrev pub number_for : Block → ℕ → ℕ
+number_for block local = slice_index_or block.answers local 0
+
+-- nothing stands in a block
+abbrev pub IsFree : Block → Type 0
+IsFree block = (local : ℕ) → number_for block local ≡ 0
+
+-- a block is of the call, the start of an element, and says this answer
+pub record BlockSays (block : Block) (call : Asked) (answer : Option ℕ) : Type 0 where
+  pub enters : form_of call ≡ 0
+  pub owner : is_block block (state_of call) (ns_of call) ≡ true
+  pub says : said (number_for block (local_of call)) ≡ Some answer
+
+-- what a block says it said before, or it is this answer of this call
+abbrev pub SayThisMore : Block → Block → Asked → Option ℕ → Type 0
+SayThisMore old new call answer =
+    (other : Asked) (kept : Option ℕ) → BlockSays new other kept → ((other ≡ call) × (kept ≡ answer)) ⊎ BlockSays old other kept
+
 -- ---- what is at hand
 
 -- what the row of the call's state says of it
@@ -71,6 +100,20 @@ abbrev pub HoldOneMore : List Slot → List Slot → Asked → Option ℕ → Ty
 HoldOneMore old new call answer =
     (other : Asked) (kept : Option ℕ) → SlotHolds new other kept → ((other ≡ call) × (kept ≡ answer)) ⊎ SlotHolds old other kept
 
+-- some block says this answer of the call
+pub record BlockHolds (blocks : List Block) (call : Asked) (answer : Option ℕ) : Type 0 where
+  pub place : ℕ
+  pub here : BlockSays (slice_index_or blocks place free_block) call answer
+
+-- what blocks hold was there before
+abbrev pub HoldNoMore : List Block → List Block → Type 0
+HoldNoMore old new = (other : Asked) (kept : Option ℕ) → BlockHolds new other kept → BlockHolds old other kept
+
+-- what blocks hold was there before, or it is this answer of this call
+abbrev pub HoldThisMore : List Block → List Block → Asked → Option ℕ → Type 0
+HoldThisMore old new call answer =
+    (other : Asked) (kept : Option ℕ) → BlockHolds new other kept → ((other ≡ call) × (kept ≡ answer)) ⊎ BlockHolds old other kept
+
 -- the row of this call says another number of it, and of each other call it says what it said
 abbrev pub SayOneMore : List Row → List Row → Asked → ℕ → Type 0
 SayOneMore old new call number = (other : Asked) → row_says new other ≡ cond (same_asked call other) (said number) (row_says old other)
@@ -81,8 +124,10 @@ ReadAlike {A} free old new = (i : ℕ) → slice_index_or new i free ≡ slice_i
 
 -- ---- answers that are noted
 
--- rows say all that was noted of calls without a name, and what slots hold of others was noted
+-- rows say all that was noted of calls without a name, and what blocks and slots hold of others was noted
 pub record AreNoted (answers : List (Asked × Option ℕ)) (hand : AtHand) : Type 0 where
   pub rows : (call : Asked) → is_named call ≡ false → lookup (same_asked call) answers ≡ row_says hand.rows.items call
   pub slots : (call : Asked) (answer : Option ℕ) → SlotHolds hand.slots.items call answer → is_named call ≡ true
+      → lookup (same_asked call) answers ≡ Some answer
+  pub blocks : (call : Asked) (answer : Option ℕ) → BlockHolds hand.blocks.items call answer → is_named call ≡ true
       → lookup (same_asked call) answers ≡ Some answer

@@ -1,22 +1,30 @@
 //! Answers that are found without a hash.
 //!
 //! States are numbers from 0, so a list by states has the answers of calls without a name: all that were noted, so that no other look is
-//! needed. Calls with names share one table: a call and its answer stand where its state and name lead, unless another call came first,
-//! and one that isn't there is looked for by its hash. The memory's invariant says both.
+//! needed. Of the starts of elements many in a row are asked of one state, and their names are mostly of one namespace: so a state in
+//! which an element starts has a block, where answers stand by the numbers of local parts. Other calls with names share one table: a
+//! call and its answer stand where its state and name lead, unless another call came first, and one that is in neither is looked for by
+//! its hash. The memory's invariant says what rows, blocks and slots tell.
+//!
+//! Where a state's block stands is a guess, as a text's number is: whoever takes the block asks whose it is.
 
 ghost use Rattle.std.specs.Prelude.{◌≡◌, ◌<◌, ◌≤◌, ℕ, [], length, Option, Some, false, IfSome, IfNone, OnOk, slice_index_or};
 ghost use Rattle.deriv_memory.specs.declared.asked.Asked.{Asked as TheAsked};
 ghost use Rattle.deriv_memory.specs.declared.asked.Asked.TheVariants as calls;
-ghost use Rattle.deriv_memory.specs.AtHand.{said, HoldOneMore, ReadAlike, SayOneMore, SlotHolds};
+ghost use Rattle.deriv_memory.specs.AtHand.{said, BlockHolds, HoldNoMore, HoldOneMore, HoldThisMore, ReadAlike, SayOneMore, SlotHolds};
 ghost use Rattle.deriv_memory.specs.AtHand.{free_row, free_slot, is_named, is_slot, row_says, row_with, slot_of};
 ghost use Rattle.deriv_memory.specs.Calls.{form_of, state_of, ns_of, local_of};
 
 use crate::asked::{Asked, BLANK_VALUE, ENTER, SOLID_VALUE};
+use crate::block::Block;
 use nx_base::memory::NoMemory;
 use std::alloc::Global;
 
-/// How many calls with names have a place.
-const SLOTS: usize = 16_384;
+/// How many calls with names have a slot: attributes' values, and starts of elements that have no place in a block, are few.
+const SLOTS: usize = 4_096;
+
+/// How many states have a block. All blocks take 1 MiB at the most.
+const BLOCKS: usize = 2_048;
 
 /// How far the slots of one state are from those of the next. It is odd, so that for one name as many states in a row as there are
 /// slots have a slot each.
@@ -58,6 +66,9 @@ struct Slot {
 #[derive(Drop)]
 pub struct AtHand {
     rows: Vec<Row>,
+    blocks: Vec<Block>,
+    /// Where the block of each state may stand.
+    places: Vec<u16>,
     slots: Vec<Slot>,
 }
 
@@ -94,7 +105,7 @@ fn place(form: u8, state: usize, local: usize) -> usize {
 
 // What a number says of a call's answer.
 #[inline(always)]
-fn read(number: u32) -> Option<Option<usize>>
+pub(crate) fn read(number: u32) -> Option<Option<usize>>
     ensures { result ≡ said number }
 {
     match number {
@@ -184,9 +195,12 @@ impl AtHand {
     pub fn new(alloc: Global) -> AtHand
         ensures rows { result.rows.items ≡ [] }
         ensures slots { result.slots.items ≡ [] }
+        ensures blocks { result.blocks.items ≡ [] }
     {
         AtHand {
             rows: Vec::new(alloc),
+            blocks: Vec::new(alloc),
+            places: Vec::new(alloc),
             slots: Vec::new(alloc),
         }
     }
@@ -213,7 +227,24 @@ impl AtHand {
         }
     }
 
-    // The answer of the call with these numbers, if it is at hand.
+    // Where the block of a state stands, if it has one.
+    #[inline(always)]
+    fn block_place(&self, state: usize) -> usize {
+        match self.places.as_slice().get(state) {
+            Some(place) => *place as usize,
+            None => 0,
+        }
+    }
+
+    // Whether a state has a block.
+    fn has_block(&self, state: usize) -> bool {
+        match self.blocks.as_slice().get(self.block_place(state)) {
+            Some(block) => block.is_of_state(state),
+            None => false,
+        }
+    }
+
+    // The answer of the call with these numbers, if it is in its slot.
     #[inline(always)]
     fn at(&self, form: u8, state: usize, ns: usize, local: usize) -> Option<Option<usize>>
         ensures { (call : TheAsked) → form_of call ≡ form → state_of call ≡ state → ns_of call ≡ ns → local_of call ≡ local
@@ -259,9 +290,25 @@ impl AtHand {
         read(self.row(state).solid)
     }
 
-    /// The answer of the start of an element.
+    /// The answer of the start of an element, if it is in the state's block, as most are.
     #[inline(always)]
-    pub fn entered(&self, state: usize, ns: usize, local: usize) -> Option<Option<usize>>
+    pub fn entered_in_block(&self, state: usize, ns: usize, local: usize) -> Option<Option<usize>>
+        ensures { IfSome result (BlockHolds self.now.blocks.items (calls.Enter state ns local)) }
+    {
+        match self.blocks.as_slice().get(self.block_place(state)) {
+            Some(block) => {
+                if block.is_of(state, ns) {
+                    block.answer(local)
+                } else {
+                    None
+                }
+            }
+            None => None,
+        }
+    }
+
+    /// The answer of the start of an element, if it is in its slot.
+    pub fn entered_in_slot(&self, state: usize, ns: usize, local: usize) -> Option<Option<usize>>
         ensures { IfSome result (SlotHolds self.now.slots.items (calls.Enter state ns local)) }
     {
         self.at(ENTER, state, ns, local)
@@ -287,15 +334,30 @@ impl AtHand {
     pub fn make_row(&mut self, state: usize) -> Result<(), NoMemory>
         ensures rows { ReadAlike free_row self.old.rows.items self.new.rows.items }
         ensures slots { ReadAlike free_slot self.old.slots.items self.new.slots.items }
+        ensures blocks { HoldNoMore self.old.blocks.items self.new.blocks.items }
         ensures room { OnOk result (state < length self.new.rows.items) }
     {
         lengthen(&mut self.rows, state, FREE_ROW)
     }
 
-    /// The slots of calls with names.
-    pub fn make_slots(&mut self) -> Result<(), NoMemory>
+    /// The places of a call with a name: slots, and a block where an element starts in a state that has none.
+    pub fn make_places(&mut self, call: &Asked) -> Result<(), NoMemory>
         ensures rows { ReadAlike free_row self.old.rows.items self.new.rows.items }
         ensures slots { ReadAlike free_slot self.old.slots.items self.new.slots.items }
+        ensures blocks { HoldNoMore self.old.blocks.items self.new.blocks.items }
+    {
+        self.make_slots()?;
+        if call.form() == ENTER && !self.has_block(call.state()) {
+            self.make_block(call.state(), call.ns())?;
+        }
+        Ok(())
+    }
+
+    // The slots of calls with names.
+    fn make_slots(&mut self) -> Result<(), NoMemory>
+        ensures rows { ReadAlike free_row self.old.rows.items self.new.rows.items }
+        ensures slots { ReadAlike free_slot self.old.slots.items self.new.slots.items }
+        ensures blocks { HoldNoMore self.old.blocks.items self.new.blocks.items }
     {
         if self.slots.is_empty() {
             self.slots.reserve(SLOTS)?;
@@ -303,12 +365,35 @@ impl AtHand {
         lengthen(&mut self.slots, SLOTS - 1, FREE_SLOT)
     }
 
-    /// From now on nothing is in a slot.
-    pub fn clear_slots(&mut self)
+    // A block of the state for this namespace, while there is room for one more.
+    fn make_block(&mut self, state: usize, ns: usize) -> Result<(), NoMemory>
+        ensures rows { ReadAlike free_row self.old.rows.items self.new.rows.items }
+        ensures slots { ReadAlike free_slot self.old.slots.items self.new.slots.items }
+        ensures blocks { HoldNoMore self.old.blocks.items self.new.blocks.items }
+    {
+        let place = self.blocks.len();
+        if place >= BLOCKS {
+            return Ok(());
+        }
+        let Some(block) = Block::of(state, ns) else {
+            return Ok(());
+        };
+        lengthen(&mut self.places, state, 0)?;
+        self.blocks.push(block)?;
+        if let Some(own) = self.places.get_mut(state) {
+            *own = place as u16;
+        }
+        Ok(())
+    }
+
+    /// From now on nothing is in a slot or in a block.
+    pub fn clear_named(&mut self)
         ensures rows { ReadAlike free_row self.old.rows.items self.new.rows.items }
         ensures slots { self.new.slots.items ≡ [] }
+        ensures blocks { self.new.blocks.items ≡ [] }
     {
         self.slots.clear();
+        self.blocks.clear();
     }
 
     /// From now on this number is in the row of the call's state.
@@ -317,17 +402,46 @@ impl AtHand {
         requires plain { is_named call.now ≡ false }
         ensures rows { SayOneMore self.old.rows.items self.new.rows.items call.now number }
         ensures slots { ReadAlike free_slot self.old.slots.items self.new.slots.items }
+        ensures blocks { HoldNoMore self.old.blocks.items self.new.blocks.items }
     {
         let state = call.state();
         let row = self.row(state).with(call, number);
         self.rows[state] = row;
     }
 
-    /// From now on this number is in the call's slot, if that is free: names that come often mostly come early.
+    /// From now on this number is in the block of the call's state, or in the call's slot.
     pub fn put_named(&mut self, call: &Asked, number: u32)
         ensures rows { ReadAlike free_row self.old.rows.items self.new.rows.items }
         ensures slots { (answer : Option ℕ) → said number ≡ Some answer
             → HoldOneMore self.old.slots.items self.new.slots.items call.now answer }
+        ensures blocks { (answer : Option ℕ) → said number ≡ Some answer
+            → HoldThisMore self.old.blocks.items self.new.blocks.items call.now answer }
+    {
+        if !self.put_in_block(call, number) {
+            self.put_in_slot(call, number);
+        }
+    }
+
+    // Puts a number in the block of the call's state, if it has a place there. Says whether it has.
+    fn put_in_block(&mut self, call: &Asked, number: u32) -> bool
+        ensures rows { ReadAlike free_row self.old.rows.items self.new.rows.items }
+        ensures slots { ReadAlike free_slot self.old.slots.items self.new.slots.items }
+        ensures blocks { (answer : Option ℕ) → said number ≡ Some answer
+            → HoldThisMore self.old.blocks.items self.new.blocks.items call.now answer }
+    {
+        let place = self.block_place(call.state());
+        match self.blocks.get_mut(place) {
+            Some(block) => block.put(call, number),
+            None => false,
+        }
+    }
+
+    // Puts a number in the call's slot, if that is free: names that come often mostly come early.
+    fn put_in_slot(&mut self, call: &Asked, number: u32)
+        ensures rows { ReadAlike free_row self.old.rows.items self.new.rows.items }
+        ensures slots { (answer : Option ℕ) → said number ≡ Some answer
+            → HoldOneMore self.old.slots.items self.new.slots.items call.now answer }
+        ensures blocks { HoldNoMore self.old.blocks.items self.new.blocks.items }
     {
         if let Some(slot) = Slot::of(call, number) {
             let place = place(call.form(), call.state(), call.local());

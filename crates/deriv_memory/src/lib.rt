@@ -7,6 +7,7 @@
 
 pub mod asked;
 mod at_hand;
+mod block;
 mod guesses;
 pub mod memory;
 mod text;

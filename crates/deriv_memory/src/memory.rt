@@ -163,7 +163,23 @@ impl Memory {
     fn recalled_enter(&self, state: usize, ns: usize, local: usize) -> Option<Option<usize>>
         ensures { result ≡ noted self.now (calls.Enter state ns local) }
     {
-        match self.at_hand.entered(state, ns, local) {
+        match self.at_hand.entered_in_block(state, ns, local) {
+            Some(answer) => Some(answer),
+            None => self.recalled_enter_elsewhere(state, ns, local),
+        }
+    }
+
+    // The same answer where no block has it. Out of line, as it is seldom asked.
+    #[inline(never)]
+    fn recalled_enter_elsewhere(
+        &self,
+        state: usize,
+        ns: usize,
+        local: usize,
+    ) -> Option<Option<usize>>
+        ensures { result ≡ noted self.now (calls.Enter state ns local) }
+    {
+        match self.at_hand.entered_in_slot(state, ns, local) {
             Some(answer) => Some(answer),
             None => self.searched(&Asked::Enter(state, ns, local)),
         }
@@ -235,7 +251,7 @@ impl Memory {
     }
 
     /// Notes what a call answers. A state whose number is 2^32 - 2 or more is refused as want of memory. A second, other note of a call
-    /// with a name empties the slots.
+    /// with a name empties blocks and slots.
     pub fn note(&mut self, call: Asked, answer: Option<usize>) -> Result<(), NoMemory>
         ensures made { OnOk result (IsNoted self.old self.new call answer) }
         ensures refused { OnErr result (self.new ≡ self.old) }
@@ -281,16 +297,16 @@ impl Memory {
         ensures made { OnOk result (IsNoted self.old self.new call answer) }
         ensures refused { OnErr result (self.new ≡ self.old) }
     {
-        self.at_hand.make_slots()?;
+        self.at_hand.make_places(&call)?;
         match self.answers.insert(call, answer)? {
             None => {
                 self.at_hand.put_named(&call, number);
                 Ok(())
             }
             Some(before) => {
-                // a slot may hold the answer that was noted before
+                // a block or a slot may hold the answer that was noted before
                 if before != answer {
-                    self.at_hand.clear_slots();
+                    self.at_hand.clear_named();
                 }
                 Ok(())
             }

@@ -1,6 +1,12 @@
-use Rattle.deriv_memory.proofs.Holding.{named_put}
+use Rattle.deriv_memory.proofs.Holding.{then_one_more, then_no_more}
 use Rattle.deriv_memory.proofs.at_hand.AtHand.put_named.Goals as goal
 
-pub returns-then-kept-eq-NOTHING-clause-slots : goal.returns-then-kept-eq-NOTHING-clause-slots
-returns-then-kept-eq-NOTHING-clause-slots c =
-    named_put c.args.self.now.slots.items c.args.call.now c.place-place.result c.args.number c.in-Some.slot c.in-Some.ensures
+pub returns-then-not-put_in_block-clause-slots : goal.returns-then-not-put_in_block-clause-slots
+returns-then-not-put_in_block-clause-slots c = λ answer says.
+    then_one_more c.args.self.now.slots.items c.put_in_block.new.self.slots.items c.put_in_slot.new.self.slots.items c.args.call.now answer
+    c.put_in_block.ensures.slots (c.put_in_slot.ensures.slots answer says)
+
+pub returns-then-not-put_in_block-clause-blocks : goal.returns-then-not-put_in_block-clause-blocks
+returns-then-not-put_in_block-clause-blocks c = λ answer says.
+    then_no_more c.args.self.now.blocks.items c.put_in_block.new.self.blocks.items c.put_in_slot.new.self.blocks.items c.args.call.now answer
+    (c.put_in_block.ensures.blocks answer says) c.put_in_slot.ensures.blocks
