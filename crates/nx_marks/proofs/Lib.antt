@@ -22,6 +22,7 @@ pub mod Seen
 pub mod Cutting
 pub mod Passing
 pub mod Stepping
+pub mod Alone
 pub mod Keeping
 pub mod Noting
 pub mod Rejoining

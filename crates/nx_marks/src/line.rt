@@ -642,3 +642,33 @@ pub(crate) fn step<A: Machine>(
     line.marked = is_due(machine, &line.here.state, tags);
     Ok(())
 }
+
+/// Steps over the token at the frontier, where no mark is aside. A mark stands behind it where one is due.
+#[inline(always)]
+pub(crate) fn step_alone<A: Machine>(
+    alloc: Global,
+    machine: &mut A,
+    text: &Text,
+    line: &mut Line<A::State>,
+    token: &mut Token,
+) -> Result<(), NoMemory>
+    requires right { IsRight (A.is_state machine.old) (A.means machine.old) (A.rules machine.old) text.now line.old }
+    requires unmarked { line.old.marked ≡ false }
+    requires rest { frontier_of line.old < length text.now }
+    requires token { token.old ≡ cut text.now (frontier_of line.old) }
+    requires none_aside { line.old.aside ≡ [] }
+    ensures later { A.later machine.old machine.new }
+    ensures right { IsRight (A.is_state machine.new) (A.means machine.new) (A.rules machine.new) text.now line.new }
+    ensures on { OnOk result (frontier_of line.new ≡ frontier_of line.old + length token.old.bytes) }
+    ensures off { OnErr result (frontier_of line.new ≡ frontier_of line.old) }
+    ensures keeps { KeepsMarks (A.means machine.old) (A.rules machine.old) text.now line.old line.new }
+{
+    // A text whose length is read is known to be in UTF-8.
+    let _len = text.len();
+    let tags = lengthen_last(alloc, machine, &mut line.here.state, token, &mut line.front)?;
+    line.here.len = 0;
+    if is_due(machine, &line.here.state, tags) {
+        line.marked = true;
+    }
+    Ok(())
+}

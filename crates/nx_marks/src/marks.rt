@@ -16,7 +16,7 @@ ghost use Rattle.nx_marks.specs.Starting.{started};
 ghost use Rattle.nx_marks.specs.Walking.{Fits};
 
 use crate::kept::Kept;
-use crate::line::{Line, begin_here, step};
+use crate::line::{Line, begin_here, step, step_alone};
 use crate::rows::rejoin;
 use nx_base::edit::Edit;
 use nx_base::fault::Faults;
@@ -70,8 +70,7 @@ fn take_here<A: Machine>(
     step(alloc, machine, text, line, token)
 }
 
-/// Cuts the token at the frontier, where the line is parted, and takes it. Marks aside that it passes are dropped. It stands in line
-/// wherever a token is taken, and so does what it calls here.
+/// Cuts the token at the frontier, where the line is parted, and takes it. Marks aside that it passes are dropped.
 #[inline(always)]
 fn cut_and_take<A: Machine, L: Ledger>(
     alloc: Global,
@@ -128,6 +127,35 @@ fn take<A: Machine, L: Ledger>(
     cut_and_take(alloc, machine, text, &mut kept.line, token, steps)
 }
 
+/// Cuts the token at the frontier, where no mark is aside, and takes it. It stands in line in the usual loop, and so does what it calls
+/// here.
+#[inline(always)]
+fn cut_and_take_alone<A: Machine, L: Ledger>(
+    alloc: Global,
+    machine: &mut A,
+    text: &Text,
+    line: &mut Line<A::State>,
+    token: &mut Token,
+    steps: &mut Steps<L>,
+) -> Result<(), NoMemory>
+    requires right { IsRight (A.is_state machine.old) (A.means machine.old) (A.rules machine.old) text.now line.old }
+    requires rest { frontier_of line.old < length text.now }
+    requires none_aside { line.old.aside ≡ [] }
+    ensures later { A.later machine.old machine.new }
+    ensures right { IsRight (A.is_state machine.new) (A.means machine.new) (A.rules machine.new) text.now line.new }
+    ensures on { OnOk result (MovesOver text.now (frontier_of line.old) 1 (frontier_of line.new)) }
+    ensures off { OnErr result (frontier_of line.new ≡ frontier_of line.old) }
+    ensures keeps { KeepsMarks (A.means machine.old) (A.rules machine.old) text.now line.old line.new }
+    ensures step { steps.new ≡ steps.old + 1 }
+{
+    // A text whose length is read is known to be in UTF-8.
+    let _len = text.len();
+    let at = line.frontier(false);
+    scan_token_into(text, at, token, steps)?;
+    begin_here(alloc, machine, text, line)?;
+    step_alone(alloc, machine, text, line, token)
+}
+
 /// Takes tokens where no mark is aside, until so many are taken, or none is left.
 fn take_rest<A: Machine, L: Ledger>(
     alloc: Global,
@@ -156,7 +184,7 @@ fn take_rest<A: Machine, L: Ledger>(
     let len = text.len();
     while line.frontier(false) < len && *taken < n {
         *taken += 1;
-        cut_and_take(alloc, machine, text, line, token, steps)?;
+        cut_and_take_alone(alloc, machine, text, line, token, steps)?;
     }
     Ok(())
 }

@@ -53,8 +53,8 @@ impl<S: Drop> Single<S> {
         ensures { IfOk result (λ single. single ≡ mark) }
     {
         let node = Node {
-            mark,
             left: Tree::empty(),
+            mark,
             right: Tree::empty(),
             sums: Sums {
                 reach: 0,

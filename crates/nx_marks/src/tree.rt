@@ -27,12 +27,13 @@ pub(crate) struct Tree<S> {
     pub(crate) root: Option<Box<Node<S>>>,
 }
 
-/// A mark, the marks in front of it and those behind it.
+/// A mark, the marks in front of it and those behind it. They stand, and so are dropped, in their order, which is mostly that of what
+/// they have in memory.
 #[cycle(tree)]
 #[derive(Drop)]
 pub(crate) struct Node<S> {
-    pub(crate) mark: Mark<S>,
     pub(crate) left: Tree<S>,
+    pub(crate) mark: Mark<S>,
     pub(crate) right: Tree<S>,
     pub(crate) sums: Sums,
 }
