@@ -41,7 +41,7 @@ pub struct Line<S> {
     /// Whether a mark stands at the frontier.
     pub(crate) marked: bool,
     pub(crate) aside: Tree<S>,
-    /// What was drawn for the last mark that was made, whose weight is its upper half.
+    /// What was drawn for the last mark that was made.
     lot: u32,
 }
 
@@ -56,9 +56,17 @@ impl<S> Model for Line<S> {
     ghost invariant = { λ k. Held k.front k.here k.aside };
 }
 
-/// The lot that comes after this one. Lots rise and fall without order, and so do their upper halves, which are weights.
+/// The lot that comes after this one. Lots rise and fall without order, and so do their upper bits.
 fn next_lot(lot: u32) -> u32 {
     lot.wrapping_mul(747_796_405).wrapping_add(2_891_336_453)
+}
+
+/// The weight of a mark that is put behind so many. Marks that come one after another get ranks like the lines of a ruler (every second
+/// line is longer than those next to it, and so again of those that are longer), which makes a tree of them level; within a rank the lot
+/// decides.
+fn weight_of(count: usize, lot: u32) -> u16 {
+    let rank = count.trailing_ones().min(15);
+    ((rank << 12) | (lot >> 20)) as u16
 }
 
 /// Drops all faults.
@@ -534,7 +542,7 @@ impl<S: Drop> Line<S> {
             saved: true,
         };
         let lot = next_lot(self.lot);
-        let weight = (lot >> 16) as u16;
+        let weight = weight_of(self.front.count(), lot);
         self.front.push(Single::new(alloc, mark, weight)?);
         self.lot = lot;
         self.marked = false;

@@ -18,9 +18,10 @@ pub(crate) struct Sums {
     pub(crate) faulty: bool,
 }
 
-/// Marks in their order. A node's weight is at least that of each node below it, and weights rise and fall as if drawn by lot, so a tree
-/// of n marks is about 3 log n deep (to base 2) behind edits that aren't chosen against it. There are 65,536 weights, and marks of one
-/// weight lie one below another, which adds n / 65,536 to that. No clause says so. Trees are put together and parted without memory.
+/// Marks in their order. A node's weight is at least that of each node below it. Its upper bits are a rank (`weight_of` of a line) by which
+/// a tree of n marks that came one after another is log n deep (to base 2). Behind edits that aren't chosen against it weights rise and
+/// fall as if drawn by lot, and it is about 3 log n deep. A rank has 4,096 weights, and marks of one weight lie one below another, which
+/// adds n / 4,096 at the most. No clause says so. Trees are put together and parted without memory.
 #[cycle(tree)]
 #[derive(Drop)]
 pub(crate) struct Tree<S> {
