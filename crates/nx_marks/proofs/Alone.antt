@@ -1,7 +1,7 @@
 -- A token is stepped over where no mark is aside.
-use Rattle.std.proofs.Common.{◌≡◌, inr, ℕ, ◌+◌, ◌-◌, ◌^◌, ◌<◌, ◌≤◌, Bool, true, false, List, [], ◌∷◌, ◌++◌, length, refl, sym, ap, subst, ◌∙◌, arith}
+use Rattle.std.proofs.Common.{◌≡◌, inr, ℕ, ◌+◌, ◌-◌, ◌^◌, ◌<◌, Bool, false, List, [], ◌∷◌, ◌++◌, length, refl, sym, ap, subst, arith}
 use Rattle.std.specs.Prelude.{IsUtf8}
-use Rattle.nx_base.specs.Rules.{Rules, RulesLaws, LaterLaws, Lexeme, lexeme_of}
+use Rattle.nx_base.specs.Rules.{Rules, RulesLaws, LaterLaws, lexeme_of}
 use Rattle.nx_base.specs.Shifting.{placed}
 use Rattle.nx_base.specs.Tokens.{cut}
 use Rattle.nx_base.specs.declared.token.Token.{Token}

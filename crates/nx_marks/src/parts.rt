@@ -54,12 +54,13 @@ impl<S: Drop> Tree<S> {
             self.root = Some(second);
             return;
         };
-        let all = first.sums.with(second.sums);
-        if first.sums.weight >= second.sums.weight {
-            first.sums = all;
+        let before = first.sums;
+        if before.weight >= second.sums.weight {
+            first.sums.add(second.sums);
             first.right.append(Tree { root: Some(second) });
             return;
         }
+        let all = before.with(second.sums);
         let front = mem::replace(&mut second.left, mem::replace(self, Tree::empty()));
         second.left.append(front);
         second.sums = all;

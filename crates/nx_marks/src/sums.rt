@@ -25,6 +25,25 @@ impl Sums {
             faulty: self.faulty || more.faulty,
         }
     }
+
+    /// Adds what more marks come to, none of which weighs more. Mostly all of them are whole and none is faulty.
+    pub(crate) fn add(&mut self, more: Sums)
+        requires count { self.old.count + more.count < 2 ^ 32 }
+        requires reach { self.old.reach + more.reach < 2 ^ 64 }
+        ensures count { self.new.count ≡ self.old.count + more.count }
+        ensures reach { self.new.reach ≡ self.old.reach + more.reach }
+        ensures whole { self.new.whole ≡ (self.old.whole && more.whole) }
+        ensures faulty { self.new.faulty ≡ (self.old.faulty || more.faulty) }
+    {
+        self.reach += more.reach;
+        self.count += more.count;
+        if !more.whole {
+            self.whole = false;
+        }
+        if more.faulty {
+            self.faulty = true;
+        }
+    }
 }
 
 impl<S: Drop> Tree<S> {

@@ -1,5 +1,4 @@
-use Rattle.std.proofs.Common.{◌≡◌, ◌+◌, ◌-◌, ◌<◌, List, length, refl, true, false, ap, subst, sym, ◌∙◌, arith}
-use Rattle.nx_base.specs.Rules.{Rules, lexeme_of}
+use Rattle.std.proofs.Common.{◌≡◌, ◌+◌, List, length, refl, true, ap, subst, sym, ◌∙◌, arith}
 use Rattle.nx_marks.specs.Chain.{Kept, frontier_of, reach}
 use Rattle.nx_marks.specs.Right.{IsRight, tags_behind}
 use Rattle.nx_marks.specs.Keeping.{KeepsMarks}
