@@ -1,15 +1,24 @@
 -- Bytes that are written over others.
-use Rattle.std.proofs.Common.{◌≡◌, ℕ, ◌-◌, ◌≤◌, List, ◌++◌, length, take, drop, ap, sym, ◌∙◌, arith}
+use Rattle.std.proofs.Common.{◌≡◌, ℕ, ◌+◌, ◌-◌, ◌≤◌, List, ◌++◌, length, take, drop, ap, sym, ◌∙◌, arith, length-drop, take-take, take_all, take-append-drop}
 use Rattle.std.proofs.Math.Seq.{take-append_seam}
-use Rattle.std.proofs.lemmas.Slice.{take-put_mid}
-use borrow.Rule.Slice.PartMut.{put_mid, same_len_mid, mid_len}
 
 -- in front of what is left of a list that they are written over stand the bytes
-pub over_front : (xs ys : List ℕ) (n len : ℕ) → len ≡ length xs → n ≤ length xs → length ys ≡ n - 0 →
-    take n (take len (put_mid 0 (n - 0) xs ys ++ drop (length (put_mid 0 (n - 0) xs ys)) xs)) ≡ ys
-over_front xs ys n len is fits e =
-    let k = n - 0 in
-    let all : length (put_mid 0 k xs ys) ≡ length xs = same_len_mid 0 k xs ys (e ∙ sym (mid_len 0 n xs (omega (arith, fits)))) in
-    ap (λ m. take n (take m (put_mid 0 k xs ys ++ drop (length (put_mid 0 k xs ys)) xs))) (is ∙ sym all)
-    ∙ ap (take n) (take-append_seam (put_mid 0 k xs ys) (drop (length (put_mid 0 k xs ys)) xs))
-    ∙ take-put_mid 0 k xs ys n (omega (arith, e)) (omega arith)
+pub over_front : (xs ys new : List ℕ) (n len : ℕ) → len ≡ length xs → length new ≡ length xs → take n new ≡ ys →
+    take n (take len (new ++ drop (length new) xs)) ≡ ys
+over_front xs ys new n len is same copied =
+    ap (λ m. take n (take m (new ++ drop (length new) xs))) (is ∙ sym same)
+    ∙ ap (take n) (take-append_seam new (drop (length new) xs)) ∙ copied
+
+-- the first bytes in front of where the last ones begin, and these
+pub both_parts : (xs : List ℕ) (n rest : ℕ) → rest ≡ length xs - n → n ≤ length xs → length xs ≤ n + n
+    → take rest (take n xs) ++ take n (drop rest xs) ≡ xs
+both_parts xs n rest is enough all =
+    (λ k. take-take rest n xs (omega (arith, is)) k ++ take_all n (drop rest xs) (omega (arith, is, length-drop rest xs)) k) ∙ take-append-drop rest xs
+
+-- the first bytes, and over them the last ones
+pub both_ends : (xs mid new : List ℕ) (n rest : ℕ) → rest ≡ length xs - n → n ≤ length xs → length xs ≤ n + n
+    → take (0 + n) mid ≡ take n xs → take (rest + n) new ≡ take rest mid ++ take n (drop rest xs) → take (length xs) new ≡ xs
+both_ends xs mid new n rest is enough all first second =
+    let whole : length xs ≡ rest + n = omega (arith, is) in
+    let front : take rest mid ≡ take rest (take n xs) = sym (take-take rest (0 + n) mid (omega (arith, is))) ∙ ap (take rest) first in
+    ap (λ k. take k new) whole ∙ second ∙ ap (λ l. l ++ take n (drop rest xs)) front ∙ both_parts xs n rest is enough all

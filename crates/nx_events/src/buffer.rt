@@ -3,6 +3,7 @@
 ghost use Rattle.std.specs.Prelude.{◌≡◌, ◌==◌, ◌++◌, [], length, IfOk, OnOk, OnErr};
 ghost use Rattle.nx_events.specs.Strings.{string_of};
 
+use crate::few_bytes::copy_to_front;
 use crate::piece::{push_string, string_of};
 use crate::plain::are_plain;
 use crate::reading::Reading;
@@ -63,7 +64,7 @@ impl Buffer {
     {
         let len = bytes.len();
         if len <= self.memory.len() {
-            self.memory[0..len].copy_from_slice(bytes);
+            copy_to_front(self.memory.as_mut_slice(), bytes);
             self.len = len;
             return Ok(());
         }

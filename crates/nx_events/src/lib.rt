@@ -17,6 +17,7 @@
 mod buffer;
 mod character_fault;
 mod declaration;
+mod few_bytes;
 pub mod flaw;
 mod front;
 mod lanes;

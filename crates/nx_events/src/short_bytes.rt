@@ -3,6 +3,7 @@
 ghost use Rattle.std.specs.Prelude.{◌≡◌, ◌≤◌, [], length};
 ghost use Rattle.nx_events.specs.declared.short_bytes.TheConstants.{SHORT};
 
+use crate::few_bytes::copy_to_front;
 use std::marker::Model;
 
 /// So many bytes at most stand in the value itself.
@@ -50,7 +51,7 @@ impl ShortBytes {
         ensures { self.new ≡ bytes.now }
     {
         let len = bytes.len();
-        self.memory[..len].copy_from_slice(bytes);
+        copy_to_front(&mut self.memory, bytes);
         self.len = len;
     }
 

@@ -9,11 +9,11 @@ ghost use Rattle.nx_events.specs.Tags.{front_attribute, front_len, attributes_fr
 ghost use Rattle.nx_events.specs.PlainTags.{IsPlainTag};
 
 use crate::front::{byte_place, ends_name, is_between, name_end, quote_place};
-use crate::lanes;
 use crate::piece::string_of;
 use crate::qname::is_plain_name;
 use crate::reading::Reading;
 use crate::written_name::WrittenName;
+use crate::{few_bytes, lanes};
 use nx_base::fault::Span;
 use nx_base::memory::NoMemory;
 use nx_base::sequence::Bytes;
@@ -106,8 +106,7 @@ pub(crate) fn copy_in(memory: Vec<u8>, bytes: &[u8]) -> Result<Bytes, NoMemory>
     ensures { IfOk result (λ copied. copied ≡ bytes.now) }
 {
     let mut copied = memory;
-    copied.clear();
-    copied.extend_from_slice(bytes)?;
+    few_bytes::fill(&mut copied, bytes)?;
     Ok(Bytes::from_vec(copied))
 }
 
