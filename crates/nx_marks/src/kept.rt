@@ -95,6 +95,15 @@ impl<S: Drop> Kept<S> {
         }
     }
 
+    /// Drops what is left of the marks that the last edit let go, where the frontier is at this place.
+    pub(crate) fn drop_gone_at(&mut self, end: usize)
+        ensures { self.new ≡ self.old }
+    {
+        if self.frontier() == end {
+            self.line.drop_gone();
+        }
+    }
+
     /// The last mark at or before both a place and the frontier, or the start, with its byte offset.
     pub(crate) fn mark_before(&self, at: usize) -> (usize, &Mark<S>)
         requires { self.now.marked ≡ false → 0 < length self.now.front }

@@ -41,6 +41,8 @@ pub struct Line<S> {
     /// Whether a mark stands at the frontier.
     pub(crate) marked: bool,
     pub(crate) aside: Tree<S>,
+    /// Marks that the last edit let go. They go one by one as marks are made, so that a new one stands in memory that was just looked at.
+    gone: Tree<S>,
     /// What was drawn for the last mark that was made.
     lot: u32,
 }
@@ -102,6 +104,7 @@ impl<S: Drop> Line<S> {
             },
             marked: true,
             aside: Tree::empty(),
+            gone: Tree::empty(),
             lot: 0,
         }
     }
@@ -248,7 +251,9 @@ impl<S: Drop> Line<S> {
         let count = one_more(before, self.aside.count());
         let kept = self.aside.split_off(count);
         let gone = mem::replace(&mut self.aside, kept);
-        next + gone.reach()
+        let passed = gone.reach();
+        drop(mem::replace(&mut self.gone, gone));
+        next + passed
     }
 
     /// Has the state at the frontier say that it is no mark, since an edit may put it aside, where a row ends with it.
@@ -335,6 +340,13 @@ impl<S: Drop> Line<S> {
             return;
         }
         self.here.len = count;
+    }
+
+    /// Drops what is left of the marks that the last edit let go.
+    pub(crate) fn drop_gone(&mut self)
+        ensures { self.new ≡ self.old }
+    {
+        drop(mem::replace(&mut self.gone, Tree::empty()));
     }
 
     /// Goes on to the end of the row that begins with the mark at hand.
@@ -541,6 +553,7 @@ impl<S: Drop> Line<S> {
             whole: true,
             saved: true,
         };
+        self.gone.drop_first();
         let lot = next_lot(self.lot);
         let weight = weight_of(self.front.count(), lot);
         self.front.push(Single::new(alloc, mark, weight)?);

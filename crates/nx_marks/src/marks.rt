@@ -338,6 +338,7 @@ impl<A: Machine> Marks<A> {
             steps,
         );
         self.taken = taken;
+        self.kept.drop_gone_at(text.len());
         done
     }
 

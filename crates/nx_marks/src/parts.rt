@@ -2,9 +2,10 @@
 
 ghost use Rattle.std.specs.Prelude.{◌≡◌, ◌+◌, ◌<◌, ◌≤◌, ◌^◌, length, [], ◌∷◌, ◌++◌};
 ghost use Rattle.nx_marks.specs.Chain.{reach};
+ghost use Rattle.nx_marks.specs.Nodes.{marks_at};
 
 use crate::single::{Single, summed};
-use crate::tree::Tree;
+use crate::tree::{Node, Tree};
 use std::mem;
 
 /// Parts a tree behind so many marks.
@@ -27,6 +28,36 @@ pub(crate) fn parted<S: Drop>(tree: Tree<S>, count: usize) -> (Tree<S>, Tree<S>)
     let (front, behind) = parted(right, count - before - 1);
     node.right = front;
     (summed(node), behind)
+}
+
+/// What is in front of a first node, and that node with its own mark and those behind it in front of a second one's.
+fn joined<S: Drop>(mut first: Box<Node<S>>, mut second: Box<Node<S>>) -> (Tree<S>, Box<Node<S>>)
+    requires none { second.value.left ≡ [] }
+    requires count { length (marks_at first.value) + length (marks_at second.value) < 2 ^ 32 }
+    requires reach { reach (marks_at first.value) + reach (marks_at second.value) < 2 ^ 64 }
+    ensures front { result.0 ≡ first.value.left }
+    ensures none { result.1.value.left ≡ [] }
+    ensures marks { marks_at result.1.value ≡ first.value.mark ∷ (first.value.right ++ marks_at second.value) }
+{
+    let front = mem::replace(&mut first.left, Tree::empty());
+    second.left = mem::replace(&mut first.right, Tree::empty());
+    first.right = summed(second);
+    (front, first)
+}
+
+/// The first node of these marks and of a node's own and those behind it, with all the others behind its own mark.
+fn first_of<S: Drop>(front: Tree<S>, node: Box<Node<S>>) -> Box<Node<S>>
+    requires none { node.value.left ≡ [] }
+    requires count { length front + length (marks_at node.value) < 2 ^ 32 }
+    requires reach { reach front + reach (marks_at node.value) < 2 ^ 64 }
+    ensures marks { marks_at result.value ≡ front ++ marks_at node.value }
+    ensures none { result.value.left ≡ [] }
+{
+    let Some(first) = front.root else {
+        return node;
+    };
+    let (before, first) = joined(first, node);
+    first_of(before, first)
 }
 
 /// The one mark of a tree.
@@ -88,6 +119,17 @@ impl<S: Drop> Tree<S> {
         let (first, behind) = parted(whole, 1);
         *self = behind;
         only(first)
+    }
+
+    /// Drops the first mark. The tree is turned so that the next one stands near its root: all marks of a tree are dropped one by one in
+    /// two turns each at the most. It is of no use for finding marks then, since weights don't fall any more; its depth may double.
+    pub(crate) fn drop_first(&mut self) {
+        let Some(mut root) = mem::replace(self, Tree::empty()).root else {
+            return;
+        };
+        let before = mem::replace(&mut root.left, Tree::empty());
+        let mut first = first_of(before, root);
+        *self = mem::replace(&mut first.right, Tree::empty());
     }
 
     /// Takes the last mark away. It stands outside of the loop over tokens, where it is seldom called.

@@ -15,7 +15,7 @@ overflow_add-result g c =
     let b = reach-append c.split_off-kept.new.self c.split_off-kept.result in
     let d = ap reach c.replace-gone.ensures.value in
     let e = ap (λ (k : Kept _). reach k.aside) c.self.view_is in
-    omega (arith, c.requires, c.reach.ensures)
+    omega (arith, c.requires, c.reach-passed.ensures)
 
 pub invariant_of-self : goal.invariant_of-self
 invariant_of-self g c =
@@ -42,4 +42,4 @@ returns g c =
     sym (ap (λ (k : Kept _). k.aside) c.self.view_is) ∙ c.split_off-kept.ensures.all ∙ ap (λ l. c.split_off-kept.new.self ++ l) (sym c.replace-gone.ensures.after) in
     dropped_between c.args.next c.args.to n _ k new c.split_off-kept.new.self c.if-next-to.false list (ap (λ (k : Kept _). k.front) c.self.view_is) (ap (λ (k : Kept _). k.here) c.self.view_is) (ap (λ (k : Kept _). k.marked) c.self.view_is)
     c.split_off-kept.ensures.count (subst (λ b. M b (length k.aside)) before (subst (M c.count_up_to-before.result) all c.one_more-count.ensures.most)) (subst (λ b. E b (length k.aside)) before (subst (E c.count_up_to-before.result) all c.one_more-count.ensures.either))
-    (ap (λ m. c.args.next + m) (c.reach.ensures ∙ ap reach c.replace-gone.ensures.value))
+    (ap (λ m. c.args.next + m) (c.reach-passed.ensures ∙ ap reach c.replace-gone.ensures.value))
