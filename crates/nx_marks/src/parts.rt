@@ -31,7 +31,7 @@ pub(crate) fn parted<S: Drop>(tree: Tree<S>, count: usize) -> (Tree<S>, Tree<S>)
 }
 
 /// What is in front of a first node, and that node with its own mark and those behind it in front of a second one's.
-fn joined<S: Drop>(mut first: Box<Node<S>>, mut second: Box<Node<S>>) -> (Tree<S>, Box<Node<S>>)
+fn put_behind<S: Drop>(mut first: Box<Node<S>>, mut second: Box<Node<S>>) -> (Tree<S>, Box<Node<S>>)
     requires none { second.value.left ≡ [] }
     requires count { length (marks_at first.value) + length (marks_at second.value) < 2 ^ 32 }
     requires reach { reach (marks_at first.value) + reach (marks_at second.value) < 2 ^ 64 }
@@ -56,7 +56,7 @@ fn first_of<S: Drop>(front: Tree<S>, node: Box<Node<S>>) -> Box<Node<S>>
     let Some(first) = front.root else {
         return node;
     };
-    let (before, first) = joined(first, node);
+    let (before, first) = put_behind(first, node);
     first_of(before, first)
 }
 
