@@ -51,6 +51,22 @@ impl<T: Copy> GapBuffer<T> {
         }
     }
 
+    /// These items alone, in the memory that they have, and behind them as much room as a gap that is widened for them has left.
+    pub(crate) fn of_items(items: Vec<T>, filler: T) -> Result<GapBuffer<T>, AllocError>
+        ensures front { IfOk result (λ list. list.front ≡ items.items) }
+        ensures back { IfOk result (λ list. list.back ≡ []) }
+    {
+        let len = items.len();
+        let full = len.checked_add(len / SPARE_PART).ok_or(AllocError)?;
+        let mut items = items;
+        items.resize(full, filler)?;
+        Ok(GapBuffer {
+            items,
+            start: len,
+            end: full,
+        })
+    }
+
     /// These items alone, in memory of the same allocator, and behind them as much room as a gap that is widened for them has left. So a
     /// list that is put in whole is written once.
     pub(crate) fn with_items(&self, added: &[T], filler: T) -> Result<GapBuffer<T>, AllocError>

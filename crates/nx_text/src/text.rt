@@ -86,6 +86,19 @@ impl Text {
         }
     }
 
+    /// The text of these bytes, in the memory that they have: so a file that was read is held once.
+    pub fn of(bytes: Bytes) -> Result<Text, NoMemory>
+        requires { IsUtf8 bytes }
+        ensures { IfOk result (λ text. text ≡ bytes) }
+    {
+        let items = bytes.into_vec();
+        let mut feeds = GapBuffer::new(*items.allocator());
+        feeds.make_room(count_feeds(items.as_slice()), 0)?;
+        push_feeds(&mut feeds, 0, items.as_slice());
+        let bytes = GapBuffer::of_items(items, 0)?;
+        Ok(Text { bytes, feeds })
+    }
+
     /// What stands in front of the gap, and what stands behind it.
     fn sides(&self) -> (&str, &str)
         ensures text { self.now ≡ result.0.now ++ result.1.now }

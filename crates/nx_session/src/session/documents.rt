@@ -66,7 +66,7 @@ impl Session {
     {
         let uri = uri::join(self.alloc, WORK_FOLDER, text_of(uri_text))?;
         match files.fetch(self.alloc, text_of(&uri))? {
-            Some(bytes) => self.open_bytes(uri, &bytes, views),
+            Some(bytes) => self.open_bytes(uri, bytes, views),
             None => Err(Refusal::Absent(uri)),
         }
     }
@@ -75,22 +75,22 @@ impl Session {
     fn open_bytes(
         &mut self,
         uri: Bytes,
-        bytes: &Bytes,
+        bytes: Bytes,
         views: &mut Vec<Box<dyn View>>,
     ) -> Result<Reply, Refusal>
         requires utf8 { IsUtf8 uri }
         requires ascii { IsAscii uri }
-        ensures step { OpensBytes uri bytes.now self.old.editor (reply_of result) self.new.editor }
+        ensures step { OpensBytes uri bytes self.old.editor (reply_of result) self.new.editor }
         ensures marks { EditsMarks (whole_edit self.old.editor self.new.editor) self.old (reply_of result) self.new }
         ensures views { MovesViews (whole_edit self.old.editor self.new.editor) (map (λ b. state b) views.old.items) (reply_of result)
             (map (λ b. state b) views.new.items) }
         ensures views_text { ViewsAreText (map (λ b. state b) views.old.items) → ViewsAreText (map (λ b. state b) views.new.items) }
         ensures text { ReplyIsText (reply_of result) }
     {
-        let Ok(content) = str::from_utf8(bytes.as_slice()) else {
+        let Ok(_) = str::from_utf8(bytes.as_slice()) else {
             return Err(Refusal::NotUtf8(uri, text_front(bytes.as_slice())));
         };
-        let text = text_with(self.alloc, content)?;
+        let text = Text::of(bytes)?;
         self.show(text, views);
         self.document = DocumentUri::new(uri);
         Ok(Reply::Silent)
