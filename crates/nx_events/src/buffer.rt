@@ -58,7 +58,20 @@ impl Buffer {
         self.len == 0
     }
 
+    // Puts a copy of these bytes, which are more than ever before, in the place of what is there.
+    #[inline(never)]
+    fn fill_longer(&mut self, bytes: &[u8]) -> Result<(), NoMemory>
+        ensures { OnOk result (self.new ≡ bytes.now) }
+    {
+        self.len = 0;
+        self.memory.clear();
+        self.memory.extend_from_slice(bytes)?;
+        self.len = bytes.len();
+        Ok(())
+    }
+
     /// Puts a copy of these bytes in the place of what is there. Where it is refused, anything may be there.
+    #[inline(always)]
     pub(crate) fn fill(&mut self, bytes: &[u8]) -> Result<(), NoMemory>
         ensures { OnOk result (self.new ≡ bytes.now) }
     {
@@ -68,11 +81,7 @@ impl Buffer {
             self.len = len;
             return Ok(());
         }
-        self.len = 0;
-        self.memory.clear();
-        self.memory.extend_from_slice(bytes)?;
-        self.len = len;
-        Ok(())
+        self.fill_longer(bytes)
     }
 
     /// Puts the string of a text in the place of what is there. Where it is refused, anything may be there.

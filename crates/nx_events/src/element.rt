@@ -10,6 +10,7 @@ ghost use Rattle.nx_events.specs.Scopes.{named_by};
 ghost use Rattle.nx_events.specs.SeenNames.{AreKept, new_of};
 ghost use Rattle.nx_events.specs.PlainTokens.{unprefixed_name};
 
+use crate::few_bytes;
 use crate::flaw::{Flaw, Resolved};
 use crate::item::{Event, Item, Items, LONGEST_SPARE};
 use crate::namespace::{is_declaration, push_flaw};
@@ -66,11 +67,21 @@ fn refill(alloc: Global, bytes: &mut Bytes, source: &[u8]) -> Result<(), NoMemor
     if LONGEST_SPARE < memory.capacity() {
         memory = Vec::new(alloc);
     }
-    *bytes = copy_in(memory, source)?;
+    few_bytes::fill(&mut memory, source)?;
+    *bytes = Bytes::from_vec(memory);
     Ok(())
 }
 
+// Puts a namespace in the place of another, if it is one.
+#[inline(never)]
+fn put_uri(alloc: Global, ns: &mut Bytes, uri: &[u8]) -> Result<(), NoMemory>
+    ensures { OnOk result (ns.new ≡ uri.now) }
+{
+    refill(alloc, ns, uri)
+}
+
 // Puts a namespace in the place of another.
+#[inline(always)]
 fn put_namespace(alloc: Global, ns: &mut Bytes, uri: &[u8]) -> Result<(), NoMemory>
     ensures { OnOk result (ns.new ≡ uri.now) }
 {
@@ -79,7 +90,7 @@ fn put_namespace(alloc: Global, ns: &mut Bytes, uri: &[u8]) -> Result<(), NoMemo
         ns.clear();
         return Ok(());
     }
-    refill(alloc, ns, uri)
+    put_uri(alloc, ns, uri)
 }
 
 /// Puts the name of an element that is written without a prefix in the place of another name, in that one's memory. Where it is refused,

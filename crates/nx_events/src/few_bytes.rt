@@ -1,6 +1,6 @@
 //! Copies of few bytes, as names and most texts are: by moves of a fixed size, of which two overlap. They take fewer steps than a call.
 
-ghost use Rattle.std.specs.Prelude.{◌≡◌, ◌+◌, ◌≤◌, ◌++◌, length, take, vec_len, vec_capacity, OnOk};
+ghost use Rattle.std.specs.Prelude.{◌≡◌, ◌+◌, ◌<◌, ◌≤◌, ◌++◌, length, take, vec_len, vec_capacity, OnOk};
 
 use nx_base::memory::NoMemory;
 use std::simd::Simd;
@@ -30,6 +30,22 @@ fn put_both_ends<const N: usize>(memory: &mut [u8], bytes: &[u8])
     put_first::<N>(memory, rest, &bytes[rest..]);
 }
 
+// Puts one byte, two or three at the front: the first, the one in the middle and the last. So no branch asks how many there are.
+#[inline(always)]
+fn put_three_at_most(memory: &mut [u8], bytes: &[u8])
+    requires some { 0 < length bytes.now }
+    requires few { length bytes.now ≤ 3 }
+    requires room { length bytes.now ≤ length memory.old }
+    ensures copied { take (length bytes.now) memory.new ≡ bytes.now }
+    ensures len { length memory.new ≡ length memory.old }
+{
+    let last = bytes.len() - 1;
+    let middle = bytes.len() / 2;
+    memory[0] = bytes[0];
+    memory[middle] = bytes[middle];
+    memory[last] = bytes[last];
+}
+
 // Puts many bytes at the front, by a call.
 #[inline(never)]
 fn put_many(memory: &mut [u8], bytes: &[u8])
@@ -48,18 +64,18 @@ pub(crate) fn copy_to_front(memory: &mut [u8], bytes: &[u8])
     ensures len { length memory.new ≡ length memory.old }
 {
     let len = bytes.len();
-    if len > 32 {
-        put_many(memory, bytes);
-    } else if len >= 16 {
-        put_both_ends::<16>(memory, bytes);
-    } else if len >= 8 {
-        put_both_ends::<8>(memory, bytes);
-    } else if len >= 4 {
+    if len < 4 {
+        if len > 0 {
+            put_three_at_most(memory, bytes);
+        }
+    } else if len < 8 {
         put_both_ends::<4>(memory, bytes);
-    } else if len >= 2 {
-        put_both_ends::<2>(memory, bytes);
-    } else if len == 1 {
-        put_first::<1>(memory, 0, bytes);
+    } else if len < 16 {
+        put_both_ends::<8>(memory, bytes);
+    } else if len <= 32 {
+        put_both_ends::<16>(memory, bytes);
+    } else {
+        put_many(memory, bytes);
     }
 }
 
@@ -110,13 +126,19 @@ pub(crate) fn fill(list: &mut Vec<u8>, bytes: &[u8]) -> Result<(), NoMemory>
     ensures { OnOk result (list.new.items ≡ bytes.now) }
 {
     let len = bytes.len();
-    if len < 4 || len > 16 || list.capacity() < len {
+    if len < 2 || len > 64 || list.capacity() < len {
         return fill_by_call(list, bytes);
     }
-    if len >= 8 {
-        fill_both_ends::<8>(list, bytes);
-    } else {
+    if len < 4 {
+        fill_both_ends::<2>(list, bytes);
+    } else if len < 8 {
         fill_both_ends::<4>(list, bytes);
+    } else if len < 16 {
+        fill_both_ends::<8>(list, bytes);
+    } else if len <= 32 {
+        fill_both_ends::<16>(list, bytes);
+    } else {
+        fill_both_ends::<32>(list, bytes);
     }
     Ok(())
 }

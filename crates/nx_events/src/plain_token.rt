@@ -102,6 +102,7 @@ pub fn end_innermost(state: &mut EventState)
 }
 
 /// Adds characters that stand for themselves. Where it is refused, the state is as before.
+#[inline(always)]
 pub fn add_characters(state: &mut EventState, bytes: &[u8]) -> Result<(), NoMemory>
     requires room { run_back state.old.run + length bytes.now < 2 ^ 64 }
     requires plain { StandsForItself bytes.now }

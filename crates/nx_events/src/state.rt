@@ -194,6 +194,7 @@ impl Pending {
     }
 
     /// The run behind one more token of bytes that stand for themselves.
+    #[inline(always)]
     pub(crate) fn join_plain(&mut self, bytes: &[u8]) -> Result<(), NoMemory>
         requires room { run_back self.old + length bytes.now < 2 ^ 64 }
         requires plain { StandsForItself bytes.now }
