@@ -90,13 +90,13 @@ fn behind_attributes<M: Matcher>(
     matcher: &mut M,
     memory: &mut Items,
     in_tag: &M::State,
-    attributes: &Option<PlainAttributes<'_>>,
+    attributes: Option<&PlainAttributes<'_>>,
 ) -> Result<Option<M::State>, NoMemory>
     requires state { M.is_state matcher.old in_tag.now }
-    requires text { AreTexts (listed_if attributes.now) }
+    requires text { AreTexts (listed_if (option_copied attributes)) }
     ensures later { M.later matcher.old matcher.new }
     ensures gives { IfOk result (Answers (M.is_state matcher.new) (M.means matcher.new)
-        (behind_attributes (listed_if attributes.now) (M.means matcher.old in_tag.now))) }
+        (behind_attributes (listed_if (option_copied attributes.entry)) (M.means matcher.old in_tag.now))) }
     ensures memory { memory.new ≡ memory.old }
 {
     let Some(some) = attributes else {
@@ -120,13 +120,13 @@ fn inside_of<M: Matcher>(
     memory: &mut Items,
     here: &M::State,
     name: &Name,
-    attributes: &Option<PlainAttributes<'_>>,
+    attributes: Option<&PlainAttributes<'_>>,
 ) -> Result<Option<M::State>, NoMemory>
     requires here { M.is_state matcher.old here.now }
-    requires text { AreTexts (listed_if attributes.now) }
+    requires text { AreTexts (listed_if (option_copied attributes)) }
     ensures later { M.later matcher.old matcher.new }
     ensures gives { IfOk result (Answers (M.is_state matcher.new) (M.means matcher.new)
-        (inside_of (M.language matcher.old) name.now (listed_if attributes.now) (M.means matcher.old here.now))) }
+        (inside_of (M.language matcher.old) name.now (listed_if (option_copied attributes.entry)) (M.means matcher.old here.now))) }
     ensures memory { memory.new ≡ memory.old }
 {
     match matcher.enter(alloc, here, name)? {
@@ -148,14 +148,14 @@ fn behind_start<M: Matcher>(
     here: &M::State,
     run: Option<&[u8]>,
     name: &Name,
-    attributes: &Option<PlainAttributes<'_>>,
+    attributes: Option<&PlainAttributes<'_>>,
 ) -> Result<Option<M::State>, NoMemory>
     requires here { M.is_state matcher.old here.now }
     requires text { IfSome (option_copied run) IsUtf8 }
-    requires values { AreTexts (listed_if attributes.now) }
+    requires values { AreTexts (listed_if (option_copied attributes)) }
     ensures later { M.later matcher.old matcher.new }
     ensures gives { IfOk result (Answers (M.is_state matcher.new) (M.means matcher.new)
-        (behind_run (option_copied run.entry) (inside_of (M.language matcher.old) name.now (listed_if attributes.now)) (M.means matcher.old here.now))) }
+        (behind_run (option_copied run.entry) (inside_of (M.language matcher.old) name.now (listed_if (option_copied attributes.entry))) (M.means matcher.old here.now))) }
     ensures memory { memory.new ≡ memory.old }
 {
     let Some(text) = run else {
@@ -207,14 +207,14 @@ fn take_start<M: Matcher>(
     name: &mut Name,
     state: &mut RecoverState<M::State>,
     written: &[u8],
-    attributes: &Option<PlainAttributes<'_>>,
+    attributes: Option<&PlainAttributes<'_>>,
 ) -> Result<bool, NoMemory>
     requires states { AreStates (M.is_state matcher.old) (view_of state.old.levels) }
     requires text { StateIsText state.old.events }
-    requires values { AreTexts (listed_if attributes.now) }
+    requires values { AreTexts (listed_if (option_copied attributes)) }
     ensures later { M.later matcher.old matcher.new }
     ensures taken { IfOk result (λ taken. taken ≡ true → (token : Token) →
-        IsPlainOpening state.old.events token written.now (listed_if attributes.now) →
+        IsPlainOpening state.old.events token written.now (listed_if (option_copied attributes.entry)) →
         IsAdmitted (M.is_state matcher.new) (M.means matcher.old) (M.means matcher.new) (M.language matcher.old) state.old state.new token) }
     ensures stays { IfOk result (λ taken. taken ≡ false → state.new ≡ state.old) }
     ensures same_events { OnErr result (state.new.events ≡ state.old.events) }
@@ -263,7 +263,6 @@ fn take_opening<M: Matcher>(
     let Some(tag) = plain_opening(&state.events, token) else {
         return Ok(false);
     };
-    let attributes = Some(tag.attributes);
     take_start(
         alloc,
         matcher,
@@ -271,7 +270,7 @@ fn take_opening<M: Matcher>(
         name,
         state,
         tag.written,
-        &attributes,
+        Some(&tag.attributes),
     )
 }
 
@@ -349,7 +348,7 @@ pub fn step_plain<M: Matcher>(
 {
     match token.kind {
         TokenKind::Start => match plain_start(&state.events, token) {
-            Some(written) => take_start(alloc, matcher, memory, name, state, written, &None),
+            Some(written) => take_start(alloc, matcher, memory, name, state, written, None),
             None => take_opening(alloc, matcher, memory, name, state, token),
         },
         TokenKind::End => {
