@@ -29,7 +29,7 @@ mod plain;
 mod qname;
 mod reading;
 mod reference;
-mod short_bytes;
+pub mod short_bytes;
 mod tag;
 mod token_fault;
 mod utf8;

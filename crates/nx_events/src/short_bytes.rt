@@ -7,11 +7,11 @@ use crate::few_bytes::copy_to_front;
 use std::marker::Model;
 
 /// So many bytes at most stand in the value itself.
-pub(crate) const SHORT: usize = 16;
+pub const SHORT: usize = 16;
 
 /// Few bytes, in the value itself. To a contract they are the bytes.
 #[derive(Drop)]
-pub(crate) struct ShortBytes {
+pub struct ShortBytes {
     /// The bytes, and behind them anything.
     memory: [u8; SHORT],
     len: usize,
@@ -29,7 +29,7 @@ impl Model for ShortBytes {
 
 impl ShortBytes {
     /// No bytes.
-    pub(crate) fn new() -> ShortBytes
+    pub fn new() -> ShortBytes
         ensures { result ≡ [] }
     {
         ShortBytes {
@@ -39,14 +39,14 @@ impl ShortBytes {
     }
 
     /// The bytes.
-    pub(crate) fn as_slice(&self) -> &[u8]
+    pub fn as_slice(&self) -> &[u8]
         ensures { result.now ≡ self.now }
     {
         &self.memory[..self.len]
     }
 
     /// Puts a copy of these bytes in the place of what is there.
-    pub(crate) fn fill(&mut self, bytes: &[u8])
+    pub fn fill(&mut self, bytes: &[u8])
         requires { length bytes.now ≤ SHORT }
         ensures { self.new ≡ bytes.now }
     {
@@ -57,7 +57,7 @@ impl ShortBytes {
 
     /// The same bytes.
     #[inline(always)]
-    pub(crate) fn duplicate(&self) -> ShortBytes
+    pub fn duplicate(&self) -> ShortBytes
         ensures { result ≡ self.now }
     {
         ShortBytes {

@@ -20,6 +20,7 @@ pub mod Admitting
 pub mod Aside
 pub mod PlainSteps
 pub mod Machine
+pub mod OpenNames
 -- ---- proofs of the laws that the machine hands on, which have to stand here
 pub mod Later
 pub mod MachineLaws

@@ -1,0 +1,10 @@
+-- Where the name of an open element stands is no part of the name.
+use Rattle.std.specs.Prelude.{[]}
+use Rattle.nx_base.specs.declared.name.Name.{Name}
+use Rattle.nx_recover.specs.declared.open_name.Held.{Held}
+use Rattle.nx_recover.specs.declared.open_name.Held.TheVariants.{Short, Shared}
+
+-- the name, wherever it stands
+abbrev pub name_of : Held → Name
+name_of (Short local) = record { ns = []; local = local }
+name_of (Shared name) = record { ns = name.value.ns; local = name.value.local }
