@@ -1,5 +1,5 @@
 -- What is at hand, while answers are put.
-use Rattle.std.proofs.Common.{◌≡◌, ◌⊎◌, ◌<◌, inl, inr, ⊎_elim, ℕ, zero, suc, List, [], ◌∷◌, ◌++◌, length, refl, sym, ap, ◌∙◌, subst, arith, Option, Some, None, Bool, true, false, not, cond, IfSome, replicate, slice_get, slice_index_or, slice_set}
+use Rattle.std.proofs.Common.{◌≡◌, ◌⊎◌, ◌<◌, ◌≤◌, inl, inr, ⊎_elim, ℕ, zero, suc, List, [], ◌∷◌, ◌++◌, length, refl, sym, ap, ◌∙◌, subst, arith, Option, Some, None, Bool, true, false, not, cond, IfSome, replicate, slice_get, slice_index_or, slice_set}
 use Rattle.std.specs.Map.{lookup}
 use Rattle.std.specs.Option.{option_eq}
 use Rattle.std.specs.Prelude.{eqb, ◌&&◌}
@@ -11,9 +11,10 @@ use Rattle.deriv_memory.specs.declared.at_hand.AtHand.{AtHand}
 use Rattle.deriv_memory.specs.declared.at_hand.Row.{Row}
 use Rattle.deriv_memory.specs.declared.at_hand.Slot.{Slot}
 use Rattle.deriv_memory.specs.declared.block.Block.{Block}
+use Rattle.deriv_memory.specs.declared.block.Owner.{Owner}
 use Rattle.deriv_memory.specs.Calls.{form_of, state_of, ns_of, local_of, same_asked, by_parts, calls_decided}
-use Rattle.deriv_memory.specs.AtHand.{said, free_row, free_slot, free_block, is_named, is_block, is_slot, number_for, number_in, row_with, row_says, slot_of}
-use Rattle.deriv_memory.specs.AtHand.{AreNoted, BlockHolds, BlockSays, HoldNoMore, HoldOneMore, HoldThisMore, IsFree, ReadAlike, SayOneMore, SayThisMore, SlotHolds}
+use Rattle.deriv_memory.specs.AtHand.{said, free_row, free_slot, free_block, free_owner, is_named, is_owner, is_slot, number_for, number_in, row_with, row_says, slot_of}
+use Rattle.deriv_memory.specs.AtHand.{AreNoted, BlockHolds, BlockSays, HoldNoMore, HoldOneMore, HoldThisMore, IsFree, IsPut, ReadAlike, SayOneMore, SlotHolds}
 
 -- ---- lists with free places
 
@@ -146,69 +147,103 @@ got (y ∷ ys) (suc i) x free e = got ys i x free e
 
 -- where one item is put last, it is at one place, and each other is what it was
 pushed_read : {A : Type 0} (xs : List A) (y free : A) (i : ℕ)
-    → (slice_index_or (xs ++ y ∷ []) i free ≡ y) ⊎ (slice_index_or (xs ++ y ∷ []) i free ≡ slice_index_or xs i free)
-pushed_read [] y free zero = inl refl
+    → ((i ≡ length xs) × (slice_index_or (xs ++ y ∷ []) i free ≡ y)) ⊎ (slice_index_or (xs ++ y ∷ []) i free ≡ slice_index_or xs i free)
+pushed_read [] y free zero = inl (refl, refl)
 pushed_read [] y free (suc i) = inr refl
 pushed_read (x ∷ xs) y free zero = inr refl
-pushed_read (x ∷ xs) y free (suc i) = pushed_read xs y free i
+pushed_read (x ∷ xs) y free (suc i) = ⊎_elim (λ here. inl (ap suc here.0, here.1)) (λ other. inr other) (pushed_read xs y free i)
+
+beyond : {A : Type 0} (xs : List A) (i : ℕ) (free : A) → length xs ≤ i → slice_index_or xs i free ≡ free
+beyond [] i free there = refl
+beyond (x ∷ xs) zero free there = absurd (omega (arith, there))
+beyond (x ∷ xs) (suc i) free there = beyond xs i free (omega (arith, there))
 
 pub free_numbers : (n local free : ℕ) → slice_index_or (replicate n free) local free ≡ free
 free_numbers zero local free = refl
 free_numbers (suc n) zero free = refl
 free_numbers (suc n) (suc local) free = free_numbers n local free
 
--- a block in which nothing stands holds nothing more
-pub block_pushed : (blocks : List Block) (block : Block) → IsFree block → HoldNoMore blocks (blocks ++ block ∷ [])
-block_pushed blocks block free = λ other kept held.
-    let P : Block → Type 0 = λ b. BlockSays b other kept in
+-- a number that is put
+pub number_put : (block : Block) (local n i : ℕ)
+    → ((i ≡ local) × (slice_index_or (slice_set block.answers local n) i 0 ≡ n)) ⊎ (slice_index_or (slice_set block.answers local n) i 0 ≡ number_for block i)
+number_put block local n i = set_read block.answers local i n 0
+
+free_says : (owner : Owner) (block : Block) (call : Asked) (answer : Option ℕ) → IsFree block → BlockSays owner block call answer → ⊥
+free_says owner block call answer free says = let two : None ≡ Some answer = sym (ap said (free (local_of call))) ∙ says.says in cc
+
+-- one more owner, and one more block in which nothing stands, hold nothing more
+pub block_pushed : (owners more : List Owner) (blocks larger : List Block) (owner : Owner) (block : Block) → length blocks ≤ length owners → IsFree block
+    → more ≡ owners ++ owner ∷ [] → larger ≡ blocks ++ block ∷ [] → (other : Asked) (kept : Option ℕ)
+    → (place : ℕ) × BlockSays (slice_index_or more place free_owner) (slice_index_or larger place free_block) other kept
+    → (place : ℕ) × BlockSays (slice_index_or owners place free_owner) (slice_index_or blocks place free_block) other kept
+block_pushed owners more blocks larger owner block fewer free one other_one other kept held =
+    let i = held.0 in
+    let Says : Owner → Block → Type 0 = λ o b. BlockSays o b other kept in
+    let now = slice_index_or more i free_owner in
+    let says : Says now (slice_index_or blocks i free_block) = ⊎_elim
+    (λ here. absurd (free_says now block other kept free
+    (subst (λ b. Says now b) (ap (λ bs. slice_index_or bs i free_block) other_one ∙ here.1) held.1)))
+    (λ before. subst (λ b. Says now b) (ap (λ bs. slice_index_or bs i free_block) other_one ∙ before) held.1)
+    (pushed_read blocks block free_block i) in
     ⊎_elim
     (λ here.
-    let says : BlockSays block other kept = subst P here held.here in
-    let two : None ≡ Some kept = sym (ap said (free (local_of other))) ∙ says.says in cc)
-    (λ before. record { place = held.place; here = subst P before held.here })
-    (pushed_read blocks block free_block held.place)
+    let none : slice_index_or blocks i free_block ≡ free_block = beyond blocks i free_block (omega (arith, fewer, here.0)) in
+    absurd (free_says now free_block other kept (λ local. refl) (subst (λ b. Says now b) none says)))
+    (λ before. (i, subst (λ o. Says o (slice_index_or blocks i free_block)) (ap (λ os. slice_index_or os i free_owner) one ∙ before) says))
+    (pushed_read owners owner free_owner i)
 
-owner_is : (block : Block) (s n : ℕ) → is_block block s n ≡ true → (block.state ≡ s) × (block.ns ≡ n)
-owner_is block s n owner =
-    let parts = and_parts (eqb block.state s) (eqb block.ns n) owner in
-    ((Decides-eqb block.state s).0 parts.0, (Decides-eqb block.ns n).0 parts.1)
+owner_is : (owner : Owner) (s n : ℕ) → is_owner owner s n ≡ true → (owner.state ≡ s) × (owner.ns ≡ n)
+owner_is owner s n its =
+    let parts = and_parts (eqb owner.state s) (eqb owner.ns n) its in
+    ((Decides-eqb owner.state s).0 parts.0, (Decides-eqb owner.ns n).0 parts.1)
 
--- a block in which one number is put, of a call that is its own
-pub number_put : (block new : Block) (call : Asked) (n : ℕ) → form_of call ≡ 0 → is_block block (state_of call) (ns_of call) ≡ true
-    → new ≡ (record { state = block.state; ns = block.ns; answers = slice_set block.answers (local_of call) n })
-    → (answer : Option ℕ) → said n ≡ Some answer → SayThisMore block new call answer
-number_put block new call n enters owner is answer told = λ other kept held.
-    let P : Block → Type 0 = λ b. BlockSays b other kept in
-    let says = subst P is held in
-    let own = owner_is block (state_of call) (ns_of call) owner in
-    let its = owner_is block (state_of other) (ns_of other) says.owner in
+-- a block in which one number is put, of a call that is its owner's
+said_of : (owner : Owner) (block new : Block) (call : Asked) (n : ℕ) → form_of call ≡ 0 → is_owner owner (state_of call) (ns_of call) ≡ true
+    → IsPut block new (local_of call) n → (answer : Option ℕ) → said n ≡ Some answer
+    → (other : Asked) (kept : Option ℕ) → BlockSays owner new other kept → ((other ≡ call) × (kept ≡ answer)) ⊎ BlockSays owner block other kept
+said_of owner block new call n enters owned put answer told other kept says =
+    let own = owner_is owner (state_of call) (ns_of call) owned in
+    let its = owner_is owner (state_of other) (ns_of other) says.its in
     ⊎_elim
     (λ here. inl (
       by_parts other call (says.enters ∙ sym enters) (sym its.0 ∙ own.0) (sym its.1 ∙ own.1) here.0,
       let two : Some kept ≡ Some answer = sym says.says ∙ (ap said here.1 ∙ told) in cc,
     ))
-    (λ same. inr (record { enters = says.enters; owner = says.owner; says = sym (ap said same) ∙ says.says }))
-    (set_read block.answers (local_of call) (local_of other) n 0)
+    (λ same. inr (record { enters = says.enters; its = says.its; says = sym (ap said same) ∙ says.says }))
+    (put (local_of other))
 
 -- and blocks of which that is one
-pub block_put : (blocks : List Block) (i : ℕ) (block after : Block) (call : Asked) (answer : Option ℕ) → slice_get blocks i ≡ Some block
-    → SayThisMore block after call answer → HoldThisMore blocks (slice_set blocks i after) call answer
-block_put blocks i block after call answer there more = λ other kept held.
-    let P : Block → Type 0 = λ b. BlockSays b other kept in
+pub block_put : (old new : AtHand) (i : ℕ) (block after : Block) (call : Asked) (n : ℕ) → form_of call ≡ 0
+    → is_owner (slice_index_or old.owners.items i free_owner) (state_of call) (ns_of call) ≡ true → slice_get old.blocks.items i ≡ Some block
+    → IsPut block after (local_of call) n → new.owners.items ≡ old.owners.items → new.blocks.items ≡ slice_set old.blocks.items i after
+    → (answer : Option ℕ) → said n ≡ Some answer → HoldThisMore old new call answer
+block_put old new i block after call n enters owned there put owners blocks answer told = λ other kept held.
+    let j = held.0 in
+    let Says : Owner → Block → Type 0 = λ o b. BlockSays o b other kept in
+    let o = slice_index_or old.owners.items j free_owner in
+    let is : Says o (slice_index_or (slice_set old.blocks.items i after) j free_block) =
+    subst (λ os. Says (slice_index_or os j free_owner) (slice_index_or (slice_set old.blocks.items i after) j free_block)) owners
+    (subst (λ bs. Says (slice_index_or new.owners.items j free_owner) (slice_index_or bs j free_block)) blocks held.1) in
     ⊎_elim
-    (λ here. ⊎_elim (λ one. inl one)
-    (λ before. inr (record { place = i; here = subst P (sym (got blocks i block free_block there)) before }))
-    (more other kept (subst P here.1 held.here)))
-    (λ same. inr (record { place = held.place; here = subst P same held.here }))
-    (set_read blocks i held.place after free_block)
+    (λ here.
+    let at : o ≡ slice_index_or old.owners.items i free_owner = ap (λ k. slice_index_or old.owners.items k free_owner) here.0 in
+    ⊎_elim (λ one. inl one)
+    (λ before. inr (i, subst (λ b. Says (slice_index_or old.owners.items i free_owner) b) (sym (got old.blocks.items i block free_block there)) before))
+    (said_of (slice_index_or old.owners.items i free_owner) block after call n enters owned put answer told other kept
+    (subst (λ x. Says x after) at (subst (λ b. Says o b) here.1 is))))
+    (λ same. inr (j, subst (λ b. Says o b) same is))
+    (set_read old.blocks.items i j after free_block)
 
 -- the block of the call with these numbers says its answer
-pub block_says : (blocks : List Block) (i : ℕ) (block : Block) (state ns local : ℕ) (r : Option (Option ℕ)) → slice_get blocks i ≡ Some block
-    → is_block block state ns ≡ true → r ≡ said (number_for block local) → IfSome r (BlockHolds blocks (calls.Enter state ns local))
-block_says blocks i block state ns local None there owner says = tt
-block_says blocks i block state ns local (Some answer) there owner says =
-    let P : Block → Type 0 = λ b. BlockSays b (calls.Enter state ns local) answer in
-    record { place = i; here = subst P (sym (got blocks i block free_block there)) (record { enters = refl; owner = owner; says = sym says }) }
+pub block_says : (hand : AtHand) (i : ℕ) (block : Block) (state ns local : ℕ) (r : Option (Option ℕ)) → slice_get hand.blocks.items i ≡ Some block
+    → is_owner (slice_index_or hand.owners.items i free_owner) state ns ≡ true → r ≡ said (number_for block local)
+    → IfSome r (BlockHolds hand (calls.Enter state ns local))
+block_says hand i block state ns local None there owner says = tt
+block_says hand i block state ns local (Some answer) there owner says = (
+  i,
+  subst (λ b. BlockSays (slice_index_or hand.owners.items i free_owner) b (calls.Enter state ns local) answer)
+      (sym (got hand.blocks.items i block free_block there)) (record { enters = refl; its = owner; says = sym says }),
+)
 
 -- ---- one after the other
 
@@ -220,7 +255,7 @@ pub then_one_more : (old mid new : List Slot) (call : Asked) (answer : Option �
     → HoldOneMore old new call answer
 then_one_more old mid new call answer alike more = λ other kept held. ⊎_elim (λ one. inl one) (λ was. alike_slots old mid call answer alike other kept was) (more other kept held)
 
-pub then_no_more : (old mid new : List Block) (call : Asked) (answer : Option ℕ) → HoldThisMore old mid call answer → HoldNoMore mid new
+pub then_no_more : (old mid new : AtHand) (call : Asked) (answer : Option ℕ) → HoldThisMore old mid call answer → HoldNoMore mid new
     → HoldThisMore old new call answer
 then_no_more old mid new call answer more none = λ other kept held. more other kept (none other kept held)
 
@@ -228,7 +263,7 @@ then_no_more old mid new call answer more none = λ other kept held. more other 
 
 -- where lists read alike
 pub noted_still : (answers : List (Asked × Option ℕ)) (old new : AtHand) → ReadAlike free_row old.rows.items new.rows.items
-    → ReadAlike free_slot old.slots.items new.slots.items → HoldNoMore old.blocks.items new.blocks.items → AreNoted answers old → AreNoted answers new
+    → ReadAlike free_slot old.slots.items new.slots.items → HoldNoMore old new → AreNoted answers old → AreNoted answers new
 noted_still answers old new rows slots blocks right = record {
   rows = λ call plain. right.rows call plain ∙ sym (ap (λ r. said (number_in r call)) (rows (state_of call)));
   slots = λ call answer held named.
@@ -259,7 +294,7 @@ pub noted_plain : (before after : List (Asked × Option ℕ)) (old new : AtHand)
     → said n ≡ Some answer
     → ((other : Asked) → lookup (same_asked other) after ≡ cond (same_asked call other) (Some answer) (lookup (same_asked other) before))
     → SayOneMore old.rows.items new.rows.items call n → ReadAlike free_slot old.slots.items new.slots.items
-    → HoldNoMore old.blocks.items new.blocks.items → AreNoted before old → AreNoted after new
+    → HoldNoMore old new → AreNoted before old → AreNoted after new
 noted_plain before after old new call answer n plain says updates rows slots blocks right = record {
   rows = λ other is.
       updates other
@@ -310,7 +345,7 @@ pub noted_named : (before after : List (Asked × Option ℕ)) (old new : AtHand)
     → ((other : Asked) → lookup (same_asked other) after ≡ cond (same_asked call other) (Some answer) (lookup (same_asked other) before))
     → lookup (same_asked call) after ≡ Some answer → None ≡ lookup (same_asked call) before
     → ReadAlike free_row old.rows.items new.rows.items → HoldOneMore old.slots.items new.slots.items call answer
-    → HoldThisMore old.blocks.items new.blocks.items call answer → AreNoted before old → AreNoted after new
+    → HoldThisMore old new call answer → AreNoted before old → AreNoted after new
 noted_named before after old new call answer named updates here none rows slots blocks right = record {
   rows = rows_apart before after old new call answer named updates rows right;
   slots = λ other kept held is.
@@ -326,8 +361,12 @@ no_slot call answer held =
     let n : 0 ≡ held.number = ap (λ (s : Slot). s.answer) held.here in
     let two : None ≡ Some answer = ap said n ∙ held.says in cc
 
-no_block : (call : Asked) (answer : Option ℕ) → BlockHolds [] call answer → ⊥
-no_block call answer held = let two : None ≡ Some answer = held.here.says in cc
+no_block : (hand : AtHand) (call : Asked) (answer : Option ℕ) → hand.blocks.items ≡ [] → BlockHolds hand call answer → ⊥
+no_block hand call answer empty held =
+    let i = held.0 in
+    let o = slice_index_or hand.owners.items i free_owner in
+    free_says o free_block call answer (λ local. refl)
+    (subst (λ bs. BlockSays o (slice_index_or bs i free_block) call answer) empty held.1)
 
 -- and where another was noted before, and nothing is in a block or a slot
 pub noted_anew : (before after : List (Asked × Option ℕ)) (old new : AtHand) (call : Asked) (answer : Option ℕ) → is_named call ≡ true
@@ -336,7 +375,7 @@ pub noted_anew : (before after : List (Asked × Option ℕ)) (old new : AtHand) 
 noted_anew before after old new call answer named updates rows none empty right = record {
   rows = rows_apart before after old new call answer named updates rows right;
   slots = λ other kept held is. let P : List Slot → Type 0 = λ ss. SlotHolds ss other kept in absurd (no_slot other kept (subst P none held));
-  blocks = λ other kept held is. let P : List Block → Type 0 = λ bs. BlockHolds bs other kept in absurd (no_block other kept (subst P empty held));
+  blocks = λ other kept held is. absurd (no_block new other kept empty held);
 }
 
 same_answer : (a b : Option ℕ) → option_eq eqb a b ≡ true → a ≡ b
@@ -373,7 +412,7 @@ pub none_noted : (answers : List (Asked × Option ℕ)) (hand : AtHand) → answ
 none_noted answers hand none rows slots blocks = record {
   rows = λ call plain. ap (λ l. lookup (same_asked call) l) none ∙ (nothing call ∙ sym (ap (λ rs. row_says rs call) rows));
   slots = λ call answer held named. let P : List Slot → Type 0 = λ ss. SlotHolds ss call answer in absurd (no_slot call answer (subst P slots held));
-  blocks = λ call answer held named. let P : List Block → Type 0 = λ bs. BlockHolds bs call answer in absurd (no_block call answer (subst P blocks held));
+  blocks = λ call answer held named. absurd (no_block hand call answer blocks held);
 }
   where
     nothing : (call : Asked) → None ≡ row_says [] call

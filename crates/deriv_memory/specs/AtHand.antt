@@ -5,6 +5,7 @@ use Rattle.deriv_memory.specs.declared.asked.Asked.TheVariants as calls
 use Rattle.deriv_memory.specs.declared.at_hand.AtHand.{AtHand}
 use Rattle.deriv_memory.specs.declared.at_hand.Row.{Row}
 use Rattle.deriv_memory.specs.declared.at_hand.Slot.{Slot}
+use Rattle.deriv_memory.specs.declared.block.Owner.{Owner}
 use Rattle.deriv_memory.specs.declared.block.Block.{Block}
 use Rattle.std.specs.Map.{lookup}
 use Rattle.deriv_memory.specs.Calls.{form_of, state_of, ns_of, local_of, same_asked}
@@ -56,12 +57,15 @@ is_slot slot form state ns local = ((eqb slot.state state && eqb slot.local loca
 
 -- ---- blocks of the starts of elements in a state
 
+abbrev pub free_owner : Owner
+free_owner = record { state = 0; ns = 0 }
+
 abbrev pub free_block : Block
-free_block = record { state = 0; ns = 0; answers = [] }
+free_block = record { answers = [] }
 
 -- whether a block is of the state, for this namespace
-abbrev pub is_block : Block → ℕ → ℕ → Bool
-is_block block state ns = eqb block.state state && eqb block.ns ns
+abbrev pub is_owner : Owner → ℕ → ℕ → Bool
+is_owner owner state ns = eqb owner.state state && eqb owner.ns ns
 
 -- what a block has of a local part
 abbrev pub number_for : Block → ℕ → ℕ
@@ -71,16 +75,15 @@ number_for block local = slice_index_or block.answers local 0
 abbrev pub IsFree : Block → Type 0
 IsFree block = (local : ℕ) → number_for block local ≡ 0
 
--- a block is of the call, the start of an element, and says this answer
-pub record BlockSays (block : Block) (call : Asked) (answer : Option ℕ) : Type 0 where
-  pub enters : form_of call ≡ 0
-  pub owner : is_block block (state_of call) (ns_of call) ≡ true
-  pub says : said (number_for block (local_of call)) ≡ Some answer
+-- a block says another number of this local part, and of each other what it said
+abbrev pub IsPut : Block → Block → ℕ → ℕ → Type 0
+IsPut old new local number = (i : ℕ) → ((i ≡ local) × (number_for new i ≡ number)) ⊎ (number_for new i ≡ number_for old i)
 
--- what a block says it said before, or it is this answer of this call
-abbrev pub SayThisMore : Block → Block → Asked → Option ℕ → Type 0
-SayThisMore old new call answer =
-    (other : Asked) (kept : Option ℕ) → BlockSays new other kept → ((other ≡ call) × (kept ≡ answer)) ⊎ BlockSays old other kept
+-- the owner's block is of the call, the start of an element, and says this answer
+pub record BlockSays (owner : Owner) (block : Block) (call : Asked) (answer : Option ℕ) : Type 0 where
+  pub enters : form_of call ≡ 0
+  pub its : is_owner owner (state_of call) (ns_of call) ≡ true
+  pub says : said (number_for block (local_of call)) ≡ Some answer
 
 -- ---- what is at hand
 
@@ -101,16 +104,16 @@ HoldOneMore old new call answer =
     (other : Asked) (kept : Option ℕ) → SlotHolds new other kept → ((other ≡ call) × (kept ≡ answer)) ⊎ SlotHolds old other kept
 
 -- some block says this answer of the call
-pub record BlockHolds (blocks : List Block) (call : Asked) (answer : Option ℕ) : Type 0 where
-  pub place : ℕ
-  pub here : BlockSays (slice_index_or blocks place free_block) call answer
+abbrev pub BlockHolds : AtHand → Asked → Option ℕ → Type 0
+BlockHolds hand call answer = (place : ℕ)
+    × BlockSays (slice_index_or hand.owners.items place free_owner) (slice_index_or hand.blocks.items place free_block) call answer
 
 -- what blocks hold was there before
-abbrev pub HoldNoMore : List Block → List Block → Type 0
+abbrev pub HoldNoMore : AtHand → AtHand → Type 0
 HoldNoMore old new = (other : Asked) (kept : Option ℕ) → BlockHolds new other kept → BlockHolds old other kept
 
 -- what blocks hold was there before, or it is this answer of this call
-abbrev pub HoldThisMore : List Block → List Block → Asked → Option ℕ → Type 0
+abbrev pub HoldThisMore : AtHand → AtHand → Asked → Option ℕ → Type 0
 HoldThisMore old new call answer =
     (other : Asked) (kept : Option ℕ) → BlockHolds new other kept → ((other ≡ call) × (kept ≡ answer)) ⊎ BlockHolds old other kept
 
@@ -129,5 +132,5 @@ pub record AreNoted (answers : List (Asked × Option ℕ)) (hand : AtHand) : Typ
   pub rows : (call : Asked) → is_named call ≡ false → lookup (same_asked call) answers ≡ row_says hand.rows.items call
   pub slots : (call : Asked) (answer : Option ℕ) → SlotHolds hand.slots.items call answer → is_named call ≡ true
       → lookup (same_asked call) answers ≡ Some answer
-  pub blocks : (call : Asked) (answer : Option ℕ) → BlockHolds hand.blocks.items call answer → is_named call ≡ true
+  pub blocks : (call : Asked) (answer : Option ℕ) → BlockHolds hand call answer → is_named call ≡ true
       → lookup (same_asked call) answers ≡ Some answer

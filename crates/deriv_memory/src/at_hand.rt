@@ -6,17 +6,17 @@
 //! call and its answer stand where its state and name lead, unless another call came first, and one that is in neither is looked for by
 //! its hash. The memory's invariant says what rows, blocks and slots tell.
 //!
-//! Where a state's block stands is a guess, as a text's number is: whoever takes the block asks whose it is.
+//! Where a state's block stands is a guess, as a text's number is: whoever takes a block asks whose it is.
 
-ghost use Rattle.std.specs.Prelude.{◌≡◌, ◌<◌, ◌≤◌, ℕ, [], length, Option, Some, false, IfSome, IfNone, OnOk, slice_index_or};
+ghost use Rattle.std.specs.Prelude.{◌≡◌, ◌<◌, ◌≤◌, ℕ, [], length, Option, Some, true, false, IfSome, IfNone, OnOk, slice_index_or};
 ghost use Rattle.deriv_memory.specs.declared.asked.Asked.{Asked as TheAsked};
 ghost use Rattle.deriv_memory.specs.declared.asked.Asked.TheVariants as calls;
 ghost use Rattle.deriv_memory.specs.AtHand.{said, BlockHolds, HoldNoMore, HoldOneMore, HoldThisMore, ReadAlike, SayOneMore, SlotHolds};
-ghost use Rattle.deriv_memory.specs.AtHand.{free_row, free_slot, is_named, is_slot, row_says, row_with, slot_of};
+ghost use Rattle.deriv_memory.specs.AtHand.{free_owner, free_row, free_slot, is_named, is_owner, is_slot, row_says, row_with, slot_of};
 ghost use Rattle.deriv_memory.specs.Calls.{form_of, state_of, ns_of, local_of};
 
 use crate::asked::{Asked, BLANK_VALUE, ENTER, SOLID_VALUE};
-use crate::block::Block;
+use crate::block::{Block, Owner};
 use nx_base::memory::NoMemory;
 use std::alloc::Global;
 
@@ -66,6 +66,8 @@ struct Slot {
 #[derive(Drop)]
 pub struct AtHand {
     rows: Vec<Row>,
+    /// Whose each block is.
+    owners: Vec<Owner>,
     blocks: Vec<Block>,
     /// Where the block of each state may stand.
     places: Vec<u16>,
@@ -195,10 +197,12 @@ impl AtHand {
     pub fn new(alloc: Global) -> AtHand
         ensures rows { result.rows.items ≡ [] }
         ensures slots { result.slots.items ≡ [] }
+        ensures owners { result.owners.items ≡ [] }
         ensures blocks { result.blocks.items ≡ [] }
     {
         AtHand {
             rows: Vec::new(alloc),
+            owners: Vec::new(alloc),
             blocks: Vec::new(alloc),
             places: Vec::new(alloc),
             slots: Vec::new(alloc),
@@ -238,8 +242,19 @@ impl AtHand {
 
     // Whether a state has a block.
     fn has_block(&self, state: usize) -> bool {
-        match self.blocks.as_slice().get(self.block_place(state)) {
-            Some(block) => block.is_of_state(state),
+        match self.owners.as_slice().get(self.block_place(state)) {
+            Some(owner) => owner.is_state(state),
+            None => false,
+        }
+    }
+
+    // Whether the block at a place is the state's, for this namespace.
+    #[inline(always)]
+    fn is_owned(&self, place: usize, state: usize, ns: usize) -> bool
+        ensures { result ≡ true → is_owner (slice_index_or self.now.owners.items place free_owner) state ns ≡ true }
+    {
+        match self.owners.as_slice().get(place) {
+            Some(owner) => owner.is(state, ns),
             None => false,
         }
     }
@@ -293,16 +308,14 @@ impl AtHand {
     /// The answer of the start of an element, if it is in the state's block, as most are.
     #[inline(always)]
     pub fn entered_in_block(&self, state: usize, ns: usize, local: usize) -> Option<Option<usize>>
-        ensures { IfSome result (BlockHolds self.now.blocks.items (calls.Enter state ns local)) }
+        ensures { IfSome result (BlockHolds self.now (calls.Enter state ns local)) }
     {
-        match self.blocks.as_slice().get(self.block_place(state)) {
-            Some(block) => {
-                if block.is_of(state, ns) {
-                    block.answer(local)
-                } else {
-                    None
-                }
-            }
+        let place = self.block_place(state);
+        if !self.is_owned(place, state, ns) {
+            return None;
+        }
+        match self.blocks.as_slice().get(place) {
+            Some(block) => block.answer(local),
             None => None,
         }
     }
@@ -334,7 +347,7 @@ impl AtHand {
     pub fn make_row(&mut self, state: usize) -> Result<(), NoMemory>
         ensures rows { ReadAlike free_row self.old.rows.items self.new.rows.items }
         ensures slots { ReadAlike free_slot self.old.slots.items self.new.slots.items }
-        ensures blocks { HoldNoMore self.old.blocks.items self.new.blocks.items }
+        ensures blocks { HoldNoMore self.old self.new }
         ensures room { OnOk result (state < length self.new.rows.items) }
     {
         lengthen(&mut self.rows, state, FREE_ROW)
@@ -344,7 +357,7 @@ impl AtHand {
     pub fn make_places(&mut self, call: &Asked) -> Result<(), NoMemory>
         ensures rows { ReadAlike free_row self.old.rows.items self.new.rows.items }
         ensures slots { ReadAlike free_slot self.old.slots.items self.new.slots.items }
-        ensures blocks { HoldNoMore self.old.blocks.items self.new.blocks.items }
+        ensures blocks { HoldNoMore self.old self.new }
     {
         self.make_slots()?;
         if call.form() == ENTER && !self.has_block(call.state()) {
@@ -357,7 +370,7 @@ impl AtHand {
     fn make_slots(&mut self) -> Result<(), NoMemory>
         ensures rows { ReadAlike free_row self.old.rows.items self.new.rows.items }
         ensures slots { ReadAlike free_slot self.old.slots.items self.new.slots.items }
-        ensures blocks { HoldNoMore self.old.blocks.items self.new.blocks.items }
+        ensures blocks { HoldNoMore self.old self.new }
     {
         if self.slots.is_empty() {
             self.slots.reserve(SLOTS)?;
@@ -369,17 +382,20 @@ impl AtHand {
     fn make_block(&mut self, state: usize, ns: usize) -> Result<(), NoMemory>
         ensures rows { ReadAlike free_row self.old.rows.items self.new.rows.items }
         ensures slots { ReadAlike free_slot self.old.slots.items self.new.slots.items }
-        ensures blocks { HoldNoMore self.old.blocks.items self.new.blocks.items }
+        ensures blocks { HoldNoMore self.old self.new }
     {
-        let place = self.blocks.len();
-        if place >= BLOCKS {
+        let place = self.owners.len();
+        if place >= BLOCKS || place < self.blocks.len() {
             return Ok(());
         }
-        let Some(block) = Block::of(state, ns) else {
+        let Some(owner) = Owner::of(state, ns) else {
             return Ok(());
         };
         lengthen(&mut self.places, state, 0)?;
-        self.blocks.push(block)?;
+        // so that no owner is without a block
+        self.blocks.reserve(1)?;
+        self.owners.push(owner)?;
+        self.blocks.push(Block::new())?;
         if let Some(own) = self.places.get_mut(state) {
             *own = place as u16;
         }
@@ -393,6 +409,7 @@ impl AtHand {
         ensures blocks { self.new.blocks.items ≡ [] }
     {
         self.slots.clear();
+        self.owners.clear();
         self.blocks.clear();
     }
 
@@ -402,7 +419,7 @@ impl AtHand {
         requires plain { is_named call.now ≡ false }
         ensures rows { SayOneMore self.old.rows.items self.new.rows.items call.now number }
         ensures slots { ReadAlike free_slot self.old.slots.items self.new.slots.items }
-        ensures blocks { HoldNoMore self.old.blocks.items self.new.blocks.items }
+        ensures blocks { HoldNoMore self.old self.new }
     {
         let state = call.state();
         let row = self.row(state).with(call, number);
@@ -415,7 +432,7 @@ impl AtHand {
         ensures slots { (answer : Option ℕ) → said number ≡ Some answer
             → HoldOneMore self.old.slots.items self.new.slots.items call.now answer }
         ensures blocks { (answer : Option ℕ) → said number ≡ Some answer
-            → HoldThisMore self.old.blocks.items self.new.blocks.items call.now answer }
+            → HoldThisMore self.old self.new call.now answer }
     {
         if !self.put_in_block(call, number) {
             self.put_in_slot(call, number);
@@ -427,11 +444,14 @@ impl AtHand {
         ensures rows { ReadAlike free_row self.old.rows.items self.new.rows.items }
         ensures slots { ReadAlike free_slot self.old.slots.items self.new.slots.items }
         ensures blocks { (answer : Option ℕ) → said number ≡ Some answer
-            → HoldThisMore self.old.blocks.items self.new.blocks.items call.now answer }
+            → HoldThisMore self.old self.new call.now answer }
     {
         let place = self.block_place(call.state());
+        if call.form() != ENTER || !self.is_owned(place, call.state(), call.ns()) {
+            return false;
+        }
         match self.blocks.get_mut(place) {
-            Some(block) => block.put(call, number),
+            Some(block) => block.put(call.local(), number),
             None => false,
         }
     }
@@ -441,7 +461,7 @@ impl AtHand {
         ensures rows { ReadAlike free_row self.old.rows.items self.new.rows.items }
         ensures slots { (answer : Option ℕ) → said number ≡ Some answer
             → HoldOneMore self.old.slots.items self.new.slots.items call.now answer }
-        ensures blocks { HoldNoMore self.old.blocks.items self.new.blocks.items }
+        ensures blocks { HoldNoMore self.old self.new }
     {
         if let Some(slot) = Slot::of(call, number) {
             let place = place(call.form(), call.state(), call.local());

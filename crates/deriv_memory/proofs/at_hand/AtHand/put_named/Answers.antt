@@ -8,5 +8,5 @@ returns-then-not-put_in_block-clause-slots c = λ answer says.
 
 pub returns-then-not-put_in_block-clause-blocks : goal.returns-then-not-put_in_block-clause-blocks
 returns-then-not-put_in_block-clause-blocks c = λ answer says.
-    then_no_more c.args.self.now.blocks.items c.put_in_block.new.self.blocks.items c.put_in_slot.new.self.blocks.items c.args.call.now answer
+    then_no_more c.args.self.now c.put_in_block.new.self c.put_in_slot.new.self c.args.call.now answer
     (c.put_in_block.ensures.blocks answer says) c.put_in_slot.ensures.blocks
