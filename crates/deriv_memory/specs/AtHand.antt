@@ -63,7 +63,7 @@ free_owner = record { state = 0; ns = 0 }
 abbrev pub free_block : Block
 free_block = record { answers = [] }
 
--- whether a block is of the state, for this namespace
+-- whether an owner is this state, for this namespace
 abbrev pub is_owner : Owner → ℕ → ℕ → Bool
 is_owner owner state ns = eqb owner.state state && eqb owner.ns ns
 
@@ -75,7 +75,7 @@ number_for block local = slice_index_or block.answers local 0
 abbrev pub IsFree : Block → Type 0
 IsFree block = (local : ℕ) → number_for block local ≡ 0
 
--- a block says another number of this local part, and of each other what it said
+-- each number of a block is what it was, or it is this one, of this local part
 abbrev pub IsPut : Block → Block → ℕ → ℕ → Type 0
 IsPut old new local number = (i : ℕ) → ((i ≡ local) × (number_for new i ≡ number)) ⊎ (number_for new i ≡ number_for old i)
 

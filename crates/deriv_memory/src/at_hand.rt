@@ -20,8 +20,8 @@ use crate::block::{Block, Owner};
 use nx_base::memory::NoMemory;
 use std::alloc::Global;
 
-/// How many calls with names have a slot: attributes' values, and starts of elements that have no place in a block, are few.
-const SLOTS: usize = 4_096;
+/// How many calls with names have a slot.
+const SLOTS: usize = 16_384;
 
 /// How many states have a block. All blocks take 1 MiB at the most.
 const BLOCKS: usize = 2_048;
@@ -385,6 +385,7 @@ impl AtHand {
         ensures blocks { HoldNoMore self.old self.new }
     {
         let place = self.owners.len();
+        // owners never are fewer than blocks, since both grow here alone
         if place >= BLOCKS || place < self.blocks.len() {
             return Ok(());
         }
@@ -395,8 +396,9 @@ impl AtHand {
         // so that no owner is without a block
         self.blocks.reserve(1)?;
         self.owners.push(owner)?;
-        self.blocks.push(Block::new())?;
+        self.blocks.push_reserved(Block::new());
         if let Some(own) = self.places.get_mut(state) {
+            // there are fewer blocks than 16 bits count
             *own = place as u16;
         }
         Ok(())

@@ -1,11 +1,11 @@
 //! The starts of elements in one state: which state each name of one namespace leads to.
 
-ghost use Rattle.std.specs.Prelude.{◌≡◌, ℕ, IfSome, Option, Some};
+ghost use Rattle.std.specs.Prelude.{◌≡◌, ℕ, IfSome, Option, Some, true};
 ghost use Rattle.deriv_memory.specs.AtHand.{said, IsFree, IsPut, is_owner, number_for};
 
 use crate::at_hand::read;
 
-/// How many names have a place: with these a block has 512 bytes.
+/// How many numbers of local parts have a place: with these a block has 512 bytes.
 const NAMES: usize = 256;
 
 /// Whose a block is: which state's, and for which namespace. Owners stand apart from their blocks, so that many share a cache line.
@@ -24,7 +24,9 @@ pub(crate) struct Block {
 
 impl Owner {
     /// An owner with these numbers; none where one is too large.
-    pub(crate) fn of(state: usize, ns: usize) -> Option<Owner> {
+    pub(crate) fn of(state: usize, ns: usize) -> Option<Owner>
+        ensures { IfSome result (λ owner. is_owner owner state ns ≡ true) }
+    {
         let state = u32::try_from(state).ok()?;
         let ns = u32::try_from(ns).ok()?;
         Some(Owner { state, ns })
@@ -67,7 +69,8 @@ impl Block {
 
     /// From now on this number is the answer for a name, if both have room here. Says whether they have.
     pub(crate) fn put(&mut self, local: usize, number: u32) -> bool
-        ensures { IsPut self.old self.new local number }
+        ensures put { IsPut self.old self.new local number }
+        ensures there { result ≡ true → number_for self.new local ≡ number }
     {
         let Ok(narrow) = u16::try_from(number) else {
             return false;

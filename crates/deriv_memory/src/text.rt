@@ -1,5 +1,5 @@
 //! Whether two texts are equal, told by few loads: names are short, and the end of a loop over their bytes would be a branch that
-//! nothing foretells.
+//! no processor foresees.
 
 ghost use Rattle.std.specs.Prelude.{◌≡◌, ◌↔◌, ◌+◌, ◌≤◌, IsTrue, length, take, drop};
 
@@ -25,12 +25,12 @@ fn same_lanes<const N: usize>(a: &[u8], b: &[u8], at: usize) -> bool
     lanes.simd_ne(others).to_bitmask() == 0
 }
 
-// Whether two texts are equal whose length is one, N bytes at least and twice as many at most: so the first N bytes and the last N,
+// Whether two texts of one length are equal, of N bytes at least and twice as many at most: so the first N bytes and the last N,
 // which may share some, are all of them.
 #[inline(always)]
 fn same_ends<const N: usize>(a: &[u8], b: &[u8]) -> bool
     requires lanes { N ≤ 64 }
-    requires one { length a.now ≡ length b.now }
+    requires same_len { length a.now ≡ length b.now }
     requires enough { N ≤ length a.now }
     requires covered { length a.now ≤ N + N }
     ensures { IsTrue result ↔ (a.now ≡ b.now) }

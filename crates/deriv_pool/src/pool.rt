@@ -156,6 +156,8 @@ impl Matcher for Pool {
         answer(alloc, &mut self.states, &Step::AttributeAny(name), *s)
     }
 
+    // Most tokens ask this or `chars`, and what is noted is told in few steps.
+    #[inline(always)]
     fn tag_end(&mut self, alloc: Global, s: &PoolState) -> Result<Option<PoolState>, NoMemory> {
         let defs = self.schema.grammar().defs.as_slice();
         match recalled_tag_end(&self.states, &self.memory, defs, *s) {
@@ -172,6 +174,7 @@ impl Matcher for Pool {
         required_names(alloc, &self.states, s.number)
     }
 
+    #[inline(always)]
     fn chars(
         &mut self,
         alloc: Global,

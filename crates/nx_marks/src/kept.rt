@@ -95,12 +95,12 @@ impl<S: Drop> Kept<S> {
         }
     }
 
-    /// Drops what is left of the marks that the last edit let go, where the frontier is at this place.
-    pub(crate) fn drop_gone_at(&mut self, end: usize)
+    /// Drops what is left of the marks that an edit took out, if reading is over.
+    pub(crate) fn drop_rest(&mut self, is_over: bool)
         ensures { self.new ≡ self.old }
     {
-        if self.frontier() == end {
-            self.line.drop_gone();
+        if is_over {
+            self.line.drop_rest();
         }
     }
 

@@ -41,8 +41,9 @@ pub struct Line<S> {
     /// Whether a mark stands at the frontier.
     pub(crate) marked: bool,
     pub(crate) aside: Tree<S>,
-    /// Marks that the last edit let go. They go one by one as marks are made, so that a new one stands in memory that was just looked at.
-    gone: Tree<S>,
+    /// Marks that the last edit took out which took out any. They are dropped one by one as marks are made, so that a new one stands in
+    /// memory that was just looked at, and the rest where reading ends.
+    to_drop: Tree<S>,
     /// What was drawn for the last mark that was made.
     lot: u32,
 }
@@ -64,7 +65,7 @@ fn next_lot(lot: u32) -> u32 {
 }
 
 /// The weight of a mark that is put behind so many. Marks that come one after another get ranks like the lines of a ruler (every second
-/// line is longer than those next to it, and so again of those that are longer), which makes a tree of them level; within a rank the lot
+/// line is longer than those next to it, and so again of those that are longer), which makes a tree of them balanced; within a rank the lot
 /// decides.
 fn weight_of(count: usize, lot: u32) -> u16 {
     let rank = count.trailing_ones().min(15);
@@ -104,7 +105,7 @@ impl<S: Drop> Line<S> {
             },
             marked: true,
             aside: Tree::empty(),
-            gone: Tree::empty(),
+            to_drop: Tree::empty(),
             lot: 0,
         }
     }
@@ -239,7 +240,7 @@ impl<S: Drop> Line<S> {
         clear(&mut self.here.faults);
     }
 
-    /// Drops the marks aside up to a place; the first of them lies at `next`. Where the first that stays lies.
+    /// Takes out the marks aside up to a place, to be dropped; the first of them lies at `next`. Where the first that stays lies.
     fn drop_between(&mut self, next: usize, to: usize) -> usize
         requires { next + reach self.old.aside < 2 ^ 64 }
         ensures { DropsBetween next to self.old self.new result }
@@ -252,7 +253,7 @@ impl<S: Drop> Line<S> {
         let kept = self.aside.split_off(count);
         let gone = mem::replace(&mut self.aside, kept);
         let passed = gone.reach();
-        drop(mem::replace(&mut self.gone, gone));
+        drop(mem::replace(&mut self.to_drop, gone));
         next + passed
     }
 
@@ -342,11 +343,11 @@ impl<S: Drop> Line<S> {
         self.here.len = count;
     }
 
-    /// Drops what is left of the marks that the last edit let go.
-    pub(crate) fn drop_gone(&mut self)
+    /// Drops what is left of the marks that an edit took out.
+    pub(crate) fn drop_rest(&mut self)
         ensures { self.new ≡ self.old }
     {
-        drop(mem::replace(&mut self.gone, Tree::empty()));
+        drop(mem::replace(&mut self.to_drop, Tree::empty()));
     }
 
     /// Goes on to the end of the row that begins with the mark at hand.
@@ -553,7 +554,7 @@ impl<S: Drop> Line<S> {
             whole: true,
             saved: true,
         };
-        self.gone.drop_first();
+        self.to_drop.drop_first();
         let lot = next_lot(self.lot);
         let weight = weight_of(self.front.count(), lot);
         self.front.push(Single::new(alloc, mark, weight)?);

@@ -338,13 +338,11 @@ impl<A: Machine> Marks<A> {
             steps,
         );
         self.taken = taken;
-        self.kept.drop_gone_at(text.len());
         done
     }
 
-    /// Takes `n` tokens, or all that are left where there are fewer. Where the frontier reaches a mark aside in a state that means
-    /// the same, the row of that mark is valid again, and the frontier goes on to its end without tokens.
-    pub fn slice<L: Ledger>(
+    /// Takes `n` tokens, or all that are left, and joins rows; marks that an edit took out may be left.
+    fn take_up_to<L: Ledger>(
         &mut self,
         machine: &mut A,
         text: &Text,
@@ -378,6 +376,37 @@ impl<A: Machine> Marks<A> {
             self.go_on(machine, text, steps)?;
         }
         Ok(())
+    }
+
+    /// Takes `n` tokens, or all that are left where there are fewer. Where the frontier reaches a mark aside in a state that means
+    /// the same, the row of that mark is valid again, and the frontier goes on to its end without tokens.
+    pub fn slice<L: Ledger>(
+        &mut self,
+        machine: &mut A,
+        text: &Text,
+        n: u64,
+        steps: &mut Steps<L>,
+    ) -> Result<(), NoMemory>
+        requires right { IsRight (A.is_state machine.old) (A.means machine.old) (A.rules machine.old) text.now self.old.kept }
+        ensures later { A.later machine.old machine.new }
+        ensures right { IsRight (A.is_state machine.new) (A.means machine.new) (A.rules machine.new) text.now self.new.kept }
+        ensures steps { steps.new ≡ steps.old + self.new.taken }
+        ensures most { self.new.taken ≤ n }
+        ensures frontier { frontier_of self.old.kept ≤ frontier_of self.new.kept }
+        ensures on { OnOk result (MovesOver text.now (frontier_of self.old.kept) self.new.taken (frontier_of self.new.kept)) }
+        ensures enough { OnOk result ((self.new.taken ≡ n) ⊎ (frontier_of self.new.kept ≡ length text.now)) }
+        ensures joined { OnOk result ((count end : ℕ) → WillReach (A.means machine.old) (A.rules machine.old) text.now count end self.old.kept
+            → count ≤ self.new.taken → MovesOver text.now end (self.new.taken - count) (frontier_of self.new.kept)) }
+        ensures few { OnOk result ((count : ℕ) → WillJoin (A.means machine.old) (A.rules machine.old) text.now count self.old.kept
+            → self.new.taken ≤ count) }
+        ensures none_aside { frontier_of self.new.kept ≡ length text.now → self.new.kept.aside ≡ [] }
+        ensures settled { OnOk result ((0 < self.new.kept.here.len) ⊎ (self.new.kept.aside ≡ [])) }
+        ensures keeps { KeepsMarks (A.means machine.old) (A.rules machine.old) text.now self.old.kept self.new.kept }
+    {
+        let done = self.take_up_to(machine, text, n, steps);
+        let is_over = done.is_err() || self.kept.frontier() == text.len();
+        self.kept.drop_rest(is_over);
+        done
     }
 
     /// Takes all tokens that are left, or joins marks aside that lead to the end.

@@ -1,6 +1,6 @@
 //! Trees of marks, put together and parted.
 
-ghost use Rattle.std.specs.Prelude.{◌≡◌, ◌+◌, ◌<◌, ◌≤◌, ◌^◌, length, [], ◌∷◌, ◌++◌};
+ghost use Rattle.std.specs.Prelude.{◌≡◌, ◌+◌, ◌<◌, ◌≤◌, ◌^◌, length, drop, [], ◌∷◌, ◌++◌};
 ghost use Rattle.nx_marks.specs.Chain.{reach};
 ghost use Rattle.nx_marks.specs.Nodes.{marks_at};
 
@@ -30,8 +30,9 @@ pub(crate) fn parted<S: Drop>(tree: Tree<S>, count: usize) -> (Tree<S>, Tree<S>)
     (summed(node), behind)
 }
 
-/// What is in front of a first node, and that node with its own mark and those behind it in front of a second one's.
-fn put_behind<S: Drop>(mut first: Box<Node<S>>, mut second: Box<Node<S>>) -> (Tree<S>, Box<Node<S>>)
+/// What is in front of a first node, and that node with a second one behind it, to whose front go the marks behind the first: a rotation to
+/// the right where the first was in front of the second.
+fn rotated<S: Drop>(mut first: Box<Node<S>>, mut second: Box<Node<S>>) -> (Tree<S>, Box<Node<S>>)
     requires none { second.value.left ≡ [] }
     requires count { length (marks_at first.value) + length (marks_at second.value) < 2 ^ 32 }
     requires reach { reach (marks_at first.value) + reach (marks_at second.value) < 2 ^ 64 }
@@ -56,7 +57,7 @@ fn first_of<S: Drop>(front: Tree<S>, node: Box<Node<S>>) -> Box<Node<S>>
     let Some(first) = front.root else {
         return node;
     };
-    let (before, first) = put_behind(first, node);
+    let (before, first) = rotated(first, node);
     first_of(before, first)
 }
 
@@ -121,9 +122,11 @@ impl<S: Drop> Tree<S> {
         only(first)
     }
 
-    /// Drops the first mark. The tree is turned so that the next one stands near its root: all marks of a tree are dropped one by one in
-    /// two turns each at the most. It is of no use for finding marks then, since weights don't fall any more; its depth may double.
-    pub(crate) fn drop_first(&mut self) {
+    /// Drops the first mark. The tree is rotated so that the next one stands near its root: all marks of a tree are dropped one by one with
+    /// one rotation each at the most. It is kept to be dropped alone: weights don't fall any more, and its depth may double.
+    pub(crate) fn drop_first(&mut self)
+        ensures { self.new ≡ drop 1 self.old }
+    {
         let Some(mut root) = mem::replace(self, Tree::empty()).root else {
             return;
         };

@@ -10,7 +10,7 @@ pub(crate) struct Sums {
     pub(crate) reach: usize,
     /// How many there are. No more are made than 32 bits count.
     pub(crate) count: u32,
-    /// The largest weight of their nodes, which is the root's.
+    /// The largest weight of their nodes, which is the root's while they are in use.
     pub(crate) weight: u16,
     /// Whether all are whole.
     pub(crate) whole: bool,
@@ -18,10 +18,10 @@ pub(crate) struct Sums {
     pub(crate) faulty: bool,
 }
 
-/// Marks in their order. A node's weight is at least that of each node below it. Its upper bits are a rank (`weight_of` of a line) by which
+/// Marks in their order. A node's weight is at least that of each node below it. A weight's upper four bits are a rank (`weight_of` in line.rt) by which
 /// a tree of n marks that came one after another is log n deep (to base 2). Behind edits that aren't chosen against it weights rise and
 /// fall as if drawn by lot, and it is about 3 log n deep. A rank has 4,096 weights, and marks of one weight lie one below another, which
-/// adds n / 4,096 at the most. No clause says so. Trees are put together and parted without memory.
+/// adds about n / 4,096 where all have one rank. No clause says so. Trees are put together and parted without memory.
 #[cycle(tree)]
 #[derive(Drop)]
 pub(crate) struct Tree<S> {

@@ -10,8 +10,8 @@ first_of-requires g t c κs within =
     let f = c.in-Some.first.value in
     let n = c.args.node.value in
     let at = at_node c.front.view_is c.front.invariant c.in-Some.is in
-    let left = rw (c.in-Some.first-is) at c.put_behind-before.ensures.front in
-    let marks = rw (c.in-Some.first-is) at c.put_behind-before.ensures.marks in
+    let left = rw (c.in-Some.first-is) at c.rotated-before.ensures.front in
+    let marks = rw (c.in-Some.first-is) at c.rotated-before.ensures.marks in
     let lengths = ap length marks in
     let reaches = ap reach marks in
     let a = ap length left in
@@ -20,4 +20,4 @@ first_of-requires g t c κs within =
     let e = at.reaches in
     let h = length-append f.right (marks_at n) in
     let i = reach-append f.right (marks_at n) in
-    (grind arith, (within, (c.put_behind-before.ensures.none, (omega (arith, c.requires.count), omega (arith, c.requires.reach)))))
+    (grind arith, (within, (c.rotated-before.ensures.none, (omega (arith, c.requires.count), omega (arith, c.requires.reach)))))

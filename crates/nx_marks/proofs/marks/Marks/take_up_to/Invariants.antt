@@ -5,7 +5,7 @@ use Rattle.nx_marks.specs.Chain.{Kept, frontier_of}
 use Rattle.nx_marks.specs.Frontier.{MovesOver}
 use Rattle.nx_marks.specs.Keeping.{KeepsMarks}
 use Rattle.nx_marks.specs.Right.{IsRight}
-use Rattle.nx_marks.proofs.marks.Marks.slice.Given as goal
+use Rattle.nx_marks.proofs.marks.Marks.take_up_to.Given as goal
 
 -- what is kept is right for the later machine, so many tokens lie between the old frontier and this one, and fewer are left up
 -- to a row that is to be joined; where it is joined, the others lie behind it

@@ -5,7 +5,7 @@ use Rattle.nx_marks.specs.Frontier.{MovesOver}
 use Rattle.nx_marks.proofs.Finishing.{none_near, over_finished}
 use Rattle.nx_marks.proofs.Keeping.{keeps_later}
 use Rattle.nx_marks.proofs.Moving.{moves_on, over_between, over_grows, over_reaches, smaller, within, rejoined, reached, border_of, end_border, from_border, over_joined, none_behind, none_aside, on_ok}
-use Rattle.nx_marks.proofs.marks.Marks.slice.Goals as goal
+use Rattle.nx_marks.proofs.marks.Marks.take_up_to.Goals as goal
 
 pub loop-self-init : goal.loop-self-init
 loop-self-init g c =

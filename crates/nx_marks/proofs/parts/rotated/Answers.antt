@@ -1,6 +1,6 @@
 use Rattle.std.proofs.Common.{arith}
 use Rattle.nx_marks.proofs.Trees.{reach-parts}
-use Rattle.nx_marks.proofs.parts.put_behind.Goals as goal
+use Rattle.nx_marks.proofs.parts.rotated.Goals as goal
 
 pub summed-requires-clause-reach : goal.summed-requires-clause-reach
 summed-requires-clause-reach g c =
