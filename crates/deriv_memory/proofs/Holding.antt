@@ -13,7 +13,7 @@ use Rattle.deriv_memory.specs.declared.at_hand.Slot.{Slot}
 use Rattle.deriv_memory.specs.declared.block.Block.{Block}
 use Rattle.deriv_memory.specs.declared.block.Owner.{Owner}
 use Rattle.deriv_memory.specs.Calls.{form_of, state_of, ns_of, local_of, same_asked, by_parts, calls_decided}
-use Rattle.deriv_memory.specs.AtHand.{said, free_row, free_slot, free_block, free_owner, is_named, is_owner, is_slot, number_for, number_in, row_with, row_says, slot_of}
+use Rattle.deriv_memory.specs.AtHand.{said, free_row, free_slot, free_block, free_owner, is_named, is_owner, is_slot, number_in, row_with, row_says, slot_of}
 use Rattle.deriv_memory.specs.AtHand.{AreNoted, BlockHolds, BlockSays, HoldNoMore, HoldOneMore, HoldThisMore, IsFree, IsPut, ReadAlike, SayOneMore, SlotHolds}
 
 -- ---- lists with free places
@@ -163,11 +163,6 @@ free_numbers zero local free = refl
 free_numbers (suc n) zero free = refl
 free_numbers (suc n) (suc local) free = free_numbers n local free
 
--- a number that is put
-pub number_put : (block : Block) (local n i : ℕ)
-    → ((i ≡ local) × (slice_index_or (slice_set block.answers local n) i 0 ≡ n)) ⊎ (slice_index_or (slice_set block.answers local n) i 0 ≡ number_for block i)
-number_put block local n i = set_read block.answers local i n 0
-
 free_says : (owner : Owner) (block : Block) (call : Asked) (answer : Option ℕ) → IsFree block → BlockSays owner block call answer → ⊥
 free_says owner block call answer free says = let two : None ≡ Some answer = sym (ap said (free (local_of call))) ∙ says.says in cc
 
@@ -233,17 +228,6 @@ block_put old new i block after call n enters owned there put owners blocks answ
     (subst (λ x. Says x after) at (subst (λ b. Says o b) here.1 is))))
     (λ same. inr (j, subst (λ b. Says o b) same is))
     (set_read old.blocks.items i j after free_block)
-
--- the block of the call with these numbers says its answer
-pub block_says : (hand : AtHand) (i : ℕ) (block : Block) (state ns local : ℕ) (r : Option (Option ℕ)) → slice_get hand.blocks.items i ≡ Some block
-    → is_owner (slice_index_or hand.owners.items i free_owner) state ns ≡ true → r ≡ said (number_for block local)
-    → IfSome r (BlockHolds hand (calls.Enter state ns local))
-block_says hand i block state ns local None there owner says = tt
-block_says hand i block state ns local (Some answer) there owner says = (
-  i,
-  subst (λ b. BlockSays (slice_index_or hand.owners.items i free_owner) b (calls.Enter state ns local) answer)
-      (sym (got hand.blocks.items i block free_block there)) (record { enters = refl; its = owner; says = sym says }),
-)
 
 -- ---- one after the other
 

@@ -102,6 +102,8 @@ impl Matcher for Pool {
         )
     }
 
+    // Most tokens ask this, `tag_end` or `chars`, and what is noted is told in few steps.
+    #[inline(always)]
     fn enter(
         &mut self,
         alloc: Global,
@@ -156,7 +158,6 @@ impl Matcher for Pool {
         answer(alloc, &mut self.states, &Step::AttributeAny(name), *s)
     }
 
-    // Most tokens ask this or `chars`, and what is noted is told in few steps.
     #[inline(always)]
     fn tag_end(&mut self, alloc: Global, s: &PoolState) -> Result<Option<PoolState>, NoMemory> {
         let defs = self.schema.grammar().defs.as_slice();

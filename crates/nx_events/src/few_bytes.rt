@@ -56,7 +56,7 @@ fn put_many(memory: &mut [u8], bytes: &[u8])
     memory[0..bytes.len()].copy_from_slice(bytes);
 }
 
-/// Copies these bytes to the front of memory that is as long at the least. What stands behind them may change, too.
+/// Copies these bytes to the front of memory that is as long at the least. Nothing is promised of what stands behind them.
 #[inline(always)]
 pub(crate) fn copy_to_front(memory: &mut [u8], bytes: &[u8])
     requires { length bytes.now ≤ length memory.old }

@@ -48,9 +48,7 @@ fn held_long(alloc: Global, bytes: &[u8]) -> Result<Held, NoMemory>
 fn copy_held(alloc: Global, bytes: &[u8]) -> Result<Held, NoMemory>
     ensures { IfOk result (λ held. bytes_of held ≡ bytes.now) }
 {
-    if bytes.len() <= SHORT {
-        let mut short = ShortBytes::new();
-        short.fill(bytes);
+    if let Some(short) = ShortBytes::of(bytes) {
         return Ok(Held::Here(short));
     }
     held_long(alloc, bytes)

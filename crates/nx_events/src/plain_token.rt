@@ -68,6 +68,7 @@ pub fn ended_run(state: &EventState) -> Option<&[u8]>
 
 /// Puts the name of an element that is written without a prefix (Namespaces in XML 1.0, 6.2) in the place of another name, in that one's
 /// memory. Where it is refused, anything may be there.
+#[inline(always)]
 pub fn put_unprefixed_name(
     alloc: Global,
     name: &mut Name,
@@ -80,6 +81,7 @@ pub fn put_unprefixed_name(
 }
 
 /// Begins an element that declares nothing. Where it is refused, the state is as before.
+#[inline(always)]
 pub fn begin_element(state: &mut EventState, written: &[u8]) -> Result<(), NoMemory>
     ensures ok { OnOk result (state.new ≡ element_begun state.old written.now) }
     ensures err { OnErr result (state.new ≡ state.old) }

@@ -1,13 +1,13 @@
 //! Few bytes, in the value itself.
 
-ghost use Rattle.std.specs.Prelude.{◌≡◌, ◌≤◌, [], length};
+ghost use Rattle.std.specs.Prelude.{◌≡◌, ◌≤◌, [], length, IfSome};
 ghost use Rattle.nx_events.specs.declared.short_bytes.TheConstants.{SHORT};
 
 use crate::few_bytes::copy_to_front;
 use std::marker::Model;
 
 /// So many bytes at most stand in the value itself.
-pub const SHORT: usize = 16;
+pub(crate) const SHORT: usize = 16;
 
 /// Few bytes, in the value itself. To a contract they are the bytes.
 #[derive(Drop)]
@@ -29,13 +29,26 @@ impl Model for ShortBytes {
 
 impl ShortBytes {
     /// No bytes.
-    pub fn new() -> ShortBytes
+    pub(crate) fn new() -> ShortBytes
         ensures { result ≡ [] }
     {
         ShortBytes {
             memory: [0; SHORT],
             len: 0,
         }
+    }
+
+    /// These bytes; none where they are too many.
+    #[inline(always)]
+    pub fn of(bytes: &[u8]) -> Option<ShortBytes>
+        ensures { IfSome result (λ short. short ≡ bytes.now) }
+    {
+        if bytes.len() > SHORT {
+            return None;
+        }
+        let mut short = ShortBytes::new();
+        short.fill(bytes);
+        Some(short)
     }
 
     /// The bytes.
@@ -46,7 +59,7 @@ impl ShortBytes {
     }
 
     /// Puts a copy of these bytes in the place of what is there.
-    pub fn fill(&mut self, bytes: &[u8])
+    pub(crate) fn fill(&mut self, bytes: &[u8])
         requires { length bytes.now ≤ SHORT }
         ensures { self.new ≡ bytes.now }
     {

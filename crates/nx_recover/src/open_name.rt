@@ -8,13 +8,13 @@ use nx_base::memory::NoMemory;
 use nx_base::name::Name;
 use nx_base::sequence::{Bytes, Sequence, TryCopy};
 use nx_events::name_bytes::NameBytes;
-use nx_events::short_bytes::{SHORT, ShortBytes};
+use nx_events::short_bytes::ShortBytes;
 use std::alloc::Global;
 use std::marker::Model;
 use std::mem;
 use std::rc::Rc;
 
-/// A name that copies share.
+/// A name that copies share. A short local part stands in it, without memory of its own.
 #[derive(Drop)]
 pub(crate) struct SharedName {
     ns: Bytes,
@@ -71,13 +71,13 @@ impl OpenName {
     pub(crate) fn take(alloc: Global, name: &mut Name) -> Result<OpenName, NoMemory>
         ensures { IfOk result (λ taken. taken ≡ name.old) }
     {
-        if name.ns.is_empty() && name.local.len() <= SHORT {
-            let mut short = ShortBytes::new();
-            short.fill(name.local.as_slice());
-            return Ok(OpenName {
-                alloc,
-                held: Held::Short(short),
-            });
+        if name.ns.is_empty() {
+            if let Some(short) = ShortBytes::of(name.local.as_slice()) {
+                return Ok(OpenName {
+                    alloc,
+                    held: Held::Short(short),
+                });
+            }
         }
         Ok(OpenName {
             alloc,

@@ -51,8 +51,9 @@ impl<T: Copy> GapBuffer<T> {
         }
     }
 
-    /// These items alone, in the memory that they have, and behind them as much room as a gap that is widened for them has left.
-    pub(crate) fn of_items(items: Vec<T>, filler: T) -> Result<GapBuffer<T>, AllocError>
+    /// These items alone, and behind them as much room as a gap that is widened for them has left: in the memory that they have, where
+    /// that is enough.
+    pub(crate) fn from_vec(items: Vec<T>, filler: T) -> Result<GapBuffer<T>, AllocError>
         ensures front { IfOk result (λ list. list.front ≡ items.items) }
         ensures back { IfOk result (λ list. list.back ≡ []) }
     {
@@ -77,12 +78,7 @@ impl<T: Copy> GapBuffer<T> {
         let full = len.checked_add(len / SPARE_PART).ok_or(AllocError)?;
         let mut items = Vec::with_capacity(*self.items.allocator(), full)?;
         items.extend_from_slice(added)?;
-        items.resize(full, filler)?;
-        Ok(GapBuffer {
-            items,
-            start: len,
-            end: full,
-        })
+        GapBuffer::from_vec(items, filler)
     }
 
     /// The part in front of the gap.

@@ -86,8 +86,8 @@ impl Text {
         }
     }
 
-    /// The text of these bytes, in the memory that they have: so a file that was read is held once.
-    pub fn of(bytes: Bytes) -> Result<Text, NoMemory>
+    /// The text of these bytes, in the memory that they have where it has room for a gap, too: so a file that was read is held once.
+    pub fn from_bytes(bytes: Bytes) -> Result<Text, NoMemory>
         requires { IsUtf8 bytes }
         ensures { IfOk result (λ text. text ≡ bytes) }
     {
@@ -95,7 +95,7 @@ impl Text {
         let mut feeds = GapBuffer::new(*items.allocator());
         feeds.make_room(count_feeds(items.as_slice()), 0)?;
         push_feeds(&mut feeds, 0, items.as_slice());
-        let bytes = GapBuffer::of_items(items, 0)?;
+        let bytes = GapBuffer::from_vec(items, 0)?;
         Ok(Text { bytes, feeds })
     }
 

@@ -48,11 +48,16 @@ fn edits_and_reads(rt: HostRuntime) -> Result<(), Fail> {
 
 #[test]
 fn bytes_that_were_read_become_a_text(rt: HostRuntime) -> Result<(), Fail> {
-    let read = Vec::from_slice(rt.alloc(), "a\né".as_bytes())?;
-    let mut text = Text::of(Bytes::from_vec(read)).ok().ok_or("no memory")?;
+    let read = Vec::from_slice(rt.alloc(), "a\né, and more than sixteen bytes".as_bytes())?;
+    let mut text = Text::from_bytes(Bytes::from_vec(read))
+        .ok()
+        .ok_or("no memory")?;
     text.insert(4, "\nb")?;
-    let whole = text.copy_range(0, 6).ok().ok_or("no memory")?;
-    assert_eq!(rt; whole.as_slice(), "a\né\nb".as_bytes());
+    let whole = text.copy_range(0, text.len()).ok().ok_or("no memory")?;
+    assert_eq!(rt;
+        whole.as_slice(),
+        "a\né\nb, and more than sixteen bytes".as_bytes()
+    );
     assert_eq!(rt; (text.line_of(2), text.line_of(5)), (2, 3));
     Ok(())
 }

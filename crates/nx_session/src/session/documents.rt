@@ -90,7 +90,7 @@ impl Session {
         let Ok(_) = str::from_utf8(bytes.as_slice()) else {
             return Err(Refusal::NotUtf8(uri, text_front(bytes.as_slice())));
         };
-        let text = Text::of(bytes)?;
+        let text = Text::from_bytes(bytes)?;
         self.show(text, views);
         self.document = DocumentUri::new(uri);
         Ok(Reply::Silent)
