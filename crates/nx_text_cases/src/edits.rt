@@ -1,3 +1,4 @@
+use crate::places::place_in;
 use nx_base::sequence::Bytes;
 use nx_text::{Text, TextFault};
 use std::test::Fail;
@@ -58,6 +59,9 @@ fn bytes_that_were_read_become_a_text(rt: HostRuntime) -> Result<(), Fail> {
         whole.as_slice(),
         "a\né\nb, and more than sixteen bytes".as_bytes()
     );
-    assert_eq!(rt; (text.line_of(2), text.line_of(5)), (2, 3));
+    assert_eq!(rt;
+        (place_in(&mut text, 2), place_in(&mut text, 5)),
+        (Some((2, 0)), Some((3, 0)))
+    );
     Ok(())
 }

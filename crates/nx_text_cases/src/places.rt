@@ -74,7 +74,7 @@ fn clusters_have_their_borders(rt: HostRuntime) -> Result<(), Fail> {
 }
 
 /// The line and the column of a place.
-fn place_in(text: &mut Text, at: usize) -> Option<(usize, usize)> {
+pub(crate) fn place_in(text: &mut Text, at: usize) -> Option<(usize, usize)> {
     if text.is_place(at) {
         Some((text.line_of(at), text.column_of(at)))
     } else {
