@@ -72,7 +72,7 @@ fn refill(alloc: Global, bytes: &mut Bytes, source: &[u8]) -> Result<(), NoMemor
     Ok(())
 }
 
-// Puts a namespace in the place of another, if it is one.
+// Puts a namespace in the place of another, by a call: `put_namespace` is inlined, and most names have none.
 #[inline(never)]
 fn put_uri(alloc: Global, ns: &mut Bytes, uri: &[u8]) -> Result<(), NoMemory>
     ensures { OnOk result (ns.new ≡ uri.now) }
@@ -85,9 +85,8 @@ fn put_uri(alloc: Global, ns: &mut Bytes, uri: &[u8]) -> Result<(), NoMemory>
 fn put_namespace(alloc: Global, ns: &mut Bytes, uri: &[u8]) -> Result<(), NoMemory>
     ensures { OnOk result (ns.new ≡ uri.now) }
 {
-    // Most names have none: then nothing is moved.
-    if uri.is_empty() {
-        ns.clear();
+    // Most names have none, and so had the one before: then nothing is moved.
+    if uri.is_empty() && ns.is_empty() {
         return Ok(());
     }
     put_uri(alloc, ns, uri)

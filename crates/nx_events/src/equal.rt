@@ -2,13 +2,14 @@
 
 ghost use Rattle.std.specs.Prelude.{◌≡◌, ◌↔◌, IsTrue};
 
-use crate::scope::Binding;
+use crate::scope::SharedBinding;
 use crate::state::{EventState, OpenElement, Pending, Run};
 use nx_base::equal::{Equal, same_each};
 
-impl Equal for Binding {
-    fn equals(&self, other: &Binding) -> bool {
-        self.prefix.equals(&other.prefix) && self.uri.equals(&other.uri)
+impl Equal for SharedBinding {
+    fn equals(&self, other: &SharedBinding) -> bool {
+        let (a, b) = (self.get(), other.get());
+        a.prefix.equals(&b.prefix) && a.uri.equals(&b.uri)
     }
 }
 

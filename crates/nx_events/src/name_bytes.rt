@@ -1,6 +1,6 @@
 //! Bytes of names, in the value itself where they are few.
 
-ghost use Rattle.std.specs.Prelude.{◌≡◌, IfOk, OnOk};
+ghost use Rattle.std.specs.Prelude.{◌≡◌, IfOk, OnOk, OnErr};
 ghost use Rattle.nx_events.specs.NameBytes.{bytes_of};
 
 use crate::short_bytes::{SHORT, ShortBytes};
@@ -10,17 +10,19 @@ use nx_base::memory::NoMemory;
 use nx_base::sequence::{Bytes, TryCopy};
 use std::alloc::Global;
 use std::marker::Model;
+use std::rc::RcSlice;
 
 /// Where the bytes of a name stand.
 #[derive(Drop)]
 pub(crate) enum Held {
     /// In the value itself. Few names are longer.
     Here(ShortBytes),
-    Heap(Vec<u8>),
+    /// In one place for all copies.
+    Shared(RcSlice<u8>),
 }
 
-/// The bytes of a name. Where they are few, as most names' are, they stand in the value itself: then a copy of the name asks for no
-/// memory. To a contract it is the bytes.
+/// The bytes of a name, in three words. Where they are few, as most names' are, they stand in the value itself; otherwise copies share
+/// them. So a copy of the name asks for no memory. To a contract it is the bytes.
 #[derive(Drop)]
 pub struct NameBytes {
     alloc: Global,
@@ -41,7 +43,7 @@ impl Model for NameBytes {
 fn held_long(alloc: Global, bytes: &[u8]) -> Result<Held, NoMemory>
     ensures { IfOk result (λ held. bytes_of held ≡ bytes.now) }
 {
-    Ok(Held::Heap(Vec::from_slice(alloc, bytes)?))
+    Ok(Held::Shared(RcSlice::from_slice(alloc, bytes)?))
 }
 
 // A copy of these bytes, where they have room.
@@ -72,24 +74,18 @@ impl NameBytes {
     {
         match &self.held {
             Held::Here(short) => short.as_slice(),
-            Held::Heap(memory) => memory.as_slice(),
+            Held::Shared(shared) => shared.as_slice(),
         }
     }
 
-    /// Puts a copy of these bytes in the place of what is there. Where it is refused, anything may be there.
+    /// Puts a copy of these bytes in the place of what is there, or leaves that.
     pub(crate) fn fill(&mut self, bytes: &[u8]) -> Result<(), NoMemory>
-        ensures { OnOk result (self.new ≡ bytes.now) }
+        ensures ok { OnOk result (self.new ≡ bytes.now) }
+        ensures err { OnErr result (self.new ≡ self.old) }
     {
-        match &mut self.held {
-            Held::Here(short) => {
-                if bytes.len() <= SHORT {
-                    short.fill(bytes);
-                    return Ok(());
-                }
-            }
-            Held::Heap(memory) => {
-                memory.clear();
-                memory.extend_from_slice(bytes)?;
+        if let Held::Here(short) = &mut self.held {
+            if bytes.len() <= SHORT {
+                short.fill(bytes);
                 return Ok(());
             }
         }
@@ -115,9 +111,9 @@ impl TryCopy for NameBytes {
                 alloc: self.alloc,
                 held: Held::Here(short.duplicate()),
             }),
-            Held::Heap(memory) => Ok(NameBytes {
+            Held::Shared(shared) => Ok(NameBytes {
                 alloc: self.alloc,
-                held: held_long(self.alloc, memory.as_slice())?,
+                held: Held::Shared(shared.clone()?),
             }),
         }
     }

@@ -1,4 +1,4 @@
-//! Lists that keep what is taken off at their end, so that its memory serves again.
+//! Lists that keep what is taken off at their end, so that the next thing is written over it.
 
 ghost use Rattle.std.specs.Prelude.{◌≡◌, ◌-◌, ◌++◌, ◌∷◌, [], length, take, IfOk, OnOk, OnErr};
 
@@ -97,7 +97,7 @@ impl<T: TryCopy + Drop> TryCopy for Reusable<T> {
 }
 
 impl Reusable<OpenElement> {
-    /// Adds an open element at the end, in the memory of one that was taken off, if one was.
+    /// Adds an open element at the end, in the place of one that was taken off, if one was.
     pub(crate) fn open_element(
         &mut self,
         alloc: Global,

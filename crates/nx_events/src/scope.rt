@@ -1,6 +1,6 @@
 //! Namespace declarations in force (Namespaces in XML 1.0, sections 3, 5 and 6).
 
-ghost use Rattle.std.specs.Prelude.{◌≡◌, ◌++◌, ◌∷◌, [], length, take, Some, option_copied, OnOk, OnErr};
+ghost use Rattle.std.specs.Prelude.{◌≡◌, ◌++◌, ◌∷◌, [], length, take, Some, option_copied, IfOk, OnOk, OnErr};
 ghost use Rattle.nx_events.specs.declared.scope.Binding.{Binding};
 ghost use Rattle.nx_events.specs.Places.{last_named};
 ghost use Rattle.nx_events.specs.Scopes.{last_uri, bound_uri, element_uri, attribute_uri};
@@ -10,6 +10,7 @@ use nx_base::memory::NoMemory;
 use nx_base::sequence::{Bytes, TryCopy};
 use std::alloc::Global;
 use std::marker::Model;
+use std::rc::Rc;
 
 /// A prefix, empty for the default namespace, and the URI that it is bound to.
 #[derive(Drop)]
@@ -18,20 +19,52 @@ pub struct Binding {
     pub uri: Bytes,
 }
 
-impl TryCopy for Binding {
-    fn copy(&self) -> Result<Binding, NoMemory> {
-        Ok(Binding {
-            prefix: self.prefix.copy()?,
-            uri: self.uri.copy()?,
+/// A pair in one place for all copies: states are kept by the ten thousand, and mostly the same few pairs are in force in all of them.
+/// To a contract it is the pair.
+#[derive(Drop)]
+pub struct SharedBinding {
+    pair: Rc<Binding>,
+}
+
+impl Model for SharedBinding {
+    ghost use Rattle.nx_events.specs.declared.scope.Binding.{Binding};
+
+    ghost Value = { Binding };
+
+    ghost view = { λ shared. shared.pair.value };
+}
+
+impl SharedBinding {
+    /// This pair.
+    pub(crate) fn new(alloc: Global, pair: Binding) -> Result<SharedBinding, NoMemory>
+        ensures { IfOk result (λ shared. shared ≡ pair) }
+    {
+        Ok(SharedBinding {
+            pair: Rc::new(alloc, pair)?,
+        })
+    }
+
+    /// The pair.
+    pub(crate) fn get(&self) -> &Binding
+        ensures { result.now ≡ self.now }
+    {
+        &self.pair
+    }
+}
+
+impl TryCopy for SharedBinding {
+    fn copy(&self) -> Result<SharedBinding, NoMemory> {
+        Ok(SharedBinding {
+            pair: self.pair.clone()?,
         })
     }
 }
 
-impl Named for Binding {
+impl Named for SharedBinding {
     ghost name_of = { λ binding. binding.prefix };
 
     fn name(&self) -> &[u8] {
-        self.prefix.as_slice()
+        self.get().prefix.as_slice()
     }
 }
 
@@ -40,7 +73,7 @@ impl Named for Binding {
 #[derive(Drop)]
 pub struct Bindings {
     alloc: Global,
-    pairs: Option<Box<Stack<Binding>>>,
+    pairs: Option<Box<Stack<SharedBinding>>>,
 }
 
 impl Model for Bindings {
@@ -62,7 +95,7 @@ impl Bindings {
     }
 
     /// The pairs, in order.
-    pub(crate) fn as_slice(&self) -> &[Binding]
+    pub(crate) fn as_slice(&self) -> &[SharedBinding]
         ensures { result.now ≡ self.now }
     {
         match &self.pairs {
@@ -82,14 +115,13 @@ impl Bindings {
     pub(crate) fn last_named(&self, prefix: &[u8]) -> Option<&Binding>
         ensures { option_copied result ≡ last_named (λ (binding : Binding). binding.prefix) prefix.now self.now }
     {
-        match &self.pairs {
-            None => None,
-            Some(pairs) => pairs.last_named(prefix),
-        }
+        let pairs = self.pairs.as_ref()?;
+        let shared = pairs.last_named(prefix)?;
+        Some(shared.get())
     }
 
     /// Adds copies of pairs at the end, or leaves the list as it is.
-    pub(crate) fn append(&mut self, more: &[Binding]) -> Result<(), NoMemory>
+    pub(crate) fn append(&mut self, more: &[SharedBinding]) -> Result<(), NoMemory>
         ensures ok { OnOk result (self.new ≡ self.old ++ more.now) }
         ensures err { OnErr result (self.new ≡ self.old) }
     {
@@ -111,11 +143,12 @@ impl Bindings {
         ensures ok { OnOk result (self.new ≡ self.old ++ binding ∷ []) }
         ensures err { OnErr result (self.new ≡ self.old) }
     {
+        let shared = SharedBinding::new(self.alloc, binding)?;
         if let Some(pairs) = &mut self.pairs {
-            return pairs.push(binding);
+            return pairs.push(shared);
         }
         let mut pairs = Stack::new(self.alloc);
-        pairs.push(binding)?;
+        pairs.push(shared)?;
         self.pairs = Some(Box::new(self.alloc, pairs)?);
         Ok(())
     }

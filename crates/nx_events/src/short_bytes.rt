@@ -12,9 +12,10 @@ pub(crate) const SHORT: usize = 16;
 /// Few bytes, in the value itself. To a contract they are the bytes.
 #[derive(Drop)]
 pub struct ShortBytes {
+    // Half a word and in front: with the tag that tells where a name stands it fills one word, and the bytes begin at the next.
+    len: u32,
     /// The bytes, and behind them anything.
     memory: [u8; SHORT],
-    len: usize,
 }
 
 impl Model for ShortBytes {
@@ -33,8 +34,8 @@ impl ShortBytes {
         ensures { result ≡ [] }
     {
         ShortBytes {
-            memory: [0; SHORT],
             len: 0,
+            memory: [0; SHORT],
         }
     }
 
@@ -55,7 +56,7 @@ impl ShortBytes {
     pub fn as_slice(&self) -> &[u8]
         ensures { result.now ≡ self.now }
     {
-        &self.memory[..self.len]
+        &self.memory[..self.len as usize]
     }
 
     /// Puts a copy of these bytes in the place of what is there.
@@ -63,9 +64,8 @@ impl ShortBytes {
         requires { length bytes.now ≤ SHORT }
         ensures { self.new ≡ bytes.now }
     {
-        let len = bytes.len();
         copy_to_front(&mut self.memory, bytes);
-        self.len = len;
+        self.len = bytes.len() as u32;
     }
 
     /// The same bytes.
@@ -74,8 +74,8 @@ impl ShortBytes {
         ensures { result ≡ self.now }
     {
         ShortBytes {
-            memory: self.memory,
             len: self.len,
+            memory: self.memory,
         }
     }
 }

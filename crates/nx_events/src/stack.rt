@@ -189,7 +189,7 @@ impl<T: Named + Drop> Stack<T> {
 }
 
 impl Stack<OpenElement> {
-    /// Adds an open element at the end, in the memory of one that was taken off, if one was.
+    /// Adds an open element at the end, in the place of one that was taken off, if one was.
     #[inline(always)]
     pub(crate) fn open_element(&mut self, written: &[u8], outer: usize) -> Result<(), NoMemory>
         ensures ok { OnOk result (self.new ≡ self.old ++ (record { written = written.now; outer = outer }) ∷ []) }

@@ -13,7 +13,7 @@ use crate::element::{element_resolved, push_attributes, push_element};
 use crate::item::{Event, Item, Items};
 use crate::namespace::declarations;
 use crate::reading::Reading;
-use crate::scope::{Binding, Bindings};
+use crate::scope::{Bindings, SharedBinding};
 use crate::stage::is_behind;
 use crate::state::{EventState, push_run};
 use crate::tag::{is_name_alone, start_name, tag_attributes};
@@ -114,7 +114,11 @@ pub(crate) fn push_start(
 }
 
 // The state inside of an element that declares these pairs.
-pub(crate) fn open(state: &mut EventState, token: &Token, own: &[Binding]) -> Result<(), NoMemory>
+pub(crate) fn open(
+    state: &mut EventState,
+    token: &Token,
+    own: &[SharedBinding],
+) -> Result<(), NoMemory>
     requires { own.now ≡ own_bindings token.now }
     ensures ok { OnOk result (state.new ≡ opened state.old token.now) }
     ensures err { OnErr result (state.new ≡ state.old) }

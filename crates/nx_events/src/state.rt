@@ -76,9 +76,10 @@ pub struct EventState {
 }
 
 impl OpenElement {
-    /// Puts another element in the place of one that is over. Where it is refused, anything may be there.
+    /// Puts another element in the place of one that is over, or leaves that.
     pub(crate) fn renew(&mut self, written: &[u8], outer: usize) -> Result<(), NoMemory>
-        ensures { OnOk result (self.new ≡ record { written = written.now; outer = outer }) }
+        ensures ok { OnOk result (self.new ≡ record { written = written.now; outer = outer }) }
+        ensures err { OnErr result (self.new ≡ self.old) }
     {
         self.written.fill(written)?;
         self.outer = outer;
