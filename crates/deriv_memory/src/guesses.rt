@@ -1,14 +1,17 @@
 //! Where texts are looked for first.
 //!
-//! The names of a document are few, and they mostly differ in their first byte, their last one, the one between or their length. So these
-//! lead to a number, and no hash is made. A number is a guess, and whoever takes it looks at the text that has it: so no clause speaks of
-//! guesses, and none of them can be wrong.
+//! The names of a document are few, and they mostly differ in one of four bytes, the first and the last among them, or in their length. So
+//! these alone are hashed. They lead to a number, which is a guess, and whoever takes it looks at the text that has it: so no clause speaks
+//! of guesses, and none of them can be wrong.
 
 use nx_base::memory::NoMemory;
 use std::alloc::Global;
 
+/// How many bits tell the kind of a text.
+const KIND_BITS: u32 = 12;
+
 /// A number for each of so many kinds of texts.
-const KINDS: usize = 1024;
+const KINDS: usize = 1 << KIND_BITS;
 
 /// The numbers of the texts that were kept first, one for each kind; none before any text is put.
 #[derive(Drop)]
@@ -21,19 +24,22 @@ fn narrowed(guess: usize) -> u32 {
     u32::try_from(guess).unwrap_or(0)
 }
 
-// The kind of a text with these bytes.
+// The kind of a text with these bytes. Names that are a letter and a number differ in few bits of them: a product spreads these.
 #[inline(always)]
-fn kind(length: usize, first: u8, middle: u8, last: u8) -> usize {
-    ((length % 32) ^ (first as usize * 8) ^ (middle as usize) ^ (last as usize * 32)) % KINDS
+fn kind(length: usize, bytes: [u8; 4]) -> usize {
+    let number = u32::from_le_bytes(bytes) ^ (length % 32) as u32;
+    // 2^32 parted by the golden ratio
+    (number.wrapping_mul(0x9E37_79B1) >> (u32::BITS - KIND_BITS)) as usize
 }
 
 // The kind of a text; none where it is empty.
 #[inline(always)]
 fn kind_of(text: &[u8]) -> Option<usize> {
     let first = text.first()?;
-    let middle = text.get(text.len() / 2)?;
+    let quarter = text.get(text.len() / 4)?;
+    let half = text.get(text.len() / 2)?;
     let last = text.last()?;
-    Some(kind(text.len(), *first, *middle, *last))
+    Some(kind(text.len(), [*first, *quarter, *half, *last]))
 }
 
 impl Guesses {
