@@ -21,6 +21,7 @@ pub mod Aside
 pub mod PlainSteps
 pub mod Machine
 pub mod OpenNames
+pub mod Packing
 -- ---- proofs of the laws that the machine hands on, which have to stand here
 pub mod Later
 pub mod MachineLaws

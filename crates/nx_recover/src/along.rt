@@ -7,7 +7,8 @@ ghost use Rattle.nx_recover.specs.States.{IsChange, AreStates, view_of, changed,
 ghost use Rattle.nx_recover.specs.Items.{form_behind, faults_found, form_along, found_along};
 
 use crate::event::take_event;
-use crate::levels::{Change, Levels, Open};
+use crate::levels::{Change, Levels};
+use crate::packed::Packed;
 use nx_base::fault::{Fault, Faults, Span};
 use nx_base::memory::NoMemory;
 use nx_base::sequence::Sequence;
@@ -40,7 +41,7 @@ fn take_fault(alloc: Global, fault: &mut Fault) -> Fault
     }
 }
 
-// One item, out of which are taken the name of an element and the detail of a fault.
+// One item, out of which the detail of a fault is taken.
 fn take_item<M: Matcher>(
     alloc: Global,
     matcher: &mut M,
@@ -69,7 +70,7 @@ fn take_item<M: Matcher>(
 }
 
 // Drops what a list holds.
-fn drop_all<S: Drop>(elements: &mut Vec<Open<S>>)
+fn drop_all<S: Drop>(elements: &mut Vec<Packed<S>>)
     ensures { elements.new.items ≡ [] }
 {
     // It holds nothing mostly, and then no call is made.
@@ -78,8 +79,8 @@ fn drop_all<S: Drop>(elements: &mut Vec<Open<S>>)
     }
 }
 
-/// All items, whose names and details are taken out, so that they pass to the levels and to the faults as they are: the levels behind
-/// them as a change, and the faults in the order in which they arise. What the change was before is dropped.
+/// All items, whose details are taken out, so that they pass to the faults as they are: the levels behind them as a change, and the
+/// faults in the order in which they arise. What the change was before is dropped.
 pub fn take_items<M: Matcher>(
     alloc: Global,
     matcher: &mut M,

@@ -8,7 +8,7 @@ ghost use Rattle.nx_recover.specs.Aside.{IsInnermost, IsOneLess, Pushed, Takes};
 ghost use Rattle.nx_recover.specs.Table as t;
 
 use crate::levels::{Begun, Change, Ended, Levels, Open, Turn};
-use crate::open_name::OpenName;
+use crate::packed::{Packed, name_inside};
 use crate::row;
 use nx_base::memory::NoMemory;
 use nx_base::name::Name;
@@ -28,7 +28,11 @@ fn here<'a, S: Drop>(levels: &'a Levels<S>, change: &'a Change<S>) -> &'a Option
 }
 
 // Puts an element on top.
-fn push<S: Drop>(change: &mut Change<S>, begun: Begun<S>) -> Result<Option<Flaw>, NoMemory>
+fn push<S: Drop>(
+    alloc: Global,
+    change: &mut Change<S>,
+    begun: Begun<S>,
+) -> Result<Option<Flaw>, NoMemory>
     ensures { IfOk result (Pushed begun change.old change.new) }
 {
     let Begun {
@@ -36,13 +40,14 @@ fn push<S: Drop>(change: &mut Change<S>, begun: Begun<S>) -> Result<Option<Flaw>
         element,
         flaw,
     } = begun;
-    change.above.push(element)?;
+    let packed = Packed::of(alloc, element)?;
+    change.above.push(packed)?;
     change.here = Some(here);
     Ok(flaw)
 }
 
 // The innermost open element: one that is aside, or an old one.
-fn innermost<'a, S: Drop>(levels: &'a Levels<S>, change: &'a Change<S>) -> Option<&'a Open<S>>
+fn innermost<'a, S: Drop>(levels: &'a Levels<S>, change: &'a Change<S>) -> Option<&'a Packed<S>>
     requires { change.now.kept ≤ length levels.now.elements.items }
     ensures { IsInnermost (changed levels.now change.now).elements (option_copied result) }
 {
@@ -69,42 +74,43 @@ fn take_off<S: Drop>(_levels: &Levels<S>, change: &mut Change<S>)
     }
 }
 
-// An element begins that isn't admitted. The namespace is taken out of its name.
+// An element begins that isn't admitted.
 fn take_refused<M: Matcher>(
     alloc: Global,
     matcher: &mut M,
     levels: &Levels<M::State>,
     change: &mut Change<M::State>,
-    name: &mut Name,
+    name: &Name,
 ) -> Result<Option<Flaw>, NoMemory>
     requires { IsChange (M.is_state matcher.old) levels.now change.old }
     ensures later { M.later matcher.old matcher.new }
     ensures gives { IfOk result (Takes (M.is_state matcher.new) (M.means matcher.new) levels.now change.new
-        (refused_in (M.language matcher.old) (form (M.means matcher.old) (changed levels.now change.old)) name.old)) }
+        (refused_in (M.language matcher.old) (form (M.means matcher.old) (changed levels.now change.old)) name.now)) }
 {
-    let begun = row::enter_refused(alloc, matcher, here(levels, change), name)?;
-    let flaw = push(change, begun)?;
+    let outer = innermost(levels, change);
+    let begun = row::enter_refused(alloc, matcher, here(levels, change), name, outer)?;
+    let flaw = push(alloc, change, begun)?;
     Ok(flaw)
 }
 
-// An element begins. The namespace is taken out of its name.
+// An element begins.
 fn take_enter<M: Matcher>(
     alloc: Global,
     matcher: &mut M,
     levels: &Levels<M::State>,
     change: &mut Change<M::State>,
-    name: &mut Name,
+    name: &Name,
 ) -> Result<Option<Flaw>, NoMemory>
     requires { IsChange (M.is_state matcher.old) levels.now change.old }
     ensures later { M.later matcher.old matcher.new }
     ensures gives { IfOk result (Takes (M.is_state matcher.new) (M.means matcher.new) levels.now change.new
-        (t.done_in (M.language matcher.old) (form (M.means matcher.old) (changed levels.now change.old)) (Event.Enter name.old))) }
+        (t.done_in (M.language matcher.old) (form (M.means matcher.old) (changed levels.now change.old)) (Event.Enter name.now))) }
 {
     // Most are admitted. What begins is large, so for these it isn't handed through the rows.
     match row::enter_admitted(alloc, matcher, here(levels, change), name)? {
         Some(state) => {
-            let kept = OpenName::take(alloc, name)?;
-            change.above.push(Open::In(kept))?;
+            let kept = name_inside(alloc, name, innermost(levels, change))?;
+            change.above.push(Packed::inside(kept))?;
             change.here = Some(Some(state));
             Ok(None)
         }
@@ -129,7 +135,7 @@ fn take_lost<M: Matcher>(
         element: Open::Lost(around),
         flaw: None,
     };
-    let flaw = push(change, begun)?;
+    let flaw = push(alloc, change, begun)?;
     Ok(flaw)
 }
 
@@ -180,20 +186,20 @@ fn take_other<M: Matcher>(
     }
 }
 
-/// An event: what is wrong with it is the answer. The namespace of an element that begins is taken out of it.
+/// An event: what is wrong with it is the answer.
 #[tactic(auto, unfolding(crate::specs::Table::done_by))]
 pub fn take_event<M: Matcher>(
     alloc: Global,
     matcher: &mut M,
     levels: &Levels<M::State>,
     change: &mut Change<M::State>,
-    event: &mut Event,
+    event: &Event,
 ) -> Result<Option<Flaw>, NoMemory>
     requires change { IsChange (M.is_state matcher.old) levels.now change.old }
-    requires text { EventIsText event.old }
+    requires text { EventIsText event.now }
     ensures later { M.later matcher.old matcher.new }
     ensures gives { IfOk result (Takes (M.is_state matcher.new) (M.means matcher.new) levels.now change.new
-        (t.done_by (M.language matcher.old) (form (M.means matcher.old) (changed levels.now change.old)) event.old)) }
+        (t.done_by (M.language matcher.old) (form (M.means matcher.old) (changed levels.now change.old)) event.now)) }
 {
     match event {
         Event::Enter(name) => take_enter(alloc, matcher, levels, change, name),

@@ -8,6 +8,7 @@
 //! frame itself, with its moves, in the definition.
 
 use crate::open_name::OpenName;
+use crate::packed::Packed;
 use nx_events::flaw::Flaw;
 use std::alloc::Global;
 
@@ -26,7 +27,7 @@ pub enum Open<S> {
 #[derive(Drop)]
 pub struct Levels<S> {
     pub here: Option<S>,
-    pub elements: Vec<Open<S>>,
+    pub elements: Vec<Packed<S>>,
 }
 
 /// What an event inside of an element does: the frame that goes on, none where it stays as it is; and what is wrong.
@@ -58,7 +59,7 @@ pub struct Change<S> {
     /// The frame that goes on here, where it isn't the old one.
     pub here: Option<Option<S>>,
     pub kept: usize,
-    pub above: Vec<Open<S>>,
+    pub above: Vec<Packed<S>>,
 }
 
 impl<S: Drop> Change<S> {

@@ -23,6 +23,7 @@ mod detail;
 mod event;
 pub mod levels;
 mod open_name;
+mod packed;
 mod plain_step;
 pub mod recover;
 mod row;

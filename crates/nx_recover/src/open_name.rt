@@ -1,6 +1,7 @@
 //! Names of open elements.
 
-ghost use Rattle.std.specs.Prelude.{◌≡◌, IfOk};
+ghost use Rattle.std.specs.Prelude.{◌≡◌, IfOk, IfSome};
+ghost use Rattle.std.specs.Rc.{rc_slice_items};
 ghost use Rattle.nx_recover.specs.OpenNames.{name_of};
 
 use nx_base::equal::Equal;
@@ -11,13 +12,13 @@ use nx_events::name_bytes::NameBytes;
 use nx_events::short_bytes::ShortBytes;
 use std::alloc::Global;
 use std::marker::Model;
-use std::mem;
-use std::rc::Rc;
+use std::rc::{Rc, RcSlice};
 
-/// A name that copies share. A short local part stands in it, without memory of its own.
+/// A name in a namespace, which copies share. A short local part stands in it, without memory of its own.
 #[derive(Drop)]
 pub(crate) struct SharedName {
-    ns: Bytes,
+    /// In one place for many names: an element's is mostly that of the element around it.
+    ns: RcSlice<u8>,
     local: NameBytes,
 }
 
@@ -26,12 +27,14 @@ pub(crate) struct SharedName {
 pub(crate) enum Held {
     /// In the value itself: the local part of a name in no namespace, as most names are, where it is short.
     Short(ShortBytes),
+    /// In one place for all copies: the local part of a long name in no namespace.
+    Long(RcSlice<u8>),
     /// In one place for all copies.
-    Shared(Rc<SharedName>),
+    InNamespace(Rc<SharedName>),
 }
 
 /// The name of an open element. States are kept by the ten thousand, and each is a copy of another: so a copy of a name takes no memory, and
-/// a name has four words where it stands. To a contract it is the name.
+/// a name has three words where it stands. To a contract it is the name.
 #[derive(Drop)]
 pub struct OpenName {
     alloc: Global,
@@ -47,16 +50,6 @@ impl Model for OpenName {
     ghost view = { λ name. name_of name.held };
 }
 
-// A name that doesn't stand in the value itself: one in a namespace, or a long one. Out of line, so that the others set up no frame for it.
-#[inline(never)]
-fn take_shared(alloc: Global, name: &mut Name) -> Result<Held, NoMemory>
-    ensures { IfOk result (λ held. name_of held ≡ name.old) }
-{
-    let local = NameBytes::of(alloc, name.local.as_slice())?;
-    let ns = mem::replace(&mut name.ns, Sequence::new(alloc));
-    Ok(Held::Shared(Rc::new(alloc, SharedName { ns, local })?))
-}
-
 // A list of these bytes.
 fn list_of(alloc: Global, bytes: &[u8]) -> Result<Bytes, NoMemory>
     ensures { IfOk result (λ list. list ≡ bytes.now) }
@@ -64,24 +57,61 @@ fn list_of(alloc: Global, bytes: &[u8]) -> Result<Bytes, NoMemory>
     Ok(Sequence::from_vec(Vec::from_slice(alloc, bytes)?))
 }
 
-impl OpenName {
-    /// This name. Its namespace is taken out of it, and the memory of its local part stays there.
-    // Each start tag that is admitted asks for one.
-    #[inline(always)]
-    pub(crate) fn take(alloc: Global, name: &mut Name) -> Result<OpenName, NoMemory>
-        ensures { IfOk result (λ taken. taken ≡ name.old) }
-    {
-        if name.ns.is_empty() {
-            if let Some(short) = ShortBytes::of(name.local.as_slice()) {
-                return Ok(OpenName {
-                    alloc,
-                    held: Held::Short(short),
-                });
+// A namespace: that of the name of the element around, where it is the same, or a copy.
+fn share_ns(alloc: Global, ns: &[u8], outer: Option<&OpenName>) -> Result<RcSlice<u8>, NoMemory>
+    ensures { IfOk result (λ shared. rc_slice_items shared ≡ ns.now) }
+{
+    if let Some(around) = outer {
+        if let Held::InNamespace(name) = &around.held {
+            if name.ns.as_slice() == ns {
+                return Ok(name.ns.clone()?);
             }
         }
+    }
+    Ok(RcSlice::from_slice(alloc, ns)?)
+}
+
+// Where a name stands that isn't short, or is in a namespace.
+fn share(alloc: Global, name: &Name, outer: Option<&OpenName>) -> Result<Held, NoMemory>
+    ensures { IfOk result (λ held. name_of held ≡ name.now) }
+{
+    if name.ns.is_empty() {
+        return Ok(Held::Long(RcSlice::from_slice(alloc, name.local.as_slice())?));
+    }
+    let ns = share_ns(alloc, name.ns.as_slice(), outer)?;
+    let local = NameBytes::of(alloc, name.local.as_slice())?;
+    Ok(Held::InNamespace(Rc::new(alloc, SharedName { ns, local })?))
+}
+
+impl OpenName {
+    /// This name, if it stands in the value itself.
+    // Each start tag that is admitted asks for one.
+    #[inline(always)]
+    pub(crate) fn short(alloc: Global, name: &Name) -> Option<OpenName>
+        ensures { IfSome result (λ short. short ≡ name.now) }
+    {
+        if !name.ns.is_empty() {
+            return None;
+        }
+        let local = ShortBytes::of(name.local.as_slice())?;
+        Some(OpenName {
+            alloc,
+            held: Held::Short(local),
+        })
+    }
+
+    /// This name, in one place for all copies. Where the name of the element around it has its namespace, that is shared, too; no
+    /// clause says so.
+    pub(crate) fn shared(
+        alloc: Global,
+        name: &Name,
+        outer: Option<&OpenName>,
+    ) -> Result<OpenName, NoMemory>
+        ensures { IfOk result (λ shared. shared ≡ name.now) }
+    {
         Ok(OpenName {
             alloc,
-            held: take_shared(alloc, name)?,
+            held: share(alloc, name, outer)?,
         })
     }
 
@@ -91,7 +121,8 @@ impl OpenName {
     {
         match &self.held {
             Held::Short(_) => &[],
-            Held::Shared(name) => name.ns.as_slice(),
+            Held::Long(_) => &[],
+            Held::InNamespace(name) => name.ns.as_slice(),
         }
     }
 
@@ -101,7 +132,8 @@ impl OpenName {
     {
         match &self.held {
             Held::Short(local) => local.as_slice(),
-            Held::Shared(name) => name.local.as_slice(),
+            Held::Long(local) => local.as_slice(),
+            Held::InNamespace(name) => name.local.as_slice(),
         }
     }
 
@@ -125,9 +157,13 @@ impl TryCopy for OpenName {
                 alloc: self.alloc,
                 held: Held::Short(local.duplicate()),
             }),
-            Held::Shared(name) => Ok(OpenName {
+            Held::Long(local) => Ok(OpenName {
                 alloc: self.alloc,
-                held: Held::Shared(name.clone()?),
+                held: Held::Long(local.clone()?),
+            }),
+            Held::InNamespace(name) => Ok(OpenName {
+                alloc: self.alloc,
+                held: Held::InNamespace(name.clone()?),
             }),
         }
     }

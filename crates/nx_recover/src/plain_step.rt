@@ -16,8 +16,8 @@ ghost use Rattle.rng_kept.specs.Tags.{attribute_of};
 ghost use Rattle.nx_recover.specs.States.{AreStates, view_of};
 ghost use Rattle.nx_recover.specs.declared.levels.Open.TheVariants.{In};
 
-use crate::levels::Open;
 use crate::open_name::OpenName;
+use crate::packed::{Packed, name_inside};
 use crate::state::RecoverState;
 use nx_base::memory::NoMemory;
 use nx_base::name::Name;
@@ -155,7 +155,8 @@ fn behind_start<M: Matcher>(
     requires values { AreTexts (listed_if (option_copied attributes)) }
     ensures later { M.later matcher.old matcher.new }
     ensures gives { IfOk result (Answers (M.is_state matcher.new) (M.means matcher.new)
-        (behind_run (option_copied run.entry) (inside_of (M.language matcher.old) name.now (listed_if (option_copied attributes.entry))) (M.means matcher.old here.now))) }
+        (behind_run (option_copied run.entry)
+        (inside_of (M.language matcher.old) name.now (listed_if (option_copied attributes.entry))) (M.means matcher.old here.now))) }
     ensures memory { memory.new ≡ memory.old }
 {
     let Some(text) = run else {
@@ -230,10 +231,11 @@ fn take_start<M: Matcher>(
     let Some(inside) = admitted else {
         return Ok(false);
     };
-    let kept = OpenName::take(alloc, name)?;
+    let outer = state.levels.elements.as_slice().last();
+    let kept = name_inside(alloc, name, outer)?;
     state.levels.elements.reserve(1)?;
     begin_element(&mut state.events, written)?;
-    state.levels.elements.push_reserved(Open::In(kept));
+    state.levels.elements.push_reserved(Packed::inside(kept));
     state.levels.here = Some(inside);
     Ok(true)
 }
@@ -275,18 +277,14 @@ fn take_opening<M: Matcher>(
 }
 
 // The name of the innermost element, if it goes on in the frame around it.
-fn name_in_frame<S: Drop>(elements: &[Open<S>]) -> Option<&OpenName>
+fn innermost_name<S: Drop>(elements: &[Packed<S>]) -> Option<&OpenName>
     ensures { IfSome result (λ name. elements.now ≡ without_innermost elements.now ++ In name.now ∷ []) }
 {
     let len = elements.len();
     if len == 0 {
         return None;
     }
-    match &elements[len - 1] {
-        Open::In(name) => Some(name),
-        Open::Begins(_, _) => None,
-        Open::Lost(_) => None,
-    }
+    elements[len - 1].name_in_frame()
 }
 
 // Takes the end tag of the innermost element, and answers whether all that it gives is admitted. Where it isn't, the state is as
@@ -310,7 +308,7 @@ fn take_end<M: Matcher>(
         return Ok(false);
     };
     // The name itself stays where it is.
-    let Some(_) = name_in_frame(state.levels.elements.as_slice()) else {
+    let Some(_) = innermost_name(state.levels.elements.as_slice()) else {
         return Ok(false);
     };
     let run = ended_run(&state.events);

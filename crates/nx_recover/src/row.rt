@@ -16,6 +16,7 @@ ghost use Rattle.nx_recover.specs.Table as t;
 use crate::detail::names_text;
 use crate::levels::{Begun, Ended, Open, Turn};
 use crate::open_name::OpenName;
+use crate::packed::{Held, Packed, name_inside};
 use nx_base::fault::Kind;
 use nx_base::memory::NoMemory;
 use nx_base::name::Name;
@@ -55,19 +56,20 @@ pub fn copy_here<M: Matcher>(
 pub fn copy_open<M: Matcher>(
     alloc: Global,
     matcher: &M,
-    element: &Open<M::State>,
-) -> Result<Open<M::State>, NoMemory>
+    element: &Packed<M::State>,
+) -> Result<Packed<M::State>, NoMemory>
     requires { IsOpen (M.is_state matcher.now) element.now }
     ensures state { IfOk result (IsOpen (M.is_state matcher.now)) }
     ensures meaning { IfOk result (λ o. open_form (M.means matcher.now) o ≡ open_form (M.means matcher.now) element.now) }
 {
-    match element {
-        Open::In(name) => Ok(Open::In(name.copy()?)),
-        Open::Begins(name, around) => {
-            let around = copy_here(alloc, matcher, around)?;
-            Ok(Open::Begins(name.copy()?, around))
-        }
-        Open::Lost(around) => Ok(Open::Lost(copy_here(alloc, matcher, around)?)),
+    match &element.held {
+        Held::In(name) => Ok(Packed::inside(name.copy()?)),
+        Held::Begins(beginning) => Ok(Packed {
+            held: Held::Begins(beginning.clone()?),
+        }),
+        Held::Lost(around) => Ok(Packed {
+            held: Held::Lost(copy_here(alloc, matcher, around)?),
+        }),
     }
 }
 
@@ -96,12 +98,13 @@ fn enter_other<M: Matcher>(
     alloc: Global,
     matcher: &mut M,
     here: &M::State,
-    name: &mut Name,
+    name: &Name,
+    outer: Option<&Packed<M::State>>,
 ) -> Result<Begun<M::State>, NoMemory>
     requires { M.is_state matcher.old here.now }
     ensures later { M.later matcher.old matcher.new }
     ensures gives { IfOk result (BegunIs (M.is_state matcher.new) (M.means matcher.new)
-        (t.entered_by (M.means matcher.old here.now) name.old None None (t.entered_known (M.language matcher.old) name.old))) }
+        (t.entered_by (M.means matcher.old here.now) name.now None None (t.entered_known (M.language matcher.old) name.now))) }
 {
     let around = matcher.copy(alloc, here)?;
     match enter_known(alloc, matcher, name)? {
@@ -109,7 +112,7 @@ fn enter_other<M: Matcher>(
             let flaw = named(alloc, Kind::NotAllowed, name)?;
             Ok(Begun {
                 here: Some(state),
-                element: Open::Begins(OpenName::take(alloc, name)?, Some(around)),
+                element: Open::Begins(name_inside(alloc, name, outer)?, Some(around)),
                 flaw,
             })
         }
@@ -129,25 +132,26 @@ fn enter_awaited<M: Matcher>(
     alloc: Global,
     matcher: &mut M,
     here: &M::State,
-    name: &mut Name,
+    name: &Name,
+    outer: Option<&Packed<M::State>>,
 ) -> Result<Begun<M::State>, NoMemory>
     requires { M.is_state matcher.old here.now }
     ensures later { M.later matcher.old matcher.new }
     ensures gives { IfOk result (BegunIs (M.is_state matcher.new) (M.means matcher.new)
-        (t.entered_by (M.means matcher.old here.now) name.old None
-        (answered (enter_skip (M.language matcher.old).definitions name.old (M.means matcher.old here.now)))
-        (t.entered_known (M.language matcher.old) name.old))) }
+        (t.entered_by (M.means matcher.old here.now) name.now None
+        (answered (enter_skip (M.language matcher.old).definitions name.now (M.means matcher.old here.now)))
+        (t.entered_known (M.language matcher.old) name.now))) }
 {
     match matcher.enter_skip(alloc, here, name)? {
         Some(state) => {
             let flaw = named(alloc, Kind::NotYet, name)?;
             Ok(Begun {
                 here: Some(state),
-                element: Open::In(OpenName::take(alloc, name)?),
+                element: Open::In(name_inside(alloc, name, outer)?),
                 flaw,
             })
         }
-        None => enter_other(alloc, matcher, here, name),
+        None => enter_other(alloc, matcher, here, name, outer),
     }
 }
 
@@ -155,16 +159,17 @@ fn enter_awaited<M: Matcher>(
 fn enter_lost<M: Matcher>(
     alloc: Global,
     matcher: &mut M,
-    name: &mut Name,
+    name: &Name,
+    outer: Option<&Packed<M::State>>,
 ) -> Result<Begun<M::State>, NoMemory>
     ensures later { M.later matcher.old matcher.new }
     ensures gives { IfOk result (BegunIs (M.is_state matcher.new) (M.means matcher.new)
-        (t.found_by name.old (t.entered_known (M.language matcher.old) name.old))) }
+        (t.found_by name.now (t.entered_known (M.language matcher.old) name.now))) }
 {
     match enter_known(alloc, matcher, name)? {
         Some(state) => Ok(Begun {
             here: Some(state),
-            element: Open::Begins(OpenName::take(alloc, name)?, None),
+            element: Open::Begins(name_inside(alloc, name, outer)?, None),
             flaw: None,
         }),
         None => Ok(Begun {
@@ -193,21 +198,22 @@ pub fn enter_admitted<M: Matcher>(
     }
 }
 
-/// Where an element begins that isn't admitted. The namespace is taken out of its name.
+/// Where an element begins that isn't admitted, inside of another one or of none.
 pub fn enter_refused<M: Matcher>(
     alloc: Global,
     matcher: &mut M,
     here: &Option<M::State>,
-    name: &mut Name,
+    name: &Name,
+    outer: Option<&Packed<M::State>>,
 ) -> Result<Begun<M::State>, NoMemory>
     requires { IfSome here.now (M.is_state matcher.old) }
     ensures later { M.later matcher.old matcher.new }
     ensures gives { IfOk result (BegunIs (M.is_state matcher.new) (M.means matcher.new)
-        (refused (M.language matcher.old) name.old (option_map (M.means matcher.old) here.now))) }
+        (refused (M.language matcher.old) name.now (option_map (M.means matcher.old) here.now))) }
 {
     match here {
-        Some(state) => enter_awaited(alloc, matcher, state, name),
-        None => enter_lost(alloc, matcher, name),
+        Some(state) => enter_awaited(alloc, matcher, state, name, outer),
+        None => enter_lost(alloc, matcher, name, outer),
     }
 }
 
@@ -308,7 +314,7 @@ pub fn end_element<M: Matcher>(
     alloc: Global,
     matcher: &mut M,
     here: &Option<M::State>,
-    element: &Open<M::State>,
+    element: &Packed<M::State>,
 ) -> Result<Ended<M::State>, NoMemory>
     requires here { IfSome here.now (M.is_state matcher.old) }
     requires element { IsOpen (M.is_state matcher.old) element.now }
@@ -316,22 +322,22 @@ pub fn end_element<M: Matcher>(
     ensures gives { IfOk result (EndedIs (M.is_state matcher.new) (M.means matcher.new)
         (t.ended (option_map (M.means matcher.old) here.now) (open_form (M.means matcher.old) element.now))) }
 {
-    match element {
-        Open::In(name) => {
+    match &element.held {
+        Held::In(name) => {
             let turn = leave_here(alloc, matcher, here, name)?;
             Ok(Ended {
                 here: turn.next,
                 flaw: turn.flaw,
             })
         }
-        Open::Begins(name, around) => {
-            let flaw = incomplete_here(alloc, matcher, here, name)?;
+        Held::Begins(beginning) => {
+            let flaw = incomplete_here(alloc, matcher, here, &beginning.name)?;
             Ok(Ended {
-                here: copy_here(alloc, matcher, around)?,
+                here: copy_here(alloc, matcher, &beginning.around)?,
                 flaw,
             })
         }
-        Open::Lost(around) => Ok(Ended {
+        Held::Lost(around) => Ok(Ended {
             here: copy_here(alloc, matcher, around)?,
             flaw: None,
         }),

@@ -13,7 +13,8 @@ ghost use Rattle.nx_recover.specs.States.{HasRoom, AreStates, changed, view_of};
 ghost use Rattle.nx_recover.specs.Machine.{over};
 
 use crate::along::take_items;
-use crate::levels::{Change, Levels, Open};
+use crate::levels::{Change, Levels};
+use crate::packed::Packed;
 use crate::plain_step::step_plain;
 use crate::state::RecoverState;
 use nx_base::fault::Faults;
@@ -101,7 +102,7 @@ pub fn make_room<S: Drop>(levels: &mut Levels<S>, change: &Change<S>) -> Result<
 }
 
 // Moves elements on top of others, in room that there is.
-fn move_onto<S: Drop>(elements: &mut Vec<Open<S>>, above: &mut Vec<Open<S>>)
+fn move_onto<S: Drop>(elements: &mut Vec<Packed<S>>, above: &mut Vec<Packed<S>>)
     requires { vec_len elements.old + vec_len above.old ≤ vec_capacity elements.old }
     ensures { elements.new.items ≡ elements.old.items ++ above.old.items }
 {

@@ -10,7 +10,8 @@ ghost use Rattle.nx_recover.specs.States.{AreStates, IsOpen, open_form, view_of}
 ghost use Rattle.nx_recover.specs.Machine.{over};
 
 use crate::along::take_items;
-use crate::levels::{Change, Levels, Open};
+use crate::levels::{Change, Levels};
+use crate::packed::{Held, Packed};
 use crate::row::{copy_here, copy_open};
 use crate::state::RecoverState;
 use nx_base::equal::Equal;
@@ -89,21 +90,23 @@ fn same_here<M: Matcher>(matcher: &M, a: &Option<M::State>, b: &Option<M::State>
 }
 
 // Whether two open elements mean the same.
-fn same_open<M: Matcher>(matcher: &M, a: &Open<M::State>, b: &Open<M::State>) -> bool
+fn same_open<M: Matcher>(matcher: &M, a: &Packed<M::State>, b: &Packed<M::State>) -> bool
     requires a { IsOpen (M.is_state matcher.now) a.now }
     requires b { IsOpen (M.is_state matcher.now) b.now }
     ensures { IsTrue result ↔ (open_form (M.means matcher.now) a.now ≡ open_form (M.means matcher.now) b.now) }
 {
-    match (a, b) {
-        (Open::In(a), Open::In(b)) => a.equals(b),
-        (Open::Begins(a, x), Open::Begins(b, y)) => a.equals(b) && same_here(matcher, x, y),
-        (Open::Lost(x), Open::Lost(y)) => same_here(matcher, x, y),
+    match (&a.held, &b.held) {
+        (Held::In(a), Held::In(b)) => a.equals(b),
+        (Held::Begins(a), Held::Begins(b)) => {
+            a.name.equals(&b.name) && same_here(matcher, &a.around, &b.around)
+        }
+        (Held::Lost(x), Held::Lost(y)) => same_here(matcher, x, y),
         _ => false,
     }
 }
 
 // Whether they do one by one.
-fn same_each<M: Matcher>(matcher: &M, a: &[Open<M::State>], b: &[Open<M::State>]) -> bool
+fn same_each<M: Matcher>(matcher: &M, a: &[Packed<M::State>], b: &[Packed<M::State>]) -> bool
     requires a { AllByRecursion (IsOpen (M.is_state matcher.now)) a.now }
     requires b { AllByRecursion (IsOpen (M.is_state matcher.now)) b.now }
     ensures { IsTrue result ↔ (map (open_form (M.means matcher.now)) a.now ≡ map (open_form (M.means matcher.now)) b.now) }
@@ -146,8 +149,8 @@ pub fn same_over<M: Matcher>(
 fn copy_each<M: Matcher>(
     alloc: Global,
     matcher: &M,
-    elements: &[Open<M::State>],
-) -> Result<Vec<Open<M::State>>, NoMemory>
+    elements: &[Packed<M::State>],
+) -> Result<Vec<Packed<M::State>>, NoMemory>
     requires { AllByRecursion (IsOpen (M.is_state matcher.now)) elements.now }
     ensures states { IfOk result (λ v. AllByRecursion (IsOpen (M.is_state matcher.now)) v.items) }
     ensures meaning { IfOk result (λ v. map (open_form (M.means matcher.now)) v.items
