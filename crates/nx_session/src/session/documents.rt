@@ -29,22 +29,12 @@ use nx_views::view::View;
 use std::alloc::Global;
 use std::str;
 
-/// A text of its own with this content.
-fn text_with(alloc: Global, content: &str) -> Result<Text, NoMemory>
-    ensures { IfOk result (λ text. text ≡ content.now) }
-{
-    let mut text = Text::new(alloc);
-    match text.insert(0, content) {
-        Ok(()) => Ok(text),
-        Err(_) => Err(NoMemory),
-    }
-}
-
 /// The text of the large document of this seed, with so many pieces.
 fn large_text(alloc: Global, seed: u64, pieces: u64) -> Result<Text, NoMemory>
     ensures { IfOk result (λ text. text ≡ large_document seed pieces) }
 {
-    text_with(alloc, large_document(alloc, seed, pieces)?.as_str())
+    let content = large_document(alloc, seed, pieces)?;
+    Text::from_bytes(Bytes::from_vec(content.into_bytes()))
 }
 
 impl Session {
