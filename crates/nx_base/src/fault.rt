@@ -60,7 +60,7 @@ pub enum Kind {
     Unknown,
     /// An element that may not stand here. Its name.
     NotAllowed,
-    /// An element in front of which others are missing. Its name.
+    /// An element in front of which others are missing. Its name, and the names of those that every repair puts there.
     NotYet,
     /// An attribute that may not stand here. Its name.
     UnknownAttribute,
@@ -70,7 +70,7 @@ pub enum Kind {
     MissingAttributes,
     /// Text that may not stand here. No detail.
     TextNotAllowed,
-    /// An element with missing content. Its name.
+    /// An element with missing content. Its name, and the names of the elements that every repair puts at its end.
     Incomplete,
 }
 

@@ -5,6 +5,7 @@
 #![tactic(auto)]
 
 pub mod cause;
+pub mod change;
 pub mod character;
 pub mod character_code;
 pub mod edit;
@@ -22,6 +23,7 @@ pub mod steps;
 pub mod token;
 pub mod way;
 
+pub use change::{Change, Changes};
 pub use character::{is_char, is_name_char, is_name_start, is_space};
 pub use edit::{Edit, moved};
 pub use fault::{Fault, Faults, Kind, Span};

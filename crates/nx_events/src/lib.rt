@@ -63,6 +63,8 @@ mod text_token;
 
 pub use equal::same;
 pub use item::{Event, Item, Items};
-pub use prefix::{TagPrefix, run_of, tag_prefix};
+pub use namespace::declares;
+pub use prefix::{TagPrefix, innermost, run_of, tag_prefix};
 pub use reader::{begin, copy, depth, finish, pass_token, pending, read, take};
 pub use state::EventState;
+pub use tag::start_name;

@@ -1,6 +1,8 @@
 //! The namespace declarations of a tag (Namespaces in XML 1.0, sections 2.2, 3 and 5).
 
-ghost use Rattle.std.specs.Prelude.{◌≡◌, ◌++◌, [], ◌∷◌, List, IfOk, OnOk};
+ghost use Rattle.std.specs.Prelude.{◌≡◌, ◌+◌, ◌<◌, ◌^◌, ◌++◌, [], ◌∷◌, List, length, IfOk, OnOk};
+ghost use Rattle.std.specs.List.{list_any};
+ghost use Rattle.nx_events.specs.Tags.{tag_attributes};
 ghost use Rattle.nx_events.specs.Faults.{fault_of, faults_as_items};
 ghost use Rattle.nx_events.specs.declared.tag.Attribute.{Attribute};
 ghost use Rattle.nx_events.specs.Declarations.{is_declaration, declared_prefix, is_bad_binding, flaw_if, with_name, flaw_faults};
@@ -11,12 +13,13 @@ use crate::flaw::Flaw;
 use crate::item::{Item, Items};
 use crate::qname::is_qname;
 use crate::scope::{Binding, Bindings, XML_URI};
-use crate::tag::{Attribute, copy_of};
+use crate::tag::{Attribute, copy_of, tag_attributes};
 use crate::tag_names::TagNames;
 use nx_base::fault::{Fault, Kind, Span};
 use nx_base::memory::NoMemory;
 use nx_base::name::XMLNS_NAMESPACE;
 use nx_base::sequence::TryCopy;
+use nx_base::token::Token;
 use std::alloc::Global;
 
 /// Whether an attribute of this name is a declaration.
@@ -25,6 +28,19 @@ pub(crate) fn is_declaration(name: &[u8]) -> bool
     ensures { result ≡ is_declaration name.now }
 {
     name == b"xmlns".as_slice() || name.starts_with(b"xmlns:")
+}
+
+/// Whether a tag has a declaration, even one that is in vain.
+pub fn declares(alloc: Global, tag: &Token) -> Result<bool, NoMemory>
+    requires { tag.now.from + length tag.now.bytes < 2 ^ 64 }
+    ensures { IfOk result (λ b. b ≡ list_any (λ (it : Attribute). is_declaration it.name) (tag_attributes tag.now.from tag.now.bytes)) }
+{
+    let attributes = tag_attributes(alloc, tag.from, tag.bytes.as_slice())?;
+    Ok(
+        attributes
+            .iter()
+            .any(|it| is_declaration(it.name.as_slice())),
+    )
 }
 
 // The prefix that a declaration of this name declares.

@@ -60,6 +60,13 @@ fn innermost_name(elements: &[OpenElement]) -> &[u8]
     }
 }
 
+/// The written name of the innermost open element, and nothing where none is open.
+pub fn innermost(state: &EventState) -> &[u8]
+    ensures { result.now ≡ innermost_name state.now.elements }
+{
+    innermost_name(state.elements.as_slice())
+}
+
 // An open tag as a token of its own.
 fn as_token(alloc: Global, tag: &[u8]) -> Result<Token, NoMemory>
     ensures token { IfOk result (λ token. token ≡ as_token tag.now) }

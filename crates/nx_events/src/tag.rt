@@ -48,7 +48,7 @@ pub(crate) fn written_name(bytes: &[u8]) -> &[u8]
 }
 
 /// The name of a start tag or an empty-element tag.
-pub(crate) fn start_name(bytes: &[u8]) -> &[u8]
+pub fn start_name(bytes: &[u8]) -> &[u8]
     ensures { result.now ≡ start_name bytes.now }
 {
     if bytes.is_empty() {

@@ -7,6 +7,7 @@ pub mod Every
 pub mod Fitting
 pub mod Joined
 pub mod Marks
+pub mod NameTags
 pub mod OwnBytes
 pub mod Pieces
 pub mod Reading
@@ -15,6 +16,7 @@ pub mod Runs
 pub mod SameMarkup
 pub mod SameTags
 pub mod Stable
+pub mod Staying
 pub mod TagEnds
 pub mod TagParts
 pub mod Themselves

@@ -18,7 +18,7 @@ use Rattle.nx_scan.proofs.Stable.{begins-same, begins-stop, has_none, not-read, 
 use Rattle.nx_scan.proofs.TagEnds.{begin-tag, tag-lost, lost_left, open-part}
 
 -- `<` and then something
-less-split : (text : List ℕ) → begins_with (codes "<") text ≡ true → text ≡ 60 ∷ drop 1 text
+pub less-split : (text : List ℕ) → begins_with (codes "<") text ≡ true → text ≡ 60 ∷ drop 1 text
 less-split text h = behind_mark (codes "<") text h
 
 -- `!` begins no tag
@@ -26,7 +26,7 @@ exclamation_reads : left_of seen.Lost ≡ left_after (left_of seen.Open) 33
 unfolding left_of left_after is_name_start
 exclamation_reads = refl
 
-exclamation-lost : (text : List ℕ) → IsUtf8 text → begins_with (codes "!") text ≡ true → tag (left_of seen.Open) text ≡ cut_as kinds.Bad (bad_rest text)
+pub exclamation-lost : (text : List ℕ) → IsUtf8 text → begins_with (codes "!") text ≡ true → tag (left_of seen.Open) text ≡ cut_as kinds.Bad (bad_rest text)
 exclamation-lost text utf8 h =
     let split : text ≡ encode 33 ++ drop 1 text =
     behind_mark (codes "!") text h ∙ ap (λ xs. xs ++ drop 1 text) (sym (encode_ascii 33 (omega arith))) in
@@ -38,49 +38,49 @@ none-mark : (byte : ℕ) (tail : List ℕ) → not (byte == 33) ≡ true → has
 none-mark byte tail a b = and_from (not (byte == 33)) (has_none byte tail) a b
 
 -- a mark behind `<`
-behind-less : (mark text : List ℕ) → begins_with (codes "<") text ≡ true → begins_with (60 ∷ mark) text ≡ begins_with mark (drop 1 text)
+pub behind-less : (mark text : List ℕ) → begins_with (codes "<") text ≡ true → begins_with (60 ∷ mark) text ≡ begins_with mark (drop 1 text)
 behind-less mark text less = begins_with-split 60 mark text ∙ ap (λ b. b && begins_with mark (drop 1 text)) less
 
 -- marks that exclude one another
-comment-no_cdata : (text : List ℕ) → begins_with (codes "<![CDATA[") text ≡ true → begins_with (codes "<!--") text ≡ false
+pub comment-no_cdata : (text : List ℕ) → begins_with (codes "<![CDATA[") text ≡ true → begins_with (codes "<!--") text ≡ false
 unfolding begins_with
 comment-no_cdata text h = ap (begins_with (codes "<!--")) (behind_mark (codes "<![CDATA[") text h)
 
-comment-no_doctype : (text : List ℕ) → begins_with (codes "<!DOCTYPE") text ≡ true → begins_with (codes "<!--") text ≡ false
+pub comment-no_doctype : (text : List ℕ) → begins_with (codes "<!DOCTYPE") text ≡ true → begins_with (codes "<!--") text ≡ false
 unfolding begins_with
 comment-no_doctype text h = ap (begins_with (codes "<!--")) (behind_mark (codes "<!DOCTYPE") text h)
 
-cdata-no_doctype : (text : List ℕ) → begins_with (codes "<!DOCTYPE") text ≡ true → begins_with (codes "<![CDATA[") text ≡ false
+pub cdata-no_doctype : (text : List ℕ) → begins_with (codes "<!DOCTYPE") text ≡ true → begins_with (codes "<![CDATA[") text ≡ false
 unfolding begins_with
 cdata-no_doctype text h = ap (begins_with (codes "<![CDATA[")) (behind_mark (codes "<!DOCTYPE") text h)
 
-comment-no_instruction : (text : List ℕ) → begins_with (codes "<?") text ≡ true → begins_with (codes "<!--") text ≡ false
+pub comment-no_instruction : (text : List ℕ) → begins_with (codes "<?") text ≡ true → begins_with (codes "<!--") text ≡ false
 unfolding begins_with
 comment-no_instruction text h = ap (begins_with (codes "<!--")) (behind_mark (codes "<?") text h)
 
-cdata-no_instruction : (text : List ℕ) → begins_with (codes "<?") text ≡ true → begins_with (codes "<![CDATA[") text ≡ false
+pub cdata-no_instruction : (text : List ℕ) → begins_with (codes "<?") text ≡ true → begins_with (codes "<![CDATA[") text ≡ false
 unfolding begins_with
 cdata-no_instruction text h = ap (begins_with (codes "<![CDATA[")) (behind_mark (codes "<?") text h)
 
-doctype-no_instruction : (text : List ℕ) → begins_with (codes "<?") text ≡ true → begins_with (codes "<!DOCTYPE") text ≡ false
+pub doctype-no_instruction : (text : List ℕ) → begins_with (codes "<?") text ≡ true → begins_with (codes "<!DOCTYPE") text ≡ false
 unfolding begins_with
 doctype-no_instruction text h = ap (begins_with (codes "<!DOCTYPE")) (behind_mark (codes "<?") text h)
 
 -- the rows of markup
-row-comment : (text : List ℕ) → begins_with (codes "<!--") text ≡ true → markup text ≡ closed kinds.Comment (codes "-->") 4 text
+pub row-comment : (text : List ℕ) → begins_with (codes "<!--") text ≡ true → markup text ≡ closed kinds.Comment (codes "-->") 4 text
 unfolding markup
 row-comment text a = rw a refl
 
-row-cdata : (text : List ℕ) → begins_with (codes "<!--") text ≡ false → begins_with (codes "<![CDATA[") text ≡ true → markup text ≡ closed kinds.Cdata (codes "]]>") 9 text
+pub row-cdata : (text : List ℕ) → begins_with (codes "<!--") text ≡ false → begins_with (codes "<![CDATA[") text ≡ true → markup text ≡ closed kinds.Cdata (codes "]]>") 9 text
 unfolding markup
 row-cdata text a b = rw (a, b) refl
 
-row-doctype : (text : List ℕ) → begins_with (codes "<!--") text ≡ false → begins_with (codes "<![CDATA[") text ≡ false → begins_with (codes "<!DOCTYPE") text ≡ true →
+pub row-doctype : (text : List ℕ) → begins_with (codes "<!--") text ≡ false → begins_with (codes "<![CDATA[") text ≡ false → begins_with (codes "<!DOCTYPE") text ≡ true →
     markup text ≡ doctype text
 unfolding markup
 row-doctype text a b d = rw (a, b, d) refl
 
-row-instruction : (text : List ℕ) → begins_with (codes "<!--") text ≡ false → begins_with (codes "<![CDATA[") text ≡ false → begins_with (codes "<!DOCTYPE") text ≡ false →
+pub row-instruction : (text : List ℕ) → begins_with (codes "<!--") text ≡ false → begins_with (codes "<![CDATA[") text ≡ false → begins_with (codes "<!DOCTYPE") text ≡ false →
     begins_with (codes "<?") text ≡ true → markup text ≡ instruction text
 unfolding markup
 row-instruction text a b d e = rw (a, b, d, e) refl
@@ -91,16 +91,16 @@ unfolding markup
 row-tag text a b d e = rw (a, b, d, e) refl
 
 -- the rows of an instruction
-row-declaration : (text : List ℕ) → begins_declaration text ≡ true → instruction text ≡ closed kinds.Decl (codes "?>") 6 text
+pub row-declaration : (text : List ℕ) → begins_declaration text ≡ true → instruction text ≡ closed kinds.Decl (codes "?>") 6 text
 unfolding instruction
 row-declaration text a = rw a refl
 
-row-other : (text : List ℕ) → begins_declaration text ≡ false → instruction text ≡ closed kinds.Pi (codes "?>") 2 text
+pub row-other : (text : List ℕ) → begins_declaration text ≡ false → instruction text ≡ closed kinds.Pi (codes "?>") 2 text
 unfolding instruction
 row-other text a = rw a refl
 
 -- a declaration begins in front of a `>`
-declaration-here : (text other : List ℕ) (n m : ℕ) → take m other ≡ take m text → n < length text → n < m → get_or text n 0 ≡ 62 →
+pub declaration-here : (text other : List ℕ) (n m : ℕ) → take m other ≡ take m text → n < length text → n < m → get_or text n 0 ≡ 62 →
     begins_declaration other ≡ begins_declaration text
 unfolding begins_declaration
 declaration-here text other n m same lt in_same is =

@@ -148,7 +148,7 @@ pub before-none : (mark : List ℕ) → bytes_before mark [] ≡ None
 unfolding bytes_before
 before-none mark = refl
 
-before-same : (mark text other : List ℕ) (n m : ℕ) → 0 < length mark → take m other ≡ take m text → bytes_before mark text ≡ Some n → n + length mark ≤ m →
+pub before-same : (mark text other : List ℕ) (n m : ℕ) → 0 < length mark → take m other ≡ take m text → bytes_before mark text ≡ Some n → n + length mark ≤ m →
     bytes_before mark other ≡ Some n
 before-same mark [] other n m some e f le = let bad : None ≡ Some n = sym (before-none mark) ∙ f in cc
 before-same mark (b ∷ bs) other n zero some e f le = absurd (omega arith)

@@ -35,7 +35,7 @@ order_mark-here c more text other m spelled utf8 other_utf8 border same some h =
     (same ∙ ap (take m) spelled) in
     order_mark-first c more begun.rest text other spelled begun.spelled h
 
-order_mark-same : (at_start : Bool) (text other : List ℕ) (m : ℕ) → IsUtf8 text → IsUtf8 other → IsCharBoundary text m → take m other ≡ take m text → 0 < m →
+pub order_mark-same : (at_start : Bool) (text other : List ℕ) (m : ℕ) → IsUtf8 text → IsUtf8 other → IsCharBoundary text m → take m other ≡ take m text → 0 < m →
     (at_start && begins_with order_mark text) ≡ false → (at_start && begins_with order_mark other) ≡ false
 order_mark-same false text other m utf8 other_utf8 border same some h = refl
 order_mark-same true text other m utf8 other_utf8 border same some h =
@@ -86,7 +86,7 @@ first_token-same at_start text other m utf8 other_utf8 border same some lt =
     ]
 
 -- a place is a place of a text that is the same further
-place-same : (text other : List ℕ) (at known : ℕ) → IsPlace text at → at < known → known ≤ length text → take known other ≡ take known text → IsPlace other at
+pub place-same : (text other : List ℕ) (at known : ℕ) → IsPlace text at → at < known → known ≤ length text → take known other ≡ take known text → IsPlace other at
 place-same text other at known place lt fits same =
     let long : min known (length other) ≡ known = sym (length-take known other) ∙ ap length same ∙ length-take-le known text fits in (
       omega arith,
@@ -94,7 +94,7 @@ place-same text other at known place lt fits same =
           let far = place.1 (omega arith) (omega arith) in omega arith),
     )
 
-token-alike : (at : ℕ) (a b : Cut) (xs ys : List ℕ) → a ≡ b → take b.len xs ≡ take b.len ys →
+pub token-alike : (at : ℕ) (a b : Cut) (xs ys : List ℕ) → a ≡ b → take b.len xs ≡ take b.len ys →
     ◌≡◌ {A = Token} (record { kind = a.kind; from = at; bytes = take a.len xs }) (record { kind = b.kind; from = at; bytes = take b.len ys })
 token-alike at a b xs ys same bytes =
     ap (λ (t : Cut). record { kind = t.kind; from = at; bytes = take t.len xs }) same

@@ -1,4 +1,5 @@
 pub mod Borders
 pub mod Doctype
 pub mod Ending
+pub mod Markup
 pub mod Tag

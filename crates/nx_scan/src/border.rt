@@ -2,6 +2,7 @@
 
 ghost use Rattle.nx_scan.specs.Borders.{TokensFit, TokensAtEnds, TokensAreOfKind, TokensDependOnRest, TokensDependOnThemselves};
 ghost use Rattle.nx_scan.specs.Borders.{EditsLeaveTokens, TokensJoin, TokensGoOn, TokensFromBorder};
+ghost use Rattle.nx_scan.specs.Markup.{TokensStayBeforeMarkup, NamesMakeTags};
 
 /// A token is bytes of its text, at least one, and ends at a place.
 pub fn tokens_fit()
@@ -46,4 +47,14 @@ pub fn tokens_go_on()
 /// Cutting from a border gives the rest of the list.
 pub fn tokens_from_border()
     ensures { TokensFromBorder }
+{}
+
+/// A token that has an end of its own, or is character data, stays where markup is put behind it.
+pub fn tokens_stay_before_markup()
+    ensures { TokensStayBeforeMarkup }
+{}
+
+/// A Name between `<` or `</` and `>` is a start tag or an end tag, whatever follows it.
+pub fn names_make_tags()
+    ensures { NamesMakeTags }
 {}

@@ -3,6 +3,7 @@ pub mod Feeds
 pub mod Gaps
 pub mod Indices
 pub mod Lines
+pub mod Making
 pub mod Listed
 pub mod NextByte
 pub mod OneByte

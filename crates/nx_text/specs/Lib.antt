@@ -1,4 +1,5 @@
 pub mod Borders
+pub mod Changing
 pub mod Editing
 pub mod Feeds
 pub mod Gap

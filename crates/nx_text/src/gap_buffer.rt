@@ -287,6 +287,7 @@ impl<T: Copy> GapBuffer<T> {
         requires { count ≤ length self.old.front }
         ensures front { self.new.front ≡ take count self.old.front }
         ensures back { self.new.back ≡ self.old.back }
+        ensures room { self.old.room ≤ self.new.room }
     {
         self.start = count;
     }
@@ -296,6 +297,7 @@ impl<T: Copy> GapBuffer<T> {
         requires { count ≤ length self.old.back }
         ensures front { self.new.front ≡ self.old.front }
         ensures back { self.new.back ≡ drop count self.old.back }
+        ensures room { self.old.room ≤ self.new.room }
     {
         self.end += count;
     }

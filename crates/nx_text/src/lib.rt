@@ -4,6 +4,7 @@
 #![tactic(auto)]
 
 mod apart;
+mod change;
 mod fill;
 mod gap_buffer;
 pub mod law;

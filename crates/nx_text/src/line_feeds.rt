@@ -137,6 +137,7 @@ pub(crate) fn push_feeds(feeds: &mut GapBuffer<usize>, at: usize, added: &[u8])
     requires fits { at + length added.now < 2 ^ 64 }
     ensures front { feeds.new.front ≡ feeds.old.front ++ feeds_from at added.now }
     ensures back { feeds.new.back ≡ feeds.old.back }
+    ensures room { feeds.old.room ≤ feeds.new.room + count_by is_line_feed added.now }
 {
     let mut left = added;
     while let Some(before) = first_byte(left, b'\n') {
@@ -160,6 +161,8 @@ pub(crate) fn take_out(
     ensures kept { IsKept bytes.new feeds.new }
     ensures front { bytes.new.front ≡ take from bytes.old.front }
     ensures back { bytes.new.back ≡ drop behind bytes.old.back }
+    ensures room { bytes.old.room ≤ bytes.new.room }
+    ensures feeds_room { feeds.old.room ≤ feeds.new.room }
 {
     let kept = feeds_below(feeds.front(), from);
     let dropped = feeds_beyond(feeds.back(), bytes.back().len() - behind);

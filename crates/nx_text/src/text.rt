@@ -7,15 +7,18 @@ ghost use Rattle.nx_text.specs.Places.{line_at, column_at};
 ghost use Rattle.std.specs.Str.{IsUtf8};
 ghost use Rattle.nx_base.specs.Text.{IsPlace, edited};
 ghost use Rattle.nx_base.specs.Tokens.{bytes_up_to};
+ghost use Rattle.nx_text.specs.Changing.{AreChanges, changed};
 ghost use Rattle.nx_text.specs.Editing.{Inserts, Deletes, IsRange};
 ghost use Rattle.nx_text.specs.Reading.{StandsAt, HasNoCharAt, StandFrom};
 
 use crate::apart::{self, next_border, previous_border};
+use crate::change::{make, put_in};
 use crate::fill::fill;
 use crate::gap_buffer::GapBuffer;
 use crate::line_feeds::{count_feeds, feeds_before, move_gaps, push_feeds, take_out};
 use crate::places::{column_in, has_feed};
 use crate::search::{find_in_both, piece_of_both};
+use nx_base::change::Changes;
 use nx_base::memory::NoMemory;
 use nx_base::sequence::Bytes;
 use std::alloc::{AllocError, Global};
@@ -182,6 +185,25 @@ impl Text {
         let middle = self.bytes.front_len().max(from).min(to);
         move_gaps(&mut self.bytes, &mut self.feeds, middle);
         take_out(&mut self.bytes, &mut self.feeds, from, to - middle);
+    }
+
+    /// Makes changes one after another. It takes its memory first: where there is none, the text is as it was.
+    pub fn apply(&mut self, changes: &Changes) -> Result<(), NoMemory>
+        requires { AreChanges self.old changes.now }
+        ensures changed { OnOk result (self.new ≡ changed self.old changes.now) }
+        ensures unchanged { OnErr result (self.new ≡ self.old) }
+    {
+        let Some((bytes, feeds)) = put_in(changes.as_slice()) else {
+            return Err(NoMemory);
+        };
+        self.bytes.make_room(bytes, 0)?;
+        self.feeds.make_room(feeds, 0)?;
+        let mut left = changes.as_slice();
+        while let Some((change, others)) = left.split_first() {
+            make(&mut self.bytes, &mut self.feeds, change);
+            left = others;
+        }
+        Ok(())
     }
 
     /// A copy of the bytes from the place `from` to the place `to`.

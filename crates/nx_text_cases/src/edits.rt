@@ -1,6 +1,12 @@
+ghost use Rattle.std.specs.Prelude.{◌≡◌, IfOk};
+ghost use Rattle.nx_text.specs.Changing.{AreChanges};
+
 use crate::places::place_in;
+use nx_base::change::{Change, Changes};
+use nx_base::memory::NoMemory;
 use nx_base::sequence::Bytes;
 use nx_text::{Text, TextFault};
+use std::alloc::Global;
 use std::test::Fail;
 
 #[test]
@@ -63,5 +69,51 @@ fn bytes_that_were_read_become_a_text(rt: HostRuntime) -> Result<(), Fail> {
         (place_in(&mut text, 2), place_in(&mut text, 5)),
         (Some((2, 0)), Some((3, 0)))
     );
+    Ok(())
+}
+
+/// A change that puts these bytes in the place of others.
+fn change(alloc: Global, from: usize, to: usize, bytes: &[u8]) -> Result<Change, NoMemory>
+    ensures { IfOk result (λ change. change ≡ record { from = from; to = to; text = bytes.now }) }
+{
+    Ok(Change {
+        from,
+        to,
+        text: Bytes::from_vec(Vec::from_slice(alloc, bytes)?),
+    })
+}
+
+/// Whether a text has these bytes.
+fn has_bytes(text: &Text, bytes: &[u8]) -> bool {
+    for (at, byte) in bytes.iter().enumerate() {
+        match text.byte_at(at) {
+            Some(found) => {
+                if found != *byte {
+                    return false;
+                }
+            }
+            None => return false,
+        }
+    }
+    text.len() == bytes.len()
+}
+
+/// Whether changes make this text.
+fn makes(text: &mut Text, changes: &Changes, new: &[u8]) -> Result<bool, NoMemory>
+    requires { AreChanges text.old changes.now }
+{
+    text.apply(changes)?;
+    Ok(has_bytes(text, new))
+}
+
+#[test]
+fn changes_are_made_one_after_another(rt: HostRuntime) -> Result<(), Fail> {
+    let mut text = Text::new(rt.alloc());
+    text.insert(0, "<d><p>ab</p></d>")?;
+    let mut changes = Changes::new(rt.alloc());
+    changes.push(change(rt.alloc(), 10, 11, b"long\n")?)?;
+    changes.push(change(rt.alloc(), 4, 5, b"long\n")?)?;
+    let made = makes(&mut text, &changes, b"<d><long\n>ab</long\n></d>")?;
+    assert!(rt; made);
     Ok(())
 }

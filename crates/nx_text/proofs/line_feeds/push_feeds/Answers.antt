@@ -10,7 +10,7 @@ loop-before-init c =
     let start : c.args.at + (length added - length added) ≡ c.args.at = omega arith in
     let number = counted added in
     let room = c.requires.room in
-    (ap (λ k. c.args.feeds.now.front ++ feeds_from k added) start, refl, omega (arith, number, room), omega arith)
+    (ap (λ k. c.args.feeds.now.front ++ feeds_from k added) start, refl, omega (arith, number, room), omega arith, omega arith)
 
 pub push-requires : goal.push-requires
 push-requires c =
@@ -30,6 +30,7 @@ loop-before-preserved c =
       c.push.ensures.back ∙ inv.1,
       omega (arith, fewer, inv.2, c.push.ensures.room),
       omega (arith, len, inv.3),
+      omega (arith, fewer, inv.4, c.push.ensures.room),
     )
 
 pub returns-clause-front : goal.returns-clause-front
@@ -38,3 +39,9 @@ returns-clause-front c =
     sym (append-nil c.loop-before.feeds.front)
     ∙ ap (λ t. c.loop-before.feeds.front ++ t)
     (sym (feeds_none (c.args.at + (length c.args.added.now - length left)) left c.in_default.ensures)) ∙ c.loop-before.invariant.0
+
+pub returns-clause-room : goal.returns-clause-room
+returns-clause-room c =
+    let number = counted c.args.added.now in
+    let inv = c.loop-before.invariant in
+    omega (arith, number, inv.4)
