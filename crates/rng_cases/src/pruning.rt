@@ -249,13 +249,25 @@ fn no_number(alloc: Global) -> Result<Datatype, TypeFault>
     }
 }
 
+// xsd:hexBinary { length = "0" minLength = "1" }
+fn no_octets(alloc: Global) -> Result<Datatype, TypeFault>
+    ensures { IfOk result (λ made. IsTrue (is_well_made made)) }
+{
+    match (param(alloc, "length", "0"), param(alloc, "minLength", "1")) {
+        (Ok(none), Ok(least)) => Datatype::named(alloc, XSD, "hexBinary", &[none, least]),
+        _ => Err(TypeFault::NoMemory),
+    }
+}
+
 // element n { of the type }
 fn element_of_type(alloc: Global, datatype: &Datatype) -> Result<Defs, NoMemory> {
     only(alloc, named_element(alloc, "n", typed(alloc, datatype)))
 }
 
-fn left_of_no_number(alloc: Global) -> Remains {
-    let Ok(none) = no_number(alloc) else {
+fn left_of_type(alloc: Global, made: Result<Datatype, TypeFault>) -> Remains
+    requires { IfOk made (λ type. IsTrue (is_well_made type)) }
+{
+    let Ok(none) = made else {
         return Remains::Refused;
     };
     match element_of_type(alloc, &none) {
@@ -266,7 +278,18 @@ fn left_of_no_number(alloc: Global) -> Remains {
 
 #[test]
 fn refuses_what_nothing_is_valid_for(rt: HostRuntime) {
-    assert!(rt; matches!(left_of_no_number(rt.alloc()), Remains::Nothing));
+    assert!(rt;
+        matches!(
+            left_of_type(rt.alloc(), no_number(rt.alloc())),
+            Remains::Nothing
+        )
+    );
+    assert!(rt;
+        matches!(
+            left_of_type(rt.alloc(), no_octets(rt.alloc())),
+            Remains::Nothing
+        )
+    );
 }
 
 // element a { empty }, and element foo { empty } to which nothing refers

@@ -33,7 +33,7 @@ fn narrowed(
 
 // A type, a literal and whether it is of the type, by XML Schema Part 2, sections 3.2 and 3.3.
 #[rattlefmt::skip]
-static LITERALS: [(&str, &str, bool); 60] = [
+static LITERALS: [(&str, &str, bool); 73] = [
     ("string", "", true), ("string", " a\t", true), ("normalizedString", "a\tb", true), ("token", "  a  b ", true),
     ("anyURI", "http://a b", true),
     ("Name", "a:b", true), ("Name", "1a", false), ("Name", "", false),
@@ -53,6 +53,11 @@ static LITERALS: [(&str, &str, bool); 60] = [
     ("int", "-2147483648", true), ("int", "2147483648", false), ("long", "9223372036854775808", false),
     ("unsignedByte", "0255", true), ("unsignedShort", "65536", false), ("unsignedInt", "4294967296", false),
     ("unsignedLong", "18446744073709551615", true), ("unsignedLong", "18446744073709551616", false),
+    ("date", " 2000-02-29\n", true), ("date", "1900-02-29", false), ("date", "2000-02-29 Z", false), ("time", "24:00:00.0", true),
+    ("dateTime", "2002-10-10T12:00:00.5-05:00", true), ("gYear", "-0001", true), ("gYear", "0000", false),
+    ("gYearMonth", "2002-13", false),
+    ("hexBinary", "0fB7", true), ("hexBinary", "0fB", false), ("hexBinary", " ", true), ("base64Binary", " Q Q\t= = ", true),
+    ("base64Binary", "QR==", false),
 ];
 
 #[test]
@@ -66,12 +71,15 @@ fn accepts_literals(rt: HostRuntime) -> Result<(), Fail> {
 }
 
 #[rattlefmt::skip]
-static PAIRS: [(&str, &str, &str, bool); 14] = [
+static PAIRS: [(&str, &str, &str, bool); 20] = [
     ("decimal", "1.50", "01.5", true), ("decimal", "1.5", "1.51", false), ("decimal", "-0.0", "0", true), ("decimal", "-1", "1", false),
     ("integer", "-0", "+0", true), ("integer", "10", "9", false), ("integer", " 7", "007", true),
     ("boolean", "true", "1", true), ("boolean", "1", "0", false),
     ("string", "a ", "a", false), ("normalizedString", "a\tb", "a b", true), ("token", "a  b", " a b", true),
     ("NMTOKENS", "a b", " a   b ", true), ("NMTOKENS", "a b", "b a", false),
+    ("date", "2002-10-10+13:00", " 2002-10-09-11:00", true), ("date", "2002-10-10Z", "2002-10-10", false),
+    ("dateTime", "2000-12-31T24:00:00Z", "2001-01-01T01:00:00.0+01:00", true),
+    ("hexBinary", "0fb7", " 0FB7 ", true), ("base64Binary", "QQ==", "Q Q = =", true), ("base64Binary", "QQ==", "Qg==", false),
 ];
 
 #[test]
@@ -86,7 +94,7 @@ fn compares_values(rt: HostRuntime) -> Result<(), Fail> {
 }
 
 #[rattlefmt::skip]
-static FACETS: [(&str, &str, &str, &str, bool); 15] = [
+static FACETS: [(&str, &str, &str, &str, bool); 19] = [
     ("decimal", "minInclusive", "0001234567890123456789012345.678900", "1", false),
     ("string", "length", "2", "\u{e9}\u{e9}", true), ("string", "minLength", "2", "a", false), ("token", "maxLength", "3", " a  b ", true),
     ("NMTOKENS", "maxLength", "1", "abc", true), ("NMTOKENS", "maxLength", "1", "a b", false),
@@ -95,6 +103,8 @@ static FACETS: [(&str, &str, &str, &str, bool); 15] = [
     ("decimal", "maxInclusive", "1.50", "1.5", true), ("decimal", "maxExclusive", "1.50", "1.5", false),
     ("decimal", "minExclusive", "-0.1", "-0.09", true), ("decimal", "minExclusive", "-0.1", "-0.11", false),
     ("byte", "maxInclusive", "1000", "128", false),
+    ("hexBinary", "length", "2", "0fb7", true), ("hexBinary", "maxLength", "1", "0fb7", false),
+    ("base64Binary", "length", "1", "Q Q==", true), ("base64Binary", "minLength", "1", " ", false),
 ];
 
 #[test]
@@ -108,12 +118,16 @@ fn narrows_by_params(rt: HostRuntime) -> Result<(), Fail> {
 }
 
 #[rattlefmt::skip]
-static REFUSALS: [(&str, &str, &str, &str, TypeFault); 9] = [
+static REFUSALS: [(&str, &str, &str, &str, TypeFault); 17] = [
     (XSD, "QName", "length", "1", TypeFault::UnknownType), ("", "boolean", "length", "1", TypeFault::UnknownType),
     ("", "string", "length", "1", TypeFault::UnknownParam), (XSD, "boolean", "length", "1", TypeFault::UnknownParam),
     (XSD, "string", "minInclusive", "1", TypeFault::UnknownParam), (XSD, "string", "length", "1234567890", TypeFault::BadParam),
     (XSD, "int", "minInclusive", "x", TypeFault::BadParam), (XSD, "int", "minInclusive", "1.0", TypeFault::BadParam),
     (XSD, "decimal", "minInclusive", "1234567890123456789012345678901", TypeFault::BadParam),
+    (XSD, "gMonth", "length", "1", TypeFault::UnknownType), (XSD, "gDay", "length", "1", TypeFault::UnknownType),
+    (XSD, "gMonthDay", "length", "1", TypeFault::UnknownType), ("", "date", "length", "1", TypeFault::UnknownType),
+    (XSD, "date", "minInclusive", "2000-01-01", TypeFault::UnknownParam), (XSD, "time", "length", "8", TypeFault::UnknownParam),
+    (XSD, "hexBinary", "maxInclusive", "0f", TypeFault::UnknownParam), (XSD, "base64Binary", "length", "-1", TypeFault::BadParam),
 ];
 
 #[test]
@@ -128,10 +142,10 @@ fn refuses_names_and_params(rt: HostRuntime) -> Result<(), Fail> {
 
 // A type, a literal, and whether it is no longer than a schema may write it.
 #[rattlefmt::skip]
-static LENGTHS: [(&str, &str, bool); 5] = [
+static LENGTHS: [(&str, &str, bool); 6] = [
     ("decimal", "-0001234567890123456789012345.678900", true), ("decimal", ".1234567890123456789012345678901", false),
     ("integer", " 123456789012345678901234567890 ", true), ("integer", "1234567890123456789012345678900", false),
-    ("string", "1234567890123456789012345678901", true),
+    ("string", "1234567890123456789012345678901", true), ("time", "00:00:00.1234567890123456789012345678901", true),
 ];
 
 #[test]
@@ -304,7 +318,17 @@ none|byte|minInclusive=0|owns=0 127
 none|byte|minInclusive=0|owns=0 127|own=0
 many|byte|minInclusive=0|owns=0 127|own=0|own=1
 one|unsignedByte|minExclusive=126|owns=128 255
-none|unsignedByte|minExclusive=126|owns=127 255";
+none|unsignedByte|minExclusive=126|owns=127 255
+one|date|own=2000-01-01|string=2000-01-02|token=2000-01-03
+one|gYear|own=2000Z
+one|time|
+one|hexBinary|length=1|owns=10 99
+none|hexBinary|length=0|minLength=1
+some|hexBinary|length=0|string=|string= |token=00
+none|hexBinary|length=0|own=
+none|base64Binary|maxLength=0|own= 
+none|base64Binary|maxLength=0|token= 
+one|base64Binary|minLength=1|maxLength=1|own=Q Q = =";
 
 #[test]
 fn tells_members(rt: HostRuntime) -> Result<(), Fail> {
@@ -324,9 +348,9 @@ fn is_read(alloc: Global, datatype: &Datatype, text: &str, wanted: &str) -> bool
     }
 }
 
-// The same of a type of the built-in library.
-fn reads(alloc: Global, name: &str, text: &str, wanted: &str) -> bool {
-    match Datatype::named(alloc, "", name, &[]) {
+// The same of a type of a library.
+fn reads(alloc: Global, library: &str, name: &str, text: &str, wanted: &str) -> bool {
+    match Datatype::named(alloc, library, name, &[]) {
         Ok(datatype) => is_read(alloc, &datatype, text, wanted),
         Err(_) => false,
     }
@@ -334,7 +358,10 @@ fn reads(alloc: Global, name: &str, text: &str, wanted: &str) -> bool {
 
 #[test]
 fn reads_one_token(rt: HostRuntime) {
-    assert!(rt; reads(rt.alloc(), "token", " a ", "a"));
-    assert!(rt; reads(rt.alloc(), "string", " a ", "none"));
-    assert!(rt; reads(rt.alloc(), "token", "a b", "none"));
+    assert!(rt; reads(rt.alloc(), "", "token", " a ", "a"));
+    assert!(rt; reads(rt.alloc(), "", "string", " a ", "none"));
+    assert!(rt; reads(rt.alloc(), "", "token", "a b", "none"));
+    assert!(rt; reads(rt.alloc(), XSD, "base64Binary", " Q Q\n= = ", "QQ=="));
+    assert!(rt; reads(rt.alloc(), XSD, "hexBinary", " ", "none"));
+    assert!(rt; reads(rt.alloc(), XSD, "date", " 2000-01-01Z ", "2000-01-01Z"));
 }

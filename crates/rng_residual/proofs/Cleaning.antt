@@ -5,12 +5,14 @@ use Rattle.nx_base.specs.declared.name.Name.{Name}
 use Rattle.nx_base.specs.Characters.{is_blank, is_of_chars}
 use Rattle.nx_base.specs.Trees.{nil, string}
 use Rattle.rng_types.specs.Types.{Accepts, SameWord, SameOfForm, seen_by}
+use Rattle.rng_types.specs.Words.{has_form}
 use Rattle.rng_types.specs.declared.kind.Word.{Word}
 use Rattle.rng_types.specs.declared.kind.Word.TheVariants.{Name as NameWord, NcName, NmToken, Language, Boolean, Decimal, Integer}
 use Rattle.rng_types.specs.declared.kind.Form.{Form}
-use Rattle.rng_types.specs.declared.kind.Form.TheVariants.{Any, One, Several}
+use Rattle.rng_types.specs.declared.kind.Form.TheVariants.{Any, One, Several, More}
 use Rattle.rng_types.specs.declared.datatype.Datatype.{Datatype}
 use Rattle.rng_types.specs.declared.datatype.Except.{Except}
+use Rattle.rng_types.proofs.MoreSame.{more_itself}
 use Rattle.rng_core.specs.Patterns.{Pattern, Definition, not_allowed, typed, literal, listed, one_or_more, choice, group, interleave}
 use Rattle.rng_core.specs.Matching.{Matches, by_value}
 use Rattle.rng_kept.specs.SmallPatterns.{is_not_allowed, choice_of, group_of, interleave_of, star, one_or_more_of}
@@ -220,10 +222,11 @@ same_word_itself NcName a = refl
 same_word_itself NmToken a = refl
 same_word_itself Language a = refl
 
-same_itself : (form : Form) (a : List ℕ) → SameOfForm form a a
-same_itself (Any whitespace) a = refl
-same_itself (One word) a = same_word_itself word a
-same_itself (Several word) a = refl
+same_itself : (form : Form) (a : List ℕ) → IsTrue (has_form form a) → SameOfForm form a a
+same_itself (Any whitespace) a is = refl
+same_itself (One word) a is = same_word_itself word a
+same_itself (Several word) a is = refl
+same_itself (More more) a is = more_itself more a is
 
 pub own_text : {g : List Definition} {type : Datatype} {text : List ℕ} → Accepts type text → Matches g (literal type text) [] (string text nil)
-own_text {type = type} {text = text} a = by_value a (same_itself type.form (seen_by type text))
+own_text {type = type} {text = text} a = by_value a (same_itself type.form (seen_by type text) a.form)

@@ -10,8 +10,9 @@ use Rattle.rng_types.specs.declared.kind.Whitespace.{Whitespace}
 use Rattle.rng_types.specs.declared.kind.Whitespace.TheVariants.{Preserve, Replace, Collapse}
 use Rattle.rng_types.specs.declared.kind.Word.{Word}
 use Rattle.rng_types.specs.declared.kind.Form.{Form}
-use Rattle.rng_types.specs.declared.kind.Form.TheVariants.{Any, One, Several}
+use Rattle.rng_types.specs.declared.kind.Form.TheVariants.{Any, One, Several, More}
 use Rattle.rng_types.proofs.Collapsed.{words-collapsed, words-blank, blank-no_words, no_word_fits}
+use Rattle.rng_types.proofs.MoreLaws.{blank_alike as more_blank_alike}
 
 pub space-case : (b : Bool) (c : ℕ) → is_space c ≡ b → is_space (if b then 32 else c) ≡ b
 unfolding is_space
@@ -25,7 +26,7 @@ blank-replaced (c ∷ cs) =
     rw (first, blank-replaced cs) refl
 
 -- two tests are the same where each follows from the other
-same_tests : (a b : Bool) → (a ≡ true → b ≡ true) → (b ≡ true → a ≡ true) → a ≡ b
+pub same_tests : (a b : Bool) → (a ≡ true → b ≡ true) → (b ≡ true → a ≡ true) → a ≡ b
 same_tests true b to from = sym (to refl)
 same_tests false true to from = from refl
 same_tests false false to from = refl
@@ -54,6 +55,7 @@ alike : (form : Form) (a b : List ℕ) → has_form form (normalized (whitespace
 alike (Any whitespace) a b fa fb same = sym (blank-normalized whitespace a) ∙ ap is_blank same ∙ blank-normalized whitespace b
 alike (One word) a b fa fb same = word_not_blank word a fa ∙ sym (word_not_blank word b fb)
 alike (Several word) a b fa fb same = words_not_blank word a fa ∙ sym (words_not_blank word b fb)
+alike (More more) a b fa fb same = more_blank_alike more a b fa fb same
 
 pub blank_alike : SameAreBlankAlike
 blank_alike type a b accepts_a accepts_b same = alike type.form a b accepts_a.form accepts_b.form same

@@ -13,8 +13,9 @@ use Rattle.rng_types.specs.Answers.{is_same_word, is_same_of_form, is_left, Acce
 use Rattle.rng_types.specs.declared.kind.Word.{Word}
 use Rattle.rng_types.specs.declared.kind.Word.TheVariants.{Name, NcName, NmToken, Language, Boolean, Decimal, Integer}
 use Rattle.rng_types.specs.declared.kind.Form.{Form}
-use Rattle.rng_types.specs.declared.kind.Form.TheVariants.{Any, One, Several}
+use Rattle.rng_types.specs.declared.kind.Form.TheVariants.{Any, One, Several, More}
 use Rattle.rng_types.specs.declared.datatype.Datatype.{Datatype}
+use Rattle.rng_types.proofs.MoreSame.{same_decided}
 use Rattle.rng_types.specs.declared.datatype.Except.{Except}
 use Rattle.rng_types.specs.declared.datatype.Except.TheVariants.{Own, BuiltinString, BuiltinToken}
 
@@ -37,6 +38,7 @@ pub same_of_form_decided : (form : Form) (a b : List ℕ) → IsTrue (is_same_of
 same_of_form_decided (Any whitespace) a b = bytes_decides a b
 same_of_form_decided (One word) a b = same_word_decided word a b
 same_of_form_decided (Several word) a b = bytes_decides a b
+same_of_form_decided (More more) a b = same_decided more a b
 
 pub same_value_decided : SameValueIsDecided
 same_value_decided type a b = same_of_form_decided type.form (seen_by type a) (seen_by type b)

@@ -8,7 +8,7 @@ use Rattle.rng_types.specs.MemberTest.{has_member, MembersExist, TextsGiveMember
 use Rattle.rng_types.specs.declared.kind.Word.{Word}
 use Rattle.rng_types.specs.declared.kind.Word.TheVariants.{Name, NcName, NmToken, Language, Boolean, Decimal, Integer}
 use Rattle.rng_types.specs.declared.kind.Form.{Form}
-use Rattle.rng_types.specs.declared.kind.Form.TheVariants.{Any, One, Several}
+use Rattle.rng_types.specs.declared.kind.Form.TheVariants.{Any, One, Several, More}
 use Rattle.rng_types.specs.declared.facet.Facet.{Facet}
 use Rattle.rng_types.specs.declared.facet.Facet.TheVariants.{Length, Bound}
 use Rattle.rng_types.specs.declared.datatype.Datatype.{Datatype}
@@ -19,6 +19,7 @@ use Rattle.rng_types.proofs.Decimals.{decimal_sound, decimal_complete}
 use Rattle.rng_types.proofs.Texts.{text_sound, text_complete}
 use Rattle.rng_types.proofs.Listed.{names, nc_names, nm_tokens, name_sound, name_complete, words_sound, words_complete, language_member}
 use Rattle.rng_types.proofs.Truths.{truth_sound, truth_complete}
+use Rattle.rng_types.proofs.MoreMembers.{more_sound, more_complete}
 use Rattle.rng_types.proofs.Beside.{LeavesMember, LeavesText, member_left, text_left, has_text_left}
 
 -- the test is true exactly where a member is left, whatever its characters
@@ -57,6 +58,7 @@ exist_form : (form : Form) (facets : List Facet) (excepts : List Except) (one_to
 exist_form (Any whitespace) facets excepts one_token is suit few = (λ has. text_sound whitespace facets excepts one_token suit few has, λ member. text_complete whitespace facets excepts one_token suit member)
 exist_form (One word) facets excepts one_token is suit few = exist_word word facets excepts one_token suit few
 exist_form (Several word) facets excepts one_token is suit few = exist_words word facets excepts one_token is suit few
+exist_form (More more) facets excepts one_token is suit few = (λ has. more_sound more facets excepts one_token suit few has, λ member. more_complete more facets excepts one_token suit member)
 
 told : (type : Datatype) (excepts : List Except) (one_token : Bool) → is_well_made type ≡ true → length excepts ≤ 129 → Tells type excepts one_token
 told type excepts one_token made few =

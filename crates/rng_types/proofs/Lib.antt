@@ -29,6 +29,11 @@ pub mod Allowed
 pub mod Letters
 pub mod Padded
 pub mod Texts
+pub mod Spaceless
+pub mod MoreSame
+pub mod MoreLaws
+pub mod MoreAccepted
+pub mod MoreMembers
 pub mod Listed
 pub mod Truths
 pub mod Exist

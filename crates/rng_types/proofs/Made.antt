@@ -16,7 +16,7 @@ use Rattle.rng_types.specs.WellMade.{suits, is_form, is_well_made}
 use Rattle.rng_types.specs.MemberTest.{NamedAreWellMade}
 use Rattle.rng_types.specs.declared.kind.Word.TheVariants.{Name, NcName, NmToken, Language, Boolean, Decimal, Integer}
 use Rattle.rng_types.specs.declared.kind.Form.{Form}
-use Rattle.rng_types.specs.declared.kind.Form.TheVariants.{Any, One, Several}
+use Rattle.rng_types.specs.declared.kind.Form.TheVariants.{Any, One, Several, More}
 use Rattle.rng_types.specs.declared.kind.Takes.{Takes}
 use Rattle.rng_types.specs.declared.kind.Takes.TheVariants.{Nothing, Lengths, Bounds}
 use Rattle.rng_types.specs.declared.facet.Relation.{Relation}
@@ -40,6 +40,7 @@ goes_with Bounds (One Boolean) = false
 goes_with Bounds (One Decimal) = true
 goes_with Bounds (One Integer) = true
 goes_with Bounds (Several word) = false
+goes_with Bounds (More more) = false
 
 abbrev is_fine : TypeRow → Bool
 is_fine row = is_form row.form && (list_all (suits row.form) (range_of row) && goes_with row.takes row.form)
@@ -85,6 +86,7 @@ length_suits (One Boolean) relation limit fine = absurd (false≢true fine)
 length_suits (One Decimal) relation limit fine = absurd (false≢true fine)
 length_suits (One Integer) relation limit fine = absurd (false≢true fine)
 length_suits (Several word) relation limit fine = refl
+length_suits (More more) relation limit fine = fine
 
 bound_suits : (form : Form) (relation : Relation) (value : List ℕ) → goes_with Bounds form ≡ true → is_bound form value ≡ true → suits form (Bound relation (collapsed value)) ≡ true
 bound_suits (Any whitespace) relation value fine bound = absurd (false≢true fine)
@@ -96,6 +98,7 @@ bound_suits (One Boolean) relation value fine bound = absurd (false≢true fine)
 bound_suits (One Decimal) relation value fine bound = (and_parts (is_word Decimal (collapsed value)) (has_few_digits (collapsed value)) (and_parts (is_utf8 value) _ bound).1).0
 bound_suits (One Integer) relation value fine bound = (and_parts (is_word Integer (collapsed value)) (has_few_digits (collapsed value)) (and_parts (is_utf8 value) _ bound).1).0
 bound_suits (Several word) relation value fine bound = absurd (false≢true fine)
+bound_suits (More more) relation value fine bound = absurd (false≢true fine)
 
 some_if : (form : Form) (b : Bool) (facet : Facet) → (b ≡ true → suits form facet ≡ true) → Passes (suits form) (if b then Some facet else None)
 some_if form true facet suit = suit refl

@@ -1,12 +1,12 @@
 -- Tokens of characters of names, over the characters of a text.
-use Rattle.std.specs.Prelude.{◌≡◌, ℕ, true, false, ◌==◌, not, List, [], ◌∷◌, ◌++◌, length, encode_utf8}
+use Rattle.std.specs.Prelude.{◌≡◌, ℕ, true, false, ◌==◌, not, List, [], ◌∷◌, length}
 use Rattle.std.proofs.Common.{refl, sym, ap, ◌∙◌, arith}
 use Rattle.std.proofs.lemmas.Bool.Decides.{nat_tests}
 use Rattle.std.specs.List.{list_all}
 use Rattle.std.specs.Str.{chars, IsUtf8, encode_utf8_all}
 use Rattle.std.proofs.lemmas.Bool.{false≢true}
-use Rattle.std.proofs.lemmas.Str.{chars-nil, encodes-chars, chars_past_char}
-use Rattle.nx_base.specs.Characters.{is_name_start, is_name_char, is_name}
+use Rattle.std.proofs.lemmas.Str.{chars-nil, encodes-chars}
+use Rattle.nx_base.specs.Characters.{is_name_char}
 use Rattle.rng_types.specs.Words.{is_nm_token}
 
 -- a text with no character is empty

@@ -6,7 +6,7 @@ use Rattle.std.proofs.lemmas.List.Folds.{list_all-append}
 use Rattle.std.proofs.lemmas.Str.{chars-append, IsUtf8-append, IsUtf8-from_ascii, IsUtf8-from_is_utf8, is_utf8-from_IsUtf8}
 use Rattle.std.specs.List.{list_all, join_with_byte, AllByRecursion}
 use Rattle.std.specs.Str.{chars, bytes_eq, is_utf8, IsAscii}
-use Rattle.nx_base.specs.Characters.{is_char, is_of_chars}
+use Rattle.nx_base.specs.Characters.{is_char, is_blank, is_of_chars}
 use Rattle.rng_types.specs.Spaces.{words, collapsed, normalized}
 use Rattle.rng_types.specs.Words.{whitespace_of, has_form}
 use Rattle.rng_types.specs.Facets.{meets}
@@ -53,12 +53,17 @@ pub pad : ℕ → List ℕ → List ℕ
 pad zero text = text
 pad (suc i) text = 32 ∷ pad i text
 
+pub blank-pad : (i : ℕ) → is_blank (pad i []) ≡ true
+unfolding pad
+blank-pad zero = refl
+blank-pad (suc i) = and_from _ _ space_is_space (blank-pad i)
+
 words-pad : (i : ℕ) (text : List ℕ) → words (pad i text) ≡ words text
 unfolding pad
 words-pad zero text = refl
 words-pad (suc i) text = words-space 32 (pad i text) space_is_space ∙ words-pad i text
 
-collapsed-pad : (i : ℕ) (text : List ℕ) → collapsed (pad i text) ≡ collapsed text
+pub collapsed-pad : (i : ℕ) (text : List ℕ) → collapsed (pad i text) ≡ collapsed text
 collapsed-pad i text = ap (join_with_byte 32) (words-pad i text)
 
 length-pad : (i : ℕ) (text : List ℕ) → length (pad i text) ≡ i + length text
@@ -66,12 +71,12 @@ unfolding pad
 length-pad zero text = omega arith
 length-pad (suc i) text = omega (arith, length-pad i text)
 
-characters_pad : (i : ℕ) (text : List ℕ) → is_of_chars text ≡ true → is_of_chars (pad i text) ≡ true
+pub characters_pad : (i : ℕ) (text : List ℕ) → is_of_chars text ≡ true → is_of_chars (pad i text) ≡ true
 unfolding pad
 characters_pad zero text of = of
 characters_pad (suc i) text of = characters_space (pad i text) (characters_pad i text of)
 
-apart-pad : (i j : ℕ) (text : List ℕ) → pad i text ≡ pad j text → i ≡ j
+pub apart-pad : (i j : ℕ) (text : List ℕ) → pad i text ≡ pad j text → i ≡ j
 apart-pad i j text same = omega (arith, ap length same, length-pad i text, length-pad j text)
 
 module _ (type : Datatype) (collapses : whitespace_of type.form ≡ Collapse) where

@@ -1,17 +1,19 @@
 -- The answers whether types and excepts are the same are right.
-use Rattle.std.specs.Prelude.{◌≡◌, ℕ, zero, suc, Bool, true, false, ◌==◌, List, [], ◌∷◌, IsTrue, ◌↔◌}
+use Rattle.std.specs.Prelude.{◌≡◌, ℕ, zero, suc, true, ◌==◌, List, [], ◌∷◌, IsTrue, ◌↔◌}
 use Rattle.std.proofs.Common.{refl, sym, ap, ◌∙◌, subst}
 use Rattle.std.proofs.lemmas.Bool.{and_parts, and_from, false≢true}
 use Rattle.std.specs.Str.{bytes_eq}
 use Rattle.std.specs.Cmp.Lexicographic.{bytes_decides}
 use Rattle.std.proofs.lemmas.Bool.Decides.{Decides-eqb}
-use Rattle.rng_types.specs.Equality.{whitespace_number, word_number, relation_number, same_form, same_facet, same_facets, same_datatype, same_except, same_excepts, EqualityIsDecided}
+use Rattle.rng_types.specs.Equality.{whitespace_number, word_number, more_type_number, relation_number, same_form, same_facet, same_facets, same_datatype, same_except, same_excepts, EqualityIsDecided}
+use Rattle.rng_more_types.specs.declared.more_type.MoreType.{MoreType}
+use Rattle.rng_more_types.specs.declared.more_type.MoreType.TheVariants.{Date, Time, DateTime, GYear, GYearMonth, HexBinary, Base64Binary}
 use Rattle.rng_types.specs.declared.kind.Whitespace.{Whitespace}
 use Rattle.rng_types.specs.declared.kind.Whitespace.TheVariants.{Preserve, Replace, Collapse}
 use Rattle.rng_types.specs.declared.kind.Word.{Word}
 use Rattle.rng_types.specs.declared.kind.Word.TheVariants.{Name, NcName, NmToken, Language, Boolean, Decimal, Integer}
 use Rattle.rng_types.specs.declared.kind.Form.{Form}
-use Rattle.rng_types.specs.declared.kind.Form.TheVariants.{Any, One, Several}
+use Rattle.rng_types.specs.declared.kind.Form.TheVariants.{Any, One, Several, More}
 use Rattle.rng_types.specs.declared.facet.Relation.{Relation}
 use Rattle.rng_types.specs.declared.facet.Relation.TheVariants.{Exactly, AtLeast, AtMost, Above, Below}
 use Rattle.rng_types.specs.declared.facet.Facet.{Facet}
@@ -34,6 +36,15 @@ word_at (suc (suc (suc zero))) = Language
 word_at (suc (suc (suc (suc zero)))) = Boolean
 word_at (suc (suc (suc (suc (suc zero))))) = Decimal
 word_at (suc (suc (suc (suc (suc (suc n)))))) = Integer
+
+more_type_at : ℕ → MoreType
+more_type_at zero = Date
+more_type_at (suc zero) = Time
+more_type_at (suc (suc zero)) = DateTime
+more_type_at (suc (suc (suc zero))) = GYear
+more_type_at (suc (suc (suc (suc zero)))) = GYearMonth
+more_type_at (suc (suc (suc (suc (suc zero))))) = HexBinary
+more_type_at (suc (suc (suc (suc (suc (suc n)))))) = Base64Binary
 
 relation_at : ℕ → Relation
 relation_at zero = Exactly
@@ -58,6 +69,16 @@ word_back Boolean = refl
 word_back Decimal = refl
 word_back Integer = refl
 
+more_type_back : (a : MoreType) → more_type_at (more_type_number a) ≡ a
+unfolding more_type_at
+more_type_back Date = refl
+more_type_back Time = refl
+more_type_back DateTime = refl
+more_type_back GYear = refl
+more_type_back GYearMonth = refl
+more_type_back HexBinary = refl
+more_type_back Base64Binary = refl
+
 relation_back : (a : Relation) → relation_at (relation_number a) ≡ a
 unfolding relation_at
 relation_back Exactly = refl
@@ -78,6 +99,9 @@ same_whitespace a b same = sym (whitespace_back a) ∙ ap whitespace_at (same_nu
 same_word : (a b : Word) → (word_number a == word_number b) ≡ true → a ≡ b
 same_word a b same = sym (word_back a) ∙ ap word_at (same_number _ _ same) ∙ word_back b
 
+same_more_type : (a b : MoreType) → (more_type_number a == more_type_number b) ≡ true → a ≡ b
+same_more_type a b same = sym (more_type_back a) ∙ ap more_type_at (same_number _ _ same) ∙ more_type_back b
+
 same_relation : (a b : Relation) → (relation_number a == relation_number b) ≡ true → a ≡ b
 same_relation a b same = sym (relation_back a) ∙ ap relation_at (same_number _ _ same) ∙ relation_back b
 
@@ -88,11 +112,14 @@ form_sound (One a) (One b) same = ap (λ x. One x) (same_word a b same)
 form_sound (One a) b same = absurd (false≢true same)
 form_sound (Several a) (Several b) same = ap (λ x. Several x) (same_word a b same)
 form_sound (Several a) b same = absurd (false≢true same)
+form_sound (More a) (More b) same = ap (λ x. More x) (same_more_type a b same)
+form_sound (More a) b same = absurd (false≢true same)
 
 form_itself : (a : Form) → same_form a a ≡ true
 form_itself (Any a) = number_itself (whitespace_number a)
 form_itself (One a) = number_itself (word_number a)
 form_itself (Several a) = number_itself (word_number a)
+form_itself (More a) = number_itself (more_type_number a)
 
 both_length : (r s : Relation) (m n : ℕ) → r ≡ s → m ≡ n → Length r m ≡ Length s n
 both_length r s m n one other = cc

@@ -157,7 +157,7 @@ text_complete whitespace facets excepts one_token suit member =
       | inr long ↦ or_left (has_length facets) _ (has_length-from facets k long allowed)
     ]
 
-characters_nil : is_of_chars [] ≡ true
+pub characters_nil : is_of_chars [] ≡ true
 characters_nil = and_from _ _ (is_utf8-from_IsUtf8 [] IsUtf8-nil) (ap (list_all is_char) chars-nil)
 
 empty_accepted : (whitespace : Whitespace) (facets : List Facet) → normalized whitespace [] ≡ [] → list_all (suits (Any whitespace)) facets ≡ true → allows facets 0 ≡ true → Accepts (typed (Any whitespace) facets) []

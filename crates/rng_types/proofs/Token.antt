@@ -1,6 +1,6 @@
 -- Texts of one token with a given value are told rightly.
 use Rattle.std.specs.Borrow.{Bor}
-use Rattle.std.specs.Prelude.{◌≡◌, ℕ, Bool, true, false, not, List, [], ◌∷◌, ◌++◌, take, drop, length, Option, None, Some, if◌then◌else◌, MatchOption}
+use Rattle.std.specs.Prelude.{◌≡◌, ℕ, Bool, true, false, not, List, [], ◌∷◌, ◌++◌, take, drop, length, Option, None, Some, Result, Ok, Err, IfOk, IsTrue, if◌then◌else◌, MatchOption}
 use Rattle.std.proofs.Common.{refl, sym, ap, ◌∙◌, subst, inl, inr}
 use Rattle.std.proofs.lemmas.Bool.{and_parts, and_from, and_right, false≢true, cases_eq, not_from_true, false_from_ne_true}
 use Rattle.std.proofs.lemmas.List.{take-append-drop}
@@ -8,25 +8,33 @@ use Rattle.std.proofs.lemmas.List.Folds.{list_all-append}
 use Rattle.std.proofs.lemmas.Str.{IsUtf8-take, IsUtf8-from_is_utf8, is_utf8-from_IsUtf8, chars-append}
 use Rattle.std.specs.List.{list_all, join_with_byte, prefix_len, position_or_len, AllByRecursion}
 use Rattle.std.specs.Str.{chars, is_utf8, IsUtf8}
-use Rattle.nx_base.specs.Characters.{is_space, is_char, is_of_chars}
+use Rattle.std.specs.Ordering.{nat_cmp}
+use Rattle.nx_base.specs.Characters.{is_space, is_blank, is_char, is_of_chars}
+use Rattle.rng_more_types.specs.declared.more_type.MoreType.{MoreType}
+use Rattle.rng_more_types.specs.Spaces.{unspaced}
 use Rattle.rng_types.specs.Spaces.{is_some_text, words, collapsed, replaced_char, replaced, normalized}
 use Rattle.rng_types.specs.Words.{is_word, has_form, whitespace_of}
-use Rattle.rng_types.specs.Facets.{meets}
+use Rattle.rng_types.specs.Facets.{holds, octet_count, meets}
 use Rattle.rng_types.specs.Types.{seen_by, Accepts, SameWord, SameOfForm}
 use Rattle.rng_types.specs.Members.{is_one_token}
-use Rattle.rng_types.specs.OneToken.{IsOneTokenOf, IsOneTokenAnswer, OneTokensExist}
+use Rattle.rng_types.specs.OneToken.{IsOneTokenOf, IsOneTokenAnswer, OneTokensExist, tight, token_or_none, one_token_of}
 use Rattle.rng_types.specs.declared.kind.Whitespace.{Whitespace}
 use Rattle.rng_types.specs.declared.kind.Whitespace.TheVariants.{Preserve, Replace, Collapse}
 use Rattle.rng_types.specs.declared.kind.Word.{Word}
 use Rattle.rng_types.specs.declared.kind.Word.TheVariants.{Name, NcName, NmToken, Language, Boolean, Decimal, Integer}
 use Rattle.rng_types.specs.declared.kind.Form.{Form}
-use Rattle.rng_types.specs.declared.kind.Form.TheVariants.{Any, One, Several}
+use Rattle.rng_types.specs.declared.kind.Form.TheVariants.{Any, One, Several, More}
+use Rattle.rng_types.specs.declared.facet.Facet.{Facet}
+use Rattle.rng_types.specs.declared.facet.Facet.TheVariants.{Length, Bound}
 use Rattle.rng_types.specs.declared.datatype.Datatype.{Datatype}
 use Rattle.rng_types.proofs.Blank.{space-case}
 use Rattle.rng_types.proofs.Spaced.{all-stops}
 use Rattle.rng_types.proofs.SplitWords.{words-found, no_words, utf8-leading, cut_behind_leading, cut_before_space}
-use Rattle.rng_types.proofs.Collapsed.{is_bare, IsBareWord, words-are_bare, words-collapsed, word-alone, words-joined, space_is_space, utf8-first_word, not_nothing, no_word_fits, two_words_fit_none}
+use Rattle.rng_types.proofs.Collapsed.{is_bare, IsBareWord, words-are_bare, words-collapsed, word-alone, words-joined, words-blank, space_is_space, utf8-first_word, not_nothing, no_word_fits, two_words_fit_none}
 use Rattle.rng_types.proofs.Plain.{replaced-bare, seen-plain}
+use Rattle.rng_types.proofs.Numeric.{typed, all_same}
+use Rattle.rng_types.proofs.Spaceless.{bare-unspaced, blank-unspaced, characters-unspaced}
+use Rattle.rng_types.proofs.MoreLaws.{IsTight, tight_literal, blank_alike as more_blank_alike}
 
 pub token_word : (text : List ℕ) → is_one_token text ≡ true → IsBareWord text
 token_word text token = let parts = and_parts (is_some_text text) (is_bare text) token in record { some = parts.0; bare = parts.1 }
@@ -82,13 +90,8 @@ same_word_itself NcName a = refl
 same_word_itself NmToken a = refl
 same_word_itself Language a = refl
 
-same_itself : (form : Form) (a : List ℕ) → SameOfForm form a a
-same_itself (Any whitespace) a = refl
-same_itself (One word) a = same_word_itself word a
-same_itself (Several word) a = refl
-
-token_found : (type : Datatype) (value : List ℕ) → Accepts type value → is_one_token (seen_by type value) ≡ true → IsOneTokenOf type value (seen_by type value)
-token_found type value accepted token =
+token_found : (type : Datatype) (value : List ℕ) → SameOfForm type.form (seen_by type value) (seen_by type value) → Accepts type value → is_one_token (seen_by type value) ≡ true → IsOneTokenOf type value (seen_by type value)
+token_found type value itself accepted token =
     let text : List ℕ = seen_by type value in
     let seen : seen_by type text ≡ text = seen-plain type text (token_word text token) in
     let P : List ℕ → Type 0 = λ t. SameOfForm type.form t text in
@@ -98,7 +101,7 @@ token_found type value accepted token =
         form = ap (has_form type.form) seen ∙ accepted.form;
         facets = ap (λ (t : List ℕ). list_all (meets type.form t) type.facets) seen ∙ accepted.facets;
       };
-      same = subst P (sym seen) (same_itself type.form text);
+      same = subst P (sym seen) itself;
     }
 
 -- what has the form of a word is one token
@@ -117,38 +120,71 @@ word_is_token value word utf8 fits = word_case value word (words value) utf8 ref
 text_alike : (type : Datatype) (value text : List ℕ) → is_one_token text ≡ true → seen_by type text ≡ seen_by type value → is_one_token (seen_by type value) ≡ true
 text_alike type value text token same = ap is_one_token (sym same ∙ seen-plain type text (token_word text token)) ∙ token
 
-same_case : (form : Form) (type : Datatype) (value text : List ℕ) → type.form ≡ form → IsUtf8 value → has_form form (seen_by type value) ≡ true → is_one_token text ≡ true → SameOfForm form (seen_by type text) (seen_by type value) → is_one_token (seen_by type value) ≡ true
-same_case (Any whitespace) type value text is utf8 fits token same = text_alike type value text token same
-same_case (One word) type value text is utf8 fits token same =
-    let seen : seen_by type value ≡ collapsed value = ap (λ form. normalized (whitespace_of form) value) is in
-    ap is_one_token seen ∙ word_is_token value word utf8 (ap (is_word word) (sym seen) ∙ fits)
-same_case (Several word) type value text is utf8 fits token same = text_alike type value text token same
+-- so that there is none only where the value's text isn't one
+abbrev NoOther : Datatype → List ℕ → Type 0
+NoOther type value = (text : List ℕ) → is_one_token text ≡ true → SameOfForm type.form (seen_by type text) (seen_by type value) → is_one_token (seen_by type value) ≡ true
 
-answer_case : (b : Bool) (type : Datatype) (value : List ℕ) → is_one_token (seen_by type value) ≡ b → Accepts type value → is_of_chars value ≡ true →
+answer_case : (b : Bool) (type : Datatype) (value : List ℕ) → is_one_token (seen_by type value) ≡ b → SameOfForm type.form (seen_by type value) (seen_by type value) → NoOther type value → Accepts type value → is_of_chars value ≡ true →
     IsOneTokenAnswer type value (if b then Some (seen_by type value) else None)
-answer_case true type value is accepted of = (seen_characters (whitespace_of type.form) value of is, token_found type value accepted is)
-answer_case false type value is accepted of = λ text utf8 found.
-    let value_utf8 = IsUtf8-from_is_utf8 value (and_parts (is_utf8 value) (list_all is_char (chars value)) of).0 in
-    false≢true (sym is ∙ same_case type.form type value text refl value_utf8 accepted.form found.token found.same)
+answer_case true type value is itself other accepted of = (seen_characters (whitespace_of type.form) value of is, token_found type value itself accepted is)
+answer_case false type value is itself other accepted of = λ text utf8 found. false≢true (sym is ∙ other text found.token found.same)
+
+-- the same of dates, times and octets, without the white space inside
+met_alike : (more : MoreType) (a b : List ℕ) → octet_count more a ≡ octet_count more b → (facet : Facet) → meets (More more) a facet ≡ meets (More more) b facet
+met_alike more a b same (Length relation limit) = ap (λ n. holds relation (nat_cmp n limit)) same
+met_alike more a b same (Bound relation limit) = refl
+
+more_found : (more : MoreType) (facets : List Facet) (value : List ℕ) → IsTight more value (unspaced value) → Accepts (typed (More more) facets) value → is_one_token (unspaced value) ≡ true →
+    IsOneTokenOf (typed (More more) facets) value (unspaced value)
+more_found more facets value is accepted token = record {
+  token = token;
+  accepted = record {
+    form = is.literal;
+    facets = all_same (meets (More more) (unspaced value)) (meets (More more) value) (met_alike more (unspaced value) value is.count) facets ∙ accepted.facets;
+  };
+  same = is.same;
+}
+
+token_not_blank : (text : List ℕ) → is_one_token text ≡ true → is_blank text ≡ true → ⊥
+token_not_blank text token blank = not_nothing text [] (sym (word-alone text (token_word text token)) ∙ words-blank text blank)
+
+more_case : (b : Bool) (more : MoreType) (facets : List Facet) (value : List ℕ) → is_one_token (unspaced value) ≡ b → Accepts (typed (More more) facets) value → is_of_chars value ≡ true →
+    IsOneTokenAnswer (typed (More more) facets) value (if b then Some (unspaced value) else None)
+more_case true more facets value is accepted of = (characters-unspaced value of, more_found more facets value (tight_literal more value accepted.form) accepted is)
+more_case false more facets value is accepted of = λ text utf8 found.
+    let none : is_some_text (unspaced value) ≡ false = false_from_ne_true _ (λ some. false≢true (sym is ∙ and_from _ _ some (bare-unspaced value))) in
+    token_not_blank text found.token (more_blank_alike more text value found.accepted.form accepted.form found.same ∙ blank-unspaced value none)
+
+form_case : (form : Form) (facets : List Facet) (value : List ℕ) → Accepts (typed form facets) value → is_of_chars value ≡ true →
+    IsOneTokenAnswer (typed form facets) value (token_or_none (tight form (normalized (whitespace_of form) value)))
+form_case (Any whitespace) facets value accepted of =
+    let type = typed (Any whitespace) facets in
+    answer_case (is_one_token (seen_by type value)) type value refl refl (λ text token same. text_alike type value text token same) accepted of
+form_case (One word) facets value accepted of =
+    let type = typed (One word) facets in
+    let utf8 = IsUtf8-from_is_utf8 value (and_parts (is_utf8 value) (list_all is_char (chars value)) of).0 in
+    answer_case (is_one_token (collapsed value)) type value refl (same_word_itself word (collapsed value)) (λ text token same. word_is_token value word utf8 accepted.form) accepted of
+form_case (Several word) facets value accepted of =
+    let type = typed (Several word) facets in
+    answer_case (is_one_token (seen_by type value)) type value refl refl (λ text token same. text_alike type value text token same) accepted of
+form_case (More more) facets value accepted of = more_case (is_one_token (unspaced value)) more facets value refl accepted of
 
 pub one_tokens_exist : OneTokensExist
-one_tokens_exist type value accepted of = answer_case (is_one_token (seen_by type value)) type value refl accepted of
+one_tokens_exist type value accepted of = form_case type.form type.facets value accepted of
 
--- what `as_one_token` answers, by its bytes after white space
-seen_bytes : (type : Datatype) (value bytes : List ℕ) (whitespace : Whitespace) → whitespace ≡ whitespace_of type.form → bytes ≡ value → normalized whitespace bytes ≡ seen_by type value
-seen_bytes type value bytes whitespace w b = ap (λ treatment. normalized treatment bytes) w ∙ ap (normalized (whitespace_of type.form)) b
+-- what `tight_token` answers
+pub solid_token : (text kept : List ℕ) → kept ≡ unspaced text → is_some_text kept ≡ true → Some kept ≡ token_or_none (unspaced text)
+solid_token text kept same some =
+    let token : is_one_token (unspaced text) ≡ true = and_from _ _ (ap is_some_text (sym same) ∙ some) (bare-unspaced text) in
+    rw token (ap (λ (t : List ℕ). Some t) same)
 
-pub answer_some : (type : Datatype) (value text bytes : List ℕ) (whitespace : Whitespace) → whitespace ≡ whitespace_of type.form → bytes ≡ value → is_one_token (normalized whitespace bytes) ≡ true → text ≡ normalized whitespace bytes → Accepts type value → is_of_chars value ≡ true →
-    IsOneTokenAnswer type value (Some text)
-answer_some type value text bytes whitespace w b token same accepted of =
-    let seen : normalized whitespace bytes ≡ seen_by type value = seen_bytes type value bytes whitespace w b in
-    let P : List ℕ → Type 0 = λ t. IsOneTokenAnswer type value (Some t) in
-    let whole : text ≡ seen_by type value = same ∙ seen in
-    subst P (sym whole) (answer_case true type value (ap is_one_token (sym seen) ∙ token) accepted of)
-
-pub answer_none : (type : Datatype) (value bytes : List ℕ) (whitespace : Whitespace) → whitespace ≡ whitespace_of type.form → bytes ≡ value → is_one_token (normalized whitespace bytes) ≡ false → Accepts type value → is_of_chars value ≡ true → IsOneTokenAnswer type value None
-answer_none type value bytes whitespace w b none accepted of =
-    answer_case false type value (ap is_one_token (sym (seen_bytes type value bytes whitespace w b)) ∙ none) accepted of
+-- what `as_one_token` answers
+pub answer_told : {E : Type 0} (result : Result (Option (List ℕ)) E) (type : Datatype) (value : List ℕ) → IfOk result (λ found. found ≡ one_token_of type value) →
+    IfOk result (λ found. Accepts type value → IsTrue (is_of_chars value) → IsOneTokenAnswer type value found)
+answer_told (Ok found) type value is = λ accepted of.
+    let P : Option (List ℕ) → Type 0 = λ answer. IsOneTokenAnswer type value answer in
+    subst P (sym is) (one_tokens_exist type value accepted of)
+answer_told (Err e) type value is = tt
 
 -- the answers of `lone_word`
 pub no_word_no_token : (text : List ℕ) → words text ≡ [] → is_one_token (collapsed text) ≡ false

@@ -4,6 +4,7 @@ use Rattle.std.specs.List.{list_all, AllByRecursion}
 use Rattle.std.specs.Ordering.{int_eq}
 use Rattle.std.specs.Str.{bytes_eq}
 use Rattle.std.specs.Bool.{beq}
+use Rattle.rng_more_types.specs.MoreTypes.{is_same}
 use Rattle.rng_types.specs.Spaces.{collapsed}
 use Rattle.rng_types.specs.Words.{has_form, is_true}
 use Rattle.rng_types.specs.Numbers.{Number, number_of, times}
@@ -12,7 +13,7 @@ use Rattle.rng_types.specs.Types.{seen_by, Accepts, SameValue, TakesAway}
 use Rattle.rng_types.specs.declared.kind.Word.{Word}
 use Rattle.rng_types.specs.declared.kind.Word.TheVariants.{Name, NcName, NmToken, Language, Boolean, Decimal, Integer}
 use Rattle.rng_types.specs.declared.kind.Form.{Form}
-use Rattle.rng_types.specs.declared.kind.Form.TheVariants.{Any, One, Several}
+use Rattle.rng_types.specs.declared.kind.Form.TheVariants.{Any, One, Several, More}
 use Rattle.rng_types.specs.declared.datatype.Datatype.{Datatype}
 use Rattle.rng_types.specs.declared.datatype.Except.{Except}
 use Rattle.rng_types.specs.declared.datatype.Except.TheVariants.{Own, BuiltinString, BuiltinToken}
@@ -36,6 +37,7 @@ abbrev pub is_same_of_form : Form → List ℕ → List ℕ → Bool
 is_same_of_form (Any whitespace) a b = bytes_eq a b
 is_same_of_form (One word) a b = is_same_word word a b
 is_same_of_form (Several word) a b = bytes_eq a b
+is_same_of_form (More more) a b = is_same more a b
 
 abbrev pub is_same_value : Datatype → List ℕ → List ℕ → Bool
 is_same_value type a b = is_same_of_form type.form (seen_by type a) (seen_by type b)

@@ -1,12 +1,14 @@
 -- Whether two types, or two excepts, are the same, as answers.
-use Rattle.std.specs.Prelude.{◌≡◌, ℕ, ◌+◌, Bool, true, false, ◌&&◌, ◌==◌, List, [], ◌∷◌, IsTrue, ◌↔◌}
+use Rattle.std.specs.Prelude.{◌≡◌, ℕ, Bool, true, false, ◌&&◌, ◌==◌, List, [], ◌∷◌, IsTrue, ◌↔◌}
 use Rattle.std.specs.Str.{bytes_eq}
+use Rattle.rng_more_types.specs.declared.more_type.MoreType.{MoreType}
+use Rattle.rng_more_types.specs.declared.more_type.MoreType.TheVariants.{Date, Time, DateTime, GYear, GYearMonth, HexBinary, Base64Binary}
 use Rattle.rng_types.specs.declared.kind.Whitespace.{Whitespace}
 use Rattle.rng_types.specs.declared.kind.Whitespace.TheVariants.{Preserve, Replace, Collapse}
 use Rattle.rng_types.specs.declared.kind.Word.{Word}
 use Rattle.rng_types.specs.declared.kind.Word.TheVariants.{Name, NcName, NmToken, Language, Boolean, Decimal, Integer}
 use Rattle.rng_types.specs.declared.kind.Form.{Form}
-use Rattle.rng_types.specs.declared.kind.Form.TheVariants.{Any, One, Several}
+use Rattle.rng_types.specs.declared.kind.Form.TheVariants.{Any, One, Several, More}
 use Rattle.rng_types.specs.declared.facet.Relation.{Relation}
 use Rattle.rng_types.specs.declared.facet.Relation.TheVariants.{Exactly, AtLeast, AtMost, Above, Below}
 use Rattle.rng_types.specs.declared.facet.Facet.{Facet}
@@ -15,7 +17,7 @@ use Rattle.rng_types.specs.declared.datatype.Datatype.{Datatype}
 use Rattle.rng_types.specs.declared.datatype.Except.{Except}
 use Rattle.rng_types.specs.declared.datatype.Except.TheVariants.{Own, BuiltinString, BuiltinToken}
 
--- a number for each treatment of white space, each form of a word, each form, and each relation
+-- a number for each treatment of white space, each form of a word, each further type, and each relation
 abbrev pub whitespace_number : Whitespace → ℕ
 whitespace_number Preserve = 0
 whitespace_number Replace = 1
@@ -30,6 +32,15 @@ word_number Boolean = 4
 word_number Decimal = 5
 word_number Integer = 6
 
+abbrev pub more_type_number : MoreType → ℕ
+more_type_number Date = 0
+more_type_number Time = 1
+more_type_number DateTime = 2
+more_type_number GYear = 3
+more_type_number GYearMonth = 4
+more_type_number HexBinary = 5
+more_type_number Base64Binary = 6
+
 abbrev pub relation_number : Relation → ℕ
 relation_number Exactly = 0
 relation_number AtLeast = 1
@@ -41,6 +52,7 @@ abbrev pub same_form : Form → Form → Bool
 same_form (Any a) (Any b) = (whitespace_number a == whitespace_number b)
 same_form (One a) (One b) = (word_number a == word_number b)
 same_form (Several a) (Several b) = (word_number a == word_number b)
+same_form (More a) (More b) = (more_type_number a == more_type_number b)
 same_form a b = false
 
 abbrev pub same_facet : Facet → Facet → Bool

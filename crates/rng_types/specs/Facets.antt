@@ -1,13 +1,15 @@
 -- What facets ask of a text: XML Schema Part 2, section 4.3.
-use Rattle.std.specs.Prelude.{ℕ, Bool, true, false, ◌&&◌, List, length}
+use Rattle.std.specs.Prelude.{ℕ, Bool, true, false, ◌&&◌, List, length, unwrap_or}
 use Rattle.std.specs.Str.{chars}
 use Rattle.std.specs.Ordering.{nat_cmp}
 use Rattle.std.specs.declared.cmp.Ordering.{Ordering}
 use Rattle.std.specs.declared.cmp.Ordering.TheVariants.{Less, Equal, Greater}
+use Rattle.rng_more_types.specs.MoreTypes.{octets_of}
+use Rattle.rng_more_types.specs.declared.more_type.MoreType.{MoreType}
 use Rattle.rng_types.specs.Spaces.{words}
 use Rattle.rng_types.specs.Numbers.{is_decimal, number_of, compared}
 use Rattle.rng_types.specs.declared.kind.Form.{Form}
-use Rattle.rng_types.specs.declared.kind.Form.TheVariants.{Any, One, Several}
+use Rattle.rng_types.specs.declared.kind.Form.TheVariants.{Any, One, Several, More}
 use Rattle.rng_types.specs.declared.facet.Relation.{Relation}
 use Rattle.rng_types.specs.declared.facet.Relation.TheVariants.{Exactly, AtLeast, AtMost, Above, Below}
 use Rattle.rng_types.specs.declared.facet.Facet.{Facet}
@@ -31,11 +33,17 @@ holds Below Less = true
 holds Below Equal = false
 holds Below Greater = false
 
--- a text's length: its words where the form is several, otherwise its characters
+-- how many octets a text stands for; 0 where that isn't what it stands for
+abbrev pub octet_count : MoreType → List ℕ → ℕ
+octet_count more text = unwrap_or (octets_of more text) 0
+
+-- a text's length: its words where the form is several, its octets where they are what it stands for, otherwise its
+-- characters
 abbrev pub size_of : Form → List ℕ → ℕ
 size_of (Any whitespace) text = length (chars text)
 size_of (One word) text = length (chars text)
 size_of (Several word) text = length (words text)
+size_of (More more) text = octet_count more text
 
 -- whether a number is in the relation to another, by their literals; other texts are in none
 abbrev pub is_related : Relation → List ℕ → List ℕ → Bool
@@ -48,3 +56,4 @@ meets form text (Length relation limit) = holds relation (nat_cmp (size_of form 
 meets (Any whitespace) text (Bound relation limit) = false
 meets (One word) text (Bound relation limit) = is_related relation text limit
 meets (Several word) text (Bound relation limit) = false
+meets (More more) text (Bound relation limit) = false

@@ -13,5 +13,6 @@ pub mod Offsets
 pub mod NumberMembers
 pub mod TextMembers
 pub mod MemberTest
+pub mod MoreLaws
 pub mod OneToken
 pub mod Equality

@@ -1,17 +1,19 @@
 -- Whether a type has a member beside excepts, by its form.
 use Rattle.std.specs.Prelude.{◌≡◌, ℕ, ◌≤◌, Bool, true, if◌then◌else◌, List, length, IsTrue, ◌↔◌, Ok}
 use Rattle.std.specs.Str.{is_utf8}
+use Rattle.rng_more_types.specs.declared.more_type.MoreType.{MoreType}
+use Rattle.rng_more_types.specs.declared.more_type.MoreType.TheVariants.{Date, Time, DateTime, GYear, GYearMonth, HexBinary, Base64Binary}
 use Rattle.rng_types.specs.declared.kind.Word.{Word}
 use Rattle.rng_types.specs.declared.kind.Word.TheVariants.{Name, NcName, NmToken, Language, Boolean, Decimal, Integer}
 use Rattle.rng_types.specs.declared.kind.Form.{Form}
-use Rattle.rng_types.specs.declared.kind.Form.TheVariants.{Any, One, Several}
+use Rattle.rng_types.specs.declared.kind.Form.TheVariants.{Any, One, Several, More}
 use Rattle.rng_types.specs.Naming.{type_of}
 use Rattle.rng_types.specs.declared.datatype.Datatype.{Datatype}
 use Rattle.rng_types.specs.declared.datatype.Param.{Param}
 use Rattle.rng_types.specs.declared.datatype.Except.{Except}
 use Rattle.rng_types.specs.WellMade.{is_well_made}
 use Rattle.rng_types.specs.NumberMembers.{has_integer, has_decimal}
-use Rattle.rng_types.specs.TextMembers.{allows, has_length, has_text, has_truth}
+use Rattle.rng_types.specs.TextMembers.{allows, has_length, has_text, has_truth, has_octets}
 use Rattle.rng_types.specs.Members.{IsMember, HasMember}
 
 -- of one word: names by their length, language tags always, since they are without end
@@ -28,10 +30,21 @@ has_word Integer type excepts one_token = has_integer type.facets excepts
 abbrev pub has_words : Datatype → Bool → Bool
 has_words type one_token = if one_token then allows type.facets 1 else has_length type.facets
 
+-- dates and times always, since there are more than excepts can be; octets by how many there are
+abbrev pub has_more : MoreType → Datatype → List Except → Bool → Bool
+has_more Date type excepts one_token = true
+has_more Time type excepts one_token = true
+has_more DateTime type excepts one_token = true
+has_more GYear type excepts one_token = true
+has_more GYearMonth type excepts one_token = true
+has_more HexBinary type excepts one_token = has_octets type excepts one_token
+has_more Base64Binary type excepts one_token = has_octets type excepts one_token
+
 abbrev pub has_member_of : Form → Datatype → List Except → Bool → Bool
 has_member_of (Any whitespace) type excepts one_token = has_text whitespace type excepts one_token
 has_member_of (One word) type excepts one_token = has_word word type excepts one_token
 has_member_of (Several word) type excepts one_token = has_words type one_token
+has_member_of (More more) type excepts one_token = has_more more type excepts one_token
 
 -- whether there is a member, by the form
 abbrev pub has_member : Datatype → List Except → Bool → Bool

@@ -10,7 +10,7 @@ use Rattle.rng_types.specs.Numbers.{is_digits, has_few_digits}
 use Rattle.rng_types.specs.Words.{is_word}
 use Rattle.rng_types.specs.Table.{TypeRow, type_named}
 use Rattle.rng_types.specs.declared.kind.Form.{Form}
-use Rattle.rng_types.specs.declared.kind.Form.TheVariants.{Any, One, Several}
+use Rattle.rng_types.specs.declared.kind.Form.TheVariants.{Any, One, Several, More}
 use Rattle.rng_types.specs.declared.kind.Takes.{Takes}
 use Rattle.rng_types.specs.declared.kind.Takes.TheVariants.{Nothing, Lengths, Bounds}
 use Rattle.rng_types.specs.declared.facet.Relation.{Relation}
@@ -53,6 +53,7 @@ abbrev pub is_bound : Form → List ℕ → Bool
 is_bound (Any whitespace) value = false
 is_bound (One word) value = is_utf8 value && (is_word word (collapsed value) && has_few_digits (collapsed value))
 is_bound (Several word) value = false
+is_bound (More more) value = false
 
 -- the facet with that relation and value on a type, if the value is a literal for it
 abbrev pub facet_with : Takes → Form → Relation → List ℕ → Option Facet

@@ -2,10 +2,11 @@
 use Rattle.std.specs.Prelude.{ℕ, List, [], ◌∷◌, Option, None, codes, if◌then◌else◌}
 use Rattle.std.specs.List.{find}
 use Rattle.std.specs.Str.{bytes_eq}
+use Rattle.rng_more_types.specs.declared.more_type.MoreType.TheVariants.{Date, Time, DateTime, GYear, GYearMonth, HexBinary, Base64Binary}
 use Rattle.rng_types.specs.declared.kind.Whitespace.TheVariants.{Preserve, Replace, Collapse}
 use Rattle.rng_types.specs.declared.kind.Word.TheVariants as word
 use Rattle.rng_types.specs.declared.kind.Form.{Form}
-use Rattle.rng_types.specs.declared.kind.Form.TheVariants.{Any, One, Several}
+use Rattle.rng_types.specs.declared.kind.Form.TheVariants.{Any, One, Several, More}
 use Rattle.rng_types.specs.declared.kind.Takes.{Takes}
 use Rattle.rng_types.specs.declared.kind.Takes.TheVariants.{Nothing, Lengths, Bounds}
 
@@ -63,6 +64,13 @@ schema_types =
     ∷ whole_type (codes "unsignedInt") (codes "0") (codes "4294967295")
     ∷ whole_type (codes "unsignedShort") (codes "0") (codes "65535")
     ∷ whole_type (codes "unsignedByte") (codes "0") (codes "255")
+    ∷ plain_type (codes "date") (More Date)
+    ∷ plain_type (codes "time") (More Time)
+    ∷ plain_type (codes "dateTime") (More DateTime)
+    ∷ plain_type (codes "gYear") (More GYear)
+    ∷ plain_type (codes "gYearMonth") (More GYearMonth)
+    ∷ text_type (codes "hexBinary") (More HexBinary)
+    ∷ text_type (codes "base64Binary") (More Base64Binary)
     ∷ []
 
 abbrev pub schema_library : List ℕ

@@ -63,6 +63,12 @@ abbrev pub has_text : Whitespace → Datatype → List Except → Bool → Bool
 has_text whitespace type excepts one_token =
     has_length type.facets || (not one_token && (allows type.facets 0 && is_empty_left whitespace type excepts))
 
+-- octets of each number from 1 on have more values than excepts can be. No octets are one value, which is never one token
+-- and has texts without end, since its white space collapses
+abbrev pub has_octets : Datatype → List Except → Bool → Bool
+has_octets type excepts one_token =
+    has_length type.facets || (not one_token && (allows type.facets 0 && is_left_spaced type excepts []))
+
 -- the literals of the truth values
 abbrev pub truths : List (List ℕ)
 truths = codes "true" ∷ codes "1" ∷ codes "false" ∷ codes "0" ∷ []

@@ -2,6 +2,7 @@
 use Rattle.std.specs.Prelude.{◌≡◌, ℕ, Bool, true, List, IsTrue}
 use Rattle.std.specs.List.{list_all}
 use Rattle.nx_base.specs.Characters.{is_blank}
+use Rattle.rng_more_types.specs.MoreTypes.{HaveSameValue}
 use Rattle.rng_types.specs.Spaces.{collapsed, normalized}
 use Rattle.rng_types.specs.Words.{whitespace_of, has_form, is_true}
 use Rattle.rng_types.specs.Numbers.{number_of, SameNumber, has_few_digits as has_few_digits_of_number}
@@ -9,7 +10,7 @@ use Rattle.rng_types.specs.Facets.{meets}
 use Rattle.rng_types.specs.declared.kind.Word.{Word}
 use Rattle.rng_types.specs.declared.kind.Word.TheVariants.{Name, NcName, NmToken, Language, Boolean, Decimal, Integer}
 use Rattle.rng_types.specs.declared.kind.Form.{Form}
-use Rattle.rng_types.specs.declared.kind.Form.TheVariants.{Any, One, Several}
+use Rattle.rng_types.specs.declared.kind.Form.TheVariants.{Any, One, Several, More}
 use Rattle.rng_types.specs.declared.datatype.Datatype.{Datatype}
 use Rattle.rng_types.specs.declared.datatype.Except.{Except}
 use Rattle.rng_types.specs.declared.datatype.Except.TheVariants.{Own, BuiltinString, BuiltinToken}
@@ -34,6 +35,7 @@ has_few_digits (One NmToken) text = true
 has_few_digits (One Language) text = true
 has_few_digits (One Boolean) text = true
 has_few_digits (Several word) text = true
+has_few_digits (More more) text = true
 
 -- two words of the form have the same value: the same truth value, number, or text
 abbrev pub SameWord : Word → List ℕ → List ℕ → Type 0
@@ -50,6 +52,7 @@ abbrev pub SameOfForm : Form → List ℕ → List ℕ → Type 0
 SameOfForm (Any whitespace) a b = a ≡ b
 SameOfForm (One word) a b = SameWord word a b
 SameOfForm (Several word) a b = a ≡ b
+SameOfForm (More more) a b = HaveSameValue more a b
 
 -- two texts of the type have the same value
 abbrev pub SameValue : Datatype → List ℕ → List ℕ → Type 0

@@ -2,12 +2,13 @@
 use Rattle.std.specs.Prelude.{Bool, true, false, ◌&&◌}
 use Rattle.std.specs.List.{list_all}
 use Rattle.std.specs.Str.{is_utf8}
+use Rattle.rng_more_types.specs.Laws.{is_octets}
 use Rattle.rng_types.specs.Numbers.{is_decimal, is_integer}
 use Rattle.rng_types.specs.Answers.{is_accepted}
 use Rattle.rng_types.specs.declared.kind.Word.{Word}
 use Rattle.rng_types.specs.declared.kind.Word.TheVariants.{Name, NcName, NmToken, Language, Boolean, Decimal, Integer}
 use Rattle.rng_types.specs.declared.kind.Form.{Form}
-use Rattle.rng_types.specs.declared.kind.Form.TheVariants.{Any, One, Several}
+use Rattle.rng_types.specs.declared.kind.Form.TheVariants.{Any, One, Several, More}
 use Rattle.rng_types.specs.declared.facet.Facet.{Facet}
 use Rattle.rng_types.specs.declared.facet.Facet.TheVariants.{Length, Bound}
 use Rattle.rng_types.specs.declared.datatype.Datatype.{Datatype}
@@ -37,6 +38,8 @@ suits (Any whitespace) (Bound relation limit) = false
 suits (One word) facet = suits_word word facet
 suits (Several word) (Length relation limit) = true
 suits (Several word) (Bound relation limit) = false
+suits (More more) (Length relation limit) = is_octets more
+suits (More more) (Bound relation limit) = false
 
 -- the form is one that a type may have: several words are names or tokens of such characters
 abbrev pub is_list_word : Word → Bool
@@ -52,6 +55,7 @@ abbrev pub is_form : Form → Bool
 is_form (Any whitespace) = true
 is_form (One word) = true
 is_form (Several word) = is_list_word word
+is_form (More more) = true
 
 -- a type as the tables and their params make it
 abbrev pub is_well_made : Datatype → Bool

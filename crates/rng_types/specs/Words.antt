@@ -4,14 +4,15 @@ use Rattle.std.specs.List.{list_all, slice_split}
 use Rattle.std.specs.Str.{chars, bytes_eq}
 use Rattle.std.specs.Char.{is_ascii_alphabetic, is_ascii_alphanumeric}
 use Rattle.nx_base.specs.Characters.{is_name_char, is_name, is_nc_name}
+use Rattle.rng_more_types.specs.MoreTypes.{is_literal}
 use Rattle.rng_types.specs.Spaces.{words, is_some_text}
 use Rattle.rng_types.specs.Numbers.{is_decimal, is_integer}
 use Rattle.rng_types.specs.declared.kind.Whitespace.{Whitespace}
-use Rattle.rng_types.specs.declared.kind.Whitespace.TheVariants.{Collapse}
+use Rattle.rng_types.specs.declared.kind.Whitespace.TheVariants.{Preserve, Collapse}
 use Rattle.rng_types.specs.declared.kind.Word.{Word}
 use Rattle.rng_types.specs.declared.kind.Word.TheVariants.{Name, NcName, NmToken, Language, Boolean, Decimal, Integer}
 use Rattle.rng_types.specs.declared.kind.Form.{Form}
-use Rattle.rng_types.specs.declared.kind.Form.TheVariants.{Any, One, Several}
+use Rattle.rng_types.specs.declared.kind.Form.TheVariants.{Any, One, Several, More}
 
 -- Nmtoken, over characters
 abbrev pub is_nm_token : List ℕ → Bool
@@ -52,14 +53,17 @@ abbrev pub are_words : Word → List (List ℕ) → Bool
 are_words word [] = false
 are_words word (first ∷ more) = list_all (is_word word) (first ∷ more)
 
--- a form of words collapses the text
+-- a form of words collapses the text. So do those of dates, times and octets: their literals are told of the text as it stands, to
+-- which white space at its ends is nothing, and in base64 any, so there is nothing left to treat
 abbrev pub whitespace_of : Form → Whitespace
 whitespace_of (Any whitespace) = whitespace
 whitespace_of (One word) = Collapse
 whitespace_of (Several word) = Collapse
+whitespace_of (More more) = Preserve
 
--- whether a whole text has the form
+-- whether a whole text has the form. Of dates, times and octets that is to be a literal of theirs (`AcceptsLiterals`)
 abbrev pub has_form : Form → List ℕ → Bool
 has_form (Any whitespace) text = true
 has_form (One word) text = is_word word text
 has_form (Several word) text = are_words word (words text)
+has_form (More more) text = is_literal more text

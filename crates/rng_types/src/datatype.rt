@@ -48,6 +48,7 @@ impl Datatype {
             Form::One(word) => word.has_few_digits(literal),
             Form::Any(_) => true,
             Form::Several(_) => true,
+            Form::More(_) => true,
         }
     }
 }

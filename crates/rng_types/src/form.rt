@@ -56,6 +56,7 @@ impl Form {
                 None => false,
             },
             Form::Several(word) => are_words(word, text),
+            Form::More(more) => more.accepts(text),
         }
     }
 }

@@ -1,5 +1,7 @@
 //! What types are put together from.
 
+use rng_more_types::MoreType;
+
 /// What becomes of white space before anything else is asked (XML Schema Part 2, section 4.3.6).
 #[derive(Clone, Copy, Debug, PartialEq, Eq)]
 pub enum Whitespace {
@@ -39,6 +41,8 @@ pub enum Form {
     One(Word),
     /// One or more words, separated by white space.
     Several(Word),
+    /// A date, a time, or octets.
+    More(MoreType),
 }
 
 /// Which facets a schema may put on a type.

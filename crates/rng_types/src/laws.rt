@@ -3,6 +3,7 @@
 ghost use Rattle.rng_types.specs.Types.{SameAreBlankAlike};
 ghost use Rattle.rng_types.specs.Answers.{AcceptsIsDecided, SameValueIsDecided, TakesAwayIsDecided, LeftIsDecided};
 ghost use Rattle.rng_types.specs.MemberTest.{MembersExist, TextsGiveMembers, NamedAreWellMade};
+ghost use Rattle.rng_types.specs.MoreLaws.{AcceptsLiterals};
 ghost use Rattle.rng_types.specs.Equality.{EqualityIsDecided};
 ghost use Rattle.rng_types.specs.OneToken.{OneTokensExist};
 
@@ -30,6 +31,11 @@ pub fn members_exist()
 /// The text of one token that has a value is told rightly.
 pub fn one_tokens_exist()
     ensures { OneTokensExist }
+{}
+
+/// Types of dates, times and octets accept their literals that meet the facets.
+pub fn literals_are_accepted()
+    ensures { AcceptsLiterals }
 {}
 
 /// The answers whether two types, or two lists of excepts, are the same are right.

@@ -1,14 +1,16 @@
 //! Lengths of texts.
 
-ghost use Rattle.std.specs.Prelude.{◌≡◌, ◌+◌, ◌-◌, ◌^◌, ◌<◌, length, min, sum_by};
+ghost use Rattle.std.specs.Prelude.{◌≡◌, ◌+◌, ◌-◌, ◌^◌, ◌<◌, length, min, sum_by, IsTrue};
 ghost use Rattle.std.specs.Str.{chars};
 ghost use Rattle.std.specs.Ordering.{nat_cmp};
 ghost use Rattle.rng_types.specs.Spaces.{words, collapsed, normalized};
-ghost use Rattle.rng_types.specs.Words.{whitespace_of};
-ghost use Rattle.rng_types.specs.Facets.{size_of};
+ghost use Rattle.rng_types.specs.Words.{whitespace_of, has_form};
+ghost use Rattle.rng_more_types.specs.MoreTypes.{is_literal};
+ghost use Rattle.rng_types.specs.Facets.{octet_count as octet_count_of, size_of};
 
 use crate::kind::{Form, Whitespace};
 use crate::spaces::first_word;
+use rng_more_types::MoreType;
 use std::cmp::Ordering;
 
 /// How many characters a text has.
@@ -65,16 +67,26 @@ impl Whitespace {
     }
 }
 
+/// How many octets a text of the type stands for; 0 where that isn't what it stands for.
+fn octet_count(more: MoreType, text: &str) -> usize
+    requires { IsTrue (is_literal more text.now) }
+    ensures { result ≡ octet_count_of more text.now }
+{
+    more.octets(text).unwrap_or(0)
+}
+
 impl Form {
-    /// How a text's length compares with a limit: the length in words where the form is several words, otherwise
-    /// that in characters.
+    /// How a text's length compares with a limit: the length in words where the form is several words, in octets where
+    /// they are what it stands for, otherwise that in characters.
     pub(crate) fn compare_length(self, text: &str, limit: u32) -> Ordering
+        requires { IsTrue (has_form self (normalized (whitespace_of self) text.now)) }
         ensures { result ≡ nat_cmp (size_of self (normalized (whitespace_of self) text.now)) limit }
     {
         match self {
             Form::Any(whitespace) => whitespace.compare_length(text, limit),
             Form::One(_) => compare_collapsed(text, limit),
             Form::Several(_) => word_count(text).cmp(&(limit as usize)),
+            Form::More(more) => octet_count(more, text).cmp(&(limit as usize)),
         }
     }
 }

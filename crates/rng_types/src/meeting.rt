@@ -1,9 +1,9 @@
 //! Which texts meet a facet.
 
-ghost use Rattle.std.specs.Prelude.{◌≡◌};
+ghost use Rattle.std.specs.Prelude.{◌≡◌, IsTrue};
 ghost use Rattle.std.specs.List.{list_all};
 ghost use Rattle.rng_types.specs.Spaces.{collapsed, normalized};
-ghost use Rattle.rng_types.specs.Words.{whitespace_of};
+ghost use Rattle.rng_types.specs.Words.{whitespace_of, has_form};
 ghost use Rattle.rng_types.specs.Facets.{is_related as is_related_to, meets};
 
 use crate::facet::{Facet, Relation};
@@ -31,6 +31,7 @@ fn is_word_related(relation: Relation, text: &str, limit: &[u8]) -> bool
 impl Facet {
     /// Whether a text of the form meets the facet.
     fn is_met(&self, form: Form, text: &str) -> bool
+        requires { IsTrue (has_form form (normalized (whitespace_of form) text.now)) }
         ensures { result ≡ meets form (normalized (whitespace_of form) text.now) self.now }
     {
         match self {
@@ -39,6 +40,7 @@ impl Facet {
                 Form::One(_) => is_word_related(*relation, text, limit.as_slice()),
                 Form::Any(_) => false,
                 Form::Several(_) => false,
+                Form::More(_) => false,
             },
         }
     }
@@ -46,7 +48,13 @@ impl Facet {
 
 /// Whether a text of the form meets all facets.
 pub(crate) fn all_are_met(facets: &[Facet], form: Form, text: &str) -> bool
+    requires { IsTrue (has_form form (normalized (whitespace_of form) text.now)) }
     ensures { result ≡ list_all (meets form (normalized (whitespace_of form) text.now)) facets.now }
 {
-    facets.iter().all(|facet| facet.is_met(form, text))
+    for facet in facets {
+        if !facet.is_met(form, text) {
+            return false;
+        }
+    }
+    true
 }

@@ -5,11 +5,13 @@ ghost use Rattle.std.specs.List.{list_all};
 ghost use Rattle.rng_types.specs.Types.{Accepts};
 ghost use Rattle.rng_types.specs.Members.{HasMember};
 ghost use Rattle.rng_types.specs.WellMade.{is_sound_except, is_well_made};
+ghost use Rattle.rng_types.specs.TextMembers.{allows as allows_lengths};
 ghost use Rattle.rng_types.specs.TextMembers.{is_empty_left as is_empty_text_left, has_text as has_some_text};
 ghost use Rattle.rng_types.specs.TextMembers.{is_truth_left as is_truth_text_left, has_truth as has_some_truth};
-ghost use Rattle.rng_types.specs.MemberTest.{has_word as has_some_word, has_words as has_some_words};
+ghost use Rattle.rng_types.specs.TextMembers.{has_octets as has_some_octets};
+ghost use Rattle.rng_types.specs.MemberTest.{has_word as has_some_word, has_words as has_some_words, has_more as has_some_more};
 ghost use Rattle.rng_types.specs.MemberTest.{has_member as has_some_member, most_excepts};
-ghost use Rattle.rng_types.specs.declared.kind.Form.TheVariants.{Any, One};
+ghost use Rattle.rng_types.specs.declared.kind.Form.TheVariants.{Any, One, More};
 ghost use Rattle.rng_types.specs.declared.kind.Word.TheVariants.{Boolean};
 ghost use Rattle.rng_types.specs.declared.fault.TypeFault.TheVariants.{TooManyExcepts};
 
@@ -19,6 +21,7 @@ use crate::fault::TypeFault;
 use crate::integers::has_integer;
 use crate::kind::{Form, Whitespace, Word};
 use crate::length_range::{allows, has_length};
+use rng_more_types::MoreType;
 
 impl Datatype {
     /// Whether the empty value of a type of texts is left.
@@ -106,6 +109,39 @@ impl Datatype {
         }
     }
 
+    /// Whether a type of octets has a member.
+    fn has_octets(&self, excepts: &[Except], one_token: bool) -> bool
+        requires empty { IsTrue (allows_lengths self.now.facets 0) → Accepts self.now [] }
+        requires sound { IsTrue (list_all (is_sound_except self.now) excepts.now) }
+        ensures { result ≡ has_some_octets self.now excepts.now one_token }
+    {
+        if has_length(self.facets.as_slice()) {
+            return true;
+        }
+        if one_token || !allows(self.facets.as_slice(), 0) {
+            return false;
+        }
+        self.is_left_spaced(excepts, "")
+    }
+
+    /// Whether a date, a time or a type of octets has a member.
+    fn has_more(&self, more: MoreType, excepts: &[Except], one_token: bool) -> bool
+        requires form { self.now.form ≡ More more }
+        requires made { IsTrue (is_well_made self.now) }
+        requires sound { IsTrue (list_all (is_sound_except self.now) excepts.now) }
+        ensures { result ≡ has_some_more more self.now excepts.now one_token }
+    {
+        match more {
+            MoreType::Date => true,
+            MoreType::Time => true,
+            MoreType::DateTime => true,
+            MoreType::GYear => true,
+            MoreType::GYearMonth => true,
+            MoreType::HexBinary => self.has_octets(excepts, one_token),
+            MoreType::Base64Binary => self.has_octets(excepts, one_token),
+        }
+    }
+
     /// Whether a type has a member beside so few excepts.
     fn has_member_beside(&self, excepts: &[Except], one_token: bool) -> bool
         requires made { IsTrue (is_well_made self.now) }
@@ -117,6 +153,7 @@ impl Datatype {
             Form::Any(whitespace) => self.has_text(whitespace, excepts, one_token),
             Form::One(word) => self.has_word(word, excepts, one_token),
             Form::Several(_) => self.has_words(one_token),
+            Form::More(more) => self.has_more(more, excepts, one_token),
         }
     }
 

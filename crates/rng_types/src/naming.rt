@@ -116,6 +116,7 @@ fn bound_of(form: Form, value: &[u8]) -> Option<&str>
         },
         Form::Any(_) => None,
         Form::Several(_) => None,
+        Form::More(_) => None,
     }
 }
 

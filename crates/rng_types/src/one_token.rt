@@ -1,12 +1,13 @@
 //! Texts of one token with a given value.
 
-ghost use Rattle.std.specs.Prelude.{◌≡◌, ◌&&◌, true, false, not, MatchOption, IfOk, IsTrue};
+ghost use Rattle.std.specs.Prelude.{◌≡◌, ◌&&◌, true, false, not, [], ◌∷◌, ◌++◌, MatchOption, IfOk, OnOk, IsTrue};
 ghost use Rattle.std.specs.List.{list_all};
 ghost use Rattle.nx_base.specs.Characters.{is_space as is_space_code, is_of_chars};
 ghost use Rattle.rng_types.specs.Spaces.{collapsed, normalized};
+ghost use Rattle.rng_more_types.specs.Spaces.{unspaced};
 ghost use Rattle.rng_types.specs.Words.{whitespace_of};
 ghost use Rattle.rng_types.specs.Members.{is_one_token as is_one};
-ghost use Rattle.rng_types.specs.OneToken.{IsOneTokenAnswer, one_token_of};
+ghost use Rattle.rng_types.specs.OneToken.{IsOneTokenAnswer, tight, token_or_none, one_token_of};
 ghost use Rattle.rng_types.specs.Types.{Accepts};
 
 use crate::datatype::Datatype;
@@ -71,15 +72,63 @@ impl Whitespace {
     }
 }
 
+/// A copy of bytes after this treatment, if they are one token then.
+fn copied_token(
+    alloc: Global,
+    whitespace: Whitespace,
+    bytes: &[u8],
+) -> Result<Option<Bytes>, NoMemory>
+    ensures { IfOk result (λ found. found ≡ token_or_none (normalized whitespace bytes.now)) }
+{
+    match whitespace.token(bytes) {
+        Some(word) => Ok(Some(bytes_of(alloc, word)?)),
+        None => Ok(None),
+    }
+}
+
+/// Adds a byte, unless it is white space.
+fn push_solid(kept: &mut Bytes, byte: u8) -> Result<(), NoMemory>
+    ensures { OnOk result (kept.new ≡ kept.old ++ unspaced (byte ∷ [])) }
+{
+    if is_space(char::from(byte)) {
+        return Ok(());
+    }
+    kept.push(byte)?;
+    Ok(())
+}
+
+/// A copy of what is no white space among bytes.
+fn without_space(alloc: Global, bytes: &[u8]) -> Result<Bytes, NoMemory>
+    ensures { IfOk result (λ kept. kept ≡ unspaced bytes.now) }
+{
+    let mut kept = Bytes::new(alloc);
+    for byte in bytes {
+        push_solid(&mut kept, *byte)?;
+    }
+    Ok(kept)
+}
+
+/// The same, if there is anything.
+fn tight_token(alloc: Global, bytes: &[u8]) -> Result<Option<Bytes>, NoMemory>
+    ensures { IfOk result (λ found. found ≡ token_or_none (unspaced bytes.now)) }
+{
+    let kept = without_space(alloc, bytes)?;
+    if kept.is_empty() {
+        return Ok(None);
+    }
+    Ok(Some(kept))
+}
+
 impl Form {
-    /// What a text of the form has done to its white space.
-    fn whitespace(self) -> Whitespace
-        ensures { result ≡ whitespace_of self }
+    /// A copy of a text as a type of the form sees it, without what may be left out of it, if that is one token.
+    fn token(self, alloc: Global, bytes: &[u8]) -> Result<Option<Bytes>, NoMemory>
+        ensures { IfOk result (λ found. found ≡ token_or_none (tight self (normalized (whitespace_of self) bytes.now))) }
     {
         match self {
-            Form::Any(whitespace) => whitespace,
-            Form::One(_) => Whitespace::Collapse,
-            Form::Several(_) => Whitespace::Collapse,
+            Form::Any(whitespace) => copied_token(alloc, whitespace, bytes),
+            Form::One(_) => copied_token(alloc, Whitespace::Collapse, bytes),
+            Form::Several(_) => copied_token(alloc, Whitespace::Collapse, bytes),
+            Form::More(_) => tight_token(alloc, bytes),
         }
     }
 }
@@ -92,9 +141,6 @@ impl Datatype {
             Accepts self.now value.now → IsTrue (is_of_chars value.now) → IsOneTokenAnswer self.now value.now found) }
         ensures value { IfOk result (λ found. found ≡ one_token_of self.now value.now) }
     {
-        match self.form.whitespace().token(value.as_bytes()) {
-            Some(word) => Ok(Some(bytes_of(alloc, word)?)),
-            None => Ok(None),
-        }
+        self.form.token(alloc, value.as_bytes())
     }
 }

@@ -130,6 +130,7 @@ impl Form {
             Form::Any(whitespace) => whitespace.same(a, b),
             Form::One(word) => same_only_words(word, a, b),
             Form::Several(_) => same_collapsed(a.as_bytes(), b.as_bytes()),
+            Form::More(more) => more.same(a, b),
         }
     }
 }

@@ -8,6 +8,7 @@ ghost use Rattle.rng_types.specs.Table.{builtin_types, schema_types, type_named 
 ghost use Rattle.rng_types.specs.Rows.{row_of};
 
 use crate::kind::{Form, Takes, Whitespace, Word};
+use rng_more_types::MoreType;
 
 /// A type: its name, its form, the facets that may be put on it, and the literals at the ends of its range, each
 /// empty where there is none.
@@ -27,7 +28,7 @@ static BUILTIN_TYPES: [Row; 2] = [
 ];
 
 #[rattlefmt::skip]
-static SCHEMA_TYPES: [Row; 27] = [
+static SCHEMA_TYPES: [Row; 34] = [
     Row { name: "string", form: Form::Any(Whitespace::Preserve), takes: Takes::Lengths, low: "", high: "" },
     Row { name: "normalizedString", form: Form::Any(Whitespace::Replace), takes: Takes::Lengths, low: "", high: "" },
     Row { name: "token", form: Form::Any(Whitespace::Collapse), takes: Takes::Lengths, low: "", high: "" },
@@ -55,6 +56,13 @@ static SCHEMA_TYPES: [Row; 27] = [
     Row { name: "unsignedInt", form: Form::One(Word::Integer), takes: Takes::Bounds, low: "0", high: "4294967295" },
     Row { name: "unsignedShort", form: Form::One(Word::Integer), takes: Takes::Bounds, low: "0", high: "65535" },
     Row { name: "unsignedByte", form: Form::One(Word::Integer), takes: Takes::Bounds, low: "0", high: "255" },
+    Row { name: "date", form: Form::More(MoreType::Date), takes: Takes::Nothing, low: "", high: "" },
+    Row { name: "time", form: Form::More(MoreType::Time), takes: Takes::Nothing, low: "", high: "" },
+    Row { name: "dateTime", form: Form::More(MoreType::DateTime), takes: Takes::Nothing, low: "", high: "" },
+    Row { name: "gYear", form: Form::More(MoreType::GYear), takes: Takes::Nothing, low: "", high: "" },
+    Row { name: "gYearMonth", form: Form::More(MoreType::GYearMonth), takes: Takes::Nothing, low: "", high: "" },
+    Row { name: "hexBinary", form: Form::More(MoreType::HexBinary), takes: Takes::Lengths, low: "", high: "" },
+    Row { name: "base64Binary", form: Form::More(MoreType::Base64Binary), takes: Takes::Lengths, low: "", high: "" },
 ];
 
 /// The first of the rows with that name.

@@ -1,0 +1,15 @@
+pub mod Basics
+pub mod Leaps
+pub mod Months
+pub mod Digits
+pub mod Trailing
+pub mod Hex
+pub mod Sixes
+pub mod Unspaced
+pub mod Written
+pub mod Read
+pub mod Decided
+pub mod Blank
+pub mod Around
+pub mod Candidates
+pub mod Small
