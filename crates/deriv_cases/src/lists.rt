@@ -9,53 +9,53 @@ use std::alloc::Global;
 use std::test::Fail;
 
 /// How many of the lists of five are followed, the events that they are made of, and the schema, of elements a and b and the
-/// attribute x. Which attributes are required is asked as an event is. Between two is a blank line. The counts are those of a program
-/// that wrote down all trees.
+/// attribute x. Which attributes are required and which elements needed is asked as an event is. Between two is a blank line. The
+/// counts are those of a program that wrote down all trees.
 pub(crate) const FIVE_EVENTS: &str = r##"
-0 of <a|<b|@x="v"|>|"t"|</|required
+0 of <a|<b|@x="v"|>|"t"|</|required|needed|needed a|needed b
 element a { empty }
 
-2 of <a|<b|@x="v"|>|"t"|</|required
+2 of <a|<b|@x="v"|>|"t"|</|required|needed|needed a|needed b
 element a { text }
 
-1 of <a|<b|@x="v"|>|"t"|</|required
+1 of <a|<b|@x="v"|>|"t"|</|required|needed|needed a|needed b
 element a { attribute x { text }, element b { empty }* }
 
-10 of <a|<b|@x="v"|>|"t"|</|required
+10 of <a|<b|@x="v"|>|"t"|</|required|needed|needed a|needed b
 element a { attribute x { "v" }?, (text | element b { text })* }
 
-2 of <a|<b|@x="v"|>|"t"|</|required
+2 of <a|<b|@x="v"|>|"t"|</|required|needed|needed a|needed b
 element a { (attribute x { text } | attribute x { "w" }), ("t" | element b { empty }) }
 
-2 of <a|<b|@x="v"|>|"t"|</|required
+2 of <a|<b|@x="v"|>|"t"|</|required|needed|needed a|needed b
 element a { list { "t"+ } | element b { attribute x { text } } | element b { empty } }
 
-12 of <a|<b|@x="v"|>|"t"|</|required
+12 of <a|<b|@x="v"|>|"t"|</|required|needed|needed a|needed b
 start = p  p = element a { p? & element b { text }? & text }
 
-7 of <a|<b|@x="v"|>|"t"|</|required
+7 of <a|<b|@x="v"|>|"t"|</|required|needed|needed a|needed b
 start = p | q  p = element a { (p | q)*, element b { empty } }  q = element a { text | (p | q)* }
 "##;
 
 /// The same for lists of four. Their events are all names that a schema mentions, as elements and as attributes, strings and values
 /// that are blank, and the text x. The counts were worked out by hand.
 pub(crate) const FOUR_EVENTS: &str = r##"
-2 of <doc|<em|<id|<para|<title|@doc=" "|@doc="x"|@em=" "|@em="x"|@id=" "|@id="x"|@para=" "|@para="x"|@title=" "|@title="x"|>|" "|"x"|</|required
+2 of <doc|<em|<id|<para|<title|@doc=" "|@doc="x"|@em=" "|@em="x"|@id=" "|@id="x"|@para=" "|@para="x"|@title=" "|@title="x"|>|" "|"x"|</|required|needed|needed doc|needed em|needed id|needed para|needed title
 start = element doc { attribute id { xsd:NCName }, element title { text }, element para { (text | element em { text })* }* }
 
-2 of <a|@a=" "|@a="x"|>|" "|"x"|</|required
+2 of <a|@a=" "|@a="x"|>|" "|"x"|</|required|needed|needed a
 element a { empty }
 
-2 of <a|<b|@a=" "|@a="x"|>|" "|"x"|</|required
+2 of <a|<b|@a=" "|@a="x"|>|" "|"x"|</|required|needed|needed a|needed b
 start = element a { b? }  b = element b { b }
 
-5 of <r|<x|<y|@r=" "|@r="x"|@x=" "|@x="x"|@y=" "|@y="x"|>|" "|"x"|</|required
+5 of <r|<x|<y|@r=" "|@r="x"|@x=" "|@x="x"|@y=" "|@y="x"|>|" "|"x"|</|required|needed|needed r|needed x|needed y
 element r { element x { text } & element y { text } }
 
-4 of <n|@n=" "|@n="x"|>|" "|"x"|"7"|</|required
+4 of <n|@n=" "|@n="x"|>|" "|"x"|"7"|</|required|needed|needed n
 element n { xsd:int { minInclusive = "5" } }
 
-8 of <a|<x|<y|@a=" "|@a="x"|@x=" "|@x="x"|@y=" "|@y="x"|>|" "|"x"|</|required
+8 of <a|<x|<y|@a=" "|@a="x"|@x=" "|@x="x"|@y=" "|@y="x"|>|" "|"x"|</|required|needed|needed a|needed x|needed y
 element a { attribute x { text }, attribute y { text } }
 "##;
 
@@ -193,8 +193,8 @@ fn is_number(alloc: Global, number: usize, wanted: &str) -> bool {
     }
 }
 
-/// Whether two matchers answer alike to all lists of up to so many events and to what is required behind them, and follow so many of
-/// the longest.
+/// Whether two matchers answer alike to all lists of up to so many events and to what is required and needed behind them, and follow
+/// so many of the longest.
 fn are_alike<A: Matcher, B: Matcher>(
     alloc: Global,
     one: &mut A,
@@ -206,7 +206,7 @@ fn are_alike<A: Matcher, B: Matcher>(
     match longest_of_both(alloc, one, other, events, length) {
         Some(lists) => {
             is_number(alloc, followed(lists.as_str()), count)
-                && longer_of_both(alloc, one, other, lists.as_str(), "required").is_some()
+                && longer_of_both(alloc, one, other, lists.as_str(), "required|needed").is_some()
         }
         None => false,
     }

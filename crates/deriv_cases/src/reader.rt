@@ -17,6 +17,8 @@
 //! | `</?` | the same, behind children that are left out |
 //! | `copy` | none: the matcher goes on with a copy of its state, which is to be the same |
 //! | `required` | none: the answer is the list of attributes that are required, `nothing` where there are none |
+//! | `needed a` | none: the answer is the list of elements that are needed up to an element a, `nothing` where there are none |
+//! | `needed` | the same, up to the end of the element that is open |
 //!
 //! A name may have its namespace and a colon in front. The answer is the number of the first event, from 1, that the matcher answers
 //! none, or `-`.
@@ -229,6 +231,49 @@ fn move_at(number: usize, event: &str) -> Option<Move<'_>> {
     move_of(event)
 }
 
+/// The name up to whose element an event asks what is needed; none where it is another event, and an empty one up to the end.
+fn skip_of(event: &str) -> Option<&str> {
+    let name = event.strip_prefix("needed")?;
+    if name.is_empty() {
+        return Some(name);
+    }
+    name.strip_prefix(" ")
+}
+
+/// What is needed up to an element of a name.
+fn needed_up_to<M: Matcher>(
+    alloc: Global,
+    matcher: &mut M,
+    state: &M::State,
+    name: Result<Name, NoMemory>,
+) -> Result<Names, NoMemory>
+    requires { M.is_state matcher.old state.now }
+{
+    match name {
+        Ok(name) => {
+            let names = matcher.needed(alloc, state, Some(&name));
+            drop(name);
+            names
+        }
+        Err(fault) => Err(fault),
+    }
+}
+
+/// What is needed up to an element of a name, or, where that is empty, up to the end.
+fn needed_names<M: Matcher>(
+    alloc: Global,
+    matcher: &mut M,
+    state: &M::State,
+    name: &str,
+) -> Result<Names, NoMemory>
+    requires { M.is_state matcher.old state.now }
+{
+    if name.is_empty() {
+        return matcher.needed(alloc, state, None);
+    }
+    needed_up_to(alloc, matcher, state, name_of(alloc, name))
+}
+
 /// What a matcher answers to events.
 pub(crate) fn answer<M: Matcher>(
     alloc: Global,
@@ -240,6 +285,9 @@ pub(crate) fn answer<M: Matcher>(
     for event in events.split("  ") {
         if event == "required" {
             return names_told(alloc, matcher.required(alloc, &state));
+        }
+        if let Some(name) = skip_of(event) {
+            return names_told(alloc, needed_names(alloc, matcher, &state, name));
         }
         let Some(by) = move_at(number, event) else {
             return word_told(alloc, "no event");

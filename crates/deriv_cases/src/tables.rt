@@ -1,7 +1,8 @@
 //! The cases, in the notation of `reader`: a schema, behind it a line for each case, and then a blank line.
 
-/// Each call of a matcher over the schema of a document with paragraphs.
-pub(crate) const SINGLE_CALLS: &str = r##"
+/// Each call of a matcher over the schema of a document with paragraphs; children in any order; and then moves over small schemas, by the forms of
+/// patterns.
+pub(crate) const CASES: &str = r##"
 start = element doc { attribute id { xsd:NCName }, element title { text }, element para { (text | element em { text })* }* }
   <para => 1
   <?para => 1
@@ -20,18 +21,12 @@ start = element doc { attribute id { xsd:NCName }, element title { text }, eleme
   <doc  @id="a"  >  <?para => -
   <doc  @id="a"  >  </? => -
   <doc  @id="a"  >  " " => -
-"##;
 
-/// Children in any order.
-pub(crate) const ANY_ORDER: &str = r##"
 element r { element a { empty }+ & element b { empty } }
   <r  >  <a  >  </  <b  >  </  <a  >  </  </ => -
   <r  >  <a  >  </  <b  >  </  <b => 9
   <r  >  <b  >  </  </ => 6
-"##;
 
-/// Moves over small schemas, by the forms of patterns.
-pub(crate) const CASES: &str = r##"
 # notAllowed, and what can't be matched because of it
 element a { empty | element b { notAllowed } }
   <a  >  </ => -

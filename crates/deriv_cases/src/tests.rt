@@ -1,7 +1,8 @@
 use crate::lists::{FIVE_EVENTS, FOUR_EVENTS, wrong_lists};
 use crate::matchers::{Made, matcher_of};
+use crate::needed::NEEDED;
 use crate::reader::answers;
-use crate::tables::{ANY_ORDER, CASES, SINGLE_CALLS};
+use crate::tables::CASES;
 use deriv_plain::plain::Plain;
 use deriv_pool::pool::Pool;
 use std::alloc::Global;
@@ -65,33 +66,23 @@ fn compare<M: Made>(rt: &impl Abort, alloc: Global, table: &str) -> Result<(), F
 }
 
 #[test]
-fn plain_answers_single_calls(rt: HostRuntime) -> Result<(), Fail> {
-    compare::<Plain>(&rt, rt.alloc(), SINGLE_CALLS)
-}
-
-#[test]
-fn plain_takes_any_order(rt: HostRuntime) -> Result<(), Fail> {
-    compare::<Plain>(&rt, rt.alloc(), ANY_ORDER)
-}
-
-#[test]
 fn plain_answers_cases(rt: HostRuntime) -> Result<(), Fail> {
     compare::<Plain>(&rt, rt.alloc(), CASES)
 }
 
 #[test]
-fn pool_answers_single_calls(rt: HostRuntime) -> Result<(), Fail> {
-    compare::<Pool>(&rt, rt.alloc(), SINGLE_CALLS)
-}
-
-#[test]
-fn pool_takes_any_order(rt: HostRuntime) -> Result<(), Fail> {
-    compare::<Pool>(&rt, rt.alloc(), ANY_ORDER)
-}
-
-#[test]
 fn pool_answers_cases(rt: HostRuntime) -> Result<(), Fail> {
     compare::<Pool>(&rt, rt.alloc(), CASES)
+}
+
+#[test]
+fn plain_names_what_is_needed(rt: HostRuntime) -> Result<(), Fail> {
+    compare::<Plain>(&rt, rt.alloc(), NEEDED)
+}
+
+#[test]
+fn pool_names_what_is_needed(rt: HostRuntime) -> Result<(), Fail> {
+    compare::<Pool>(&rt, rt.alloc(), NEEDED)
 }
 
 #[test]

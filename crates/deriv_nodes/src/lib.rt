@@ -11,6 +11,7 @@ pub mod attributes;
 pub mod importing;
 pub mod kept_openings;
 pub mod leaf;
+pub mod needed;
 pub mod node;
 pub mod nodes;
 pub mod openings;

@@ -89,7 +89,7 @@ impl Nodes {
     }
 
     /// Names among which are all that the node needs, in no order, some perhaps twice.
-    #[tactic(auto, using(deriv_pattern::proofs::Needed::needed_mentioned))]
+    #[tactic(auto, using(deriv_pattern::proofs::Mentioned::needed_mentioned))]
     pub fn candidates(&self, alloc: Global, p: usize) -> Result<Names, NoMemory>
         requires { p < length self.now }
         ensures { IfOk result (λ names. (n : TheName) → IsTrue (s.needs n (at self.now p)) → Contains names n) }

@@ -1,6 +1,7 @@
 pub mod InOrder
 pub mod Opened
-pub mod Needed
+pub mod Mentioned
+pub mod Sole
 pub mod Same
 pub mod Props
 pub mod Choices

@@ -11,6 +11,7 @@ pub mod attributes;
 mod boxes;
 pub mod law;
 pub mod leaves;
+pub mod needed;
 pub mod openings;
 mod parts;
 pub mod required;

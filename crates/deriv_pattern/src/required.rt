@@ -5,7 +5,8 @@ ghost use Rattle.nx_base.specs.declared.name.Name.{Name as TheName};
 ghost use Rattle.rng_core.specs.Meaning.{class_of, pattern_of};
 ghost use Rattle.rng_core.specs.Names.{any_name, the_name, without, AttributeOverlap};
 ghost use Rattle.rng_kept.specs.Required as s;
-ghost use Rattle.deriv_pattern.specs.Mentions.{names_in, names_of};
+ghost use Rattle.rng_kept.specs.Needed.{class_names};
+ghost use Rattle.deriv_pattern.specs.Mentions.{names_of};
 
 use nx_base::memory::NoMemory;
 use nx_base::name::{Name, Names};
@@ -25,7 +26,7 @@ fn has_others(alloc: Global, class: &NameClass, name: &Name) -> Result<bool, NoM
 }
 
 /// Whether the class has the name, and no other one that an attribute can have.
-#[tactic(auto, using(crate::proofs::Needed::only_told))]
+#[tactic(auto, using(crate::proofs::Mentioned::only_told))]
 pub fn has_only(alloc: Global, class: &NameClass, name: &Name) -> Result<bool, NoMemory>
     ensures { IfOk result (λ found. found ≡ s.has_only (class_of class.now) name.now) }
 {
@@ -65,7 +66,7 @@ pub fn needs(alloc: Global, name: &Name, p: &Pat) -> Result<bool, NoMemory>
 
 /// Adds the names that a class mentions. A choice of very many names nests to the left, so the left side is gone down in a loop.
 pub fn add_mentioned(names: &mut Names, class: &NameClass) -> Result<(), NoMemory>
-    ensures { OnOk result (names.new ≡ names.old ++ names_in (class_of class.now)) }
+    ensures { OnOk result (names.new ≡ names.old ++ class_names (class_of class.now)) }
 {
     let mut left = class;
     loop {
@@ -111,7 +112,7 @@ fn add_names(names: &mut Names, p: &Pat) -> Result<(), NoMemory>
 }
 
 /// Names among which are all that the pattern needs, in no order, some perhaps twice.
-#[tactic(auto, using(crate::proofs::Needed::needed_mentioned))]
+#[tactic(auto, using(crate::proofs::Mentioned::needed_mentioned))]
 pub fn candidates(alloc: Global, p: &Pat) -> Result<Names, NoMemory>
     ensures { IfOk result (λ names. (n : TheName) → IsTrue (s.needs n (pattern_of p.now)) → Contains names n) }
 {

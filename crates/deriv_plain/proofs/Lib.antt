@@ -1,5 +1,5 @@
 mod Alike
 mod Joined
 mod Steady
-mod Needed
+mod FirstWay
 mod Knowing

@@ -6,7 +6,8 @@
 //! A state (`ways`) is a list of ways to go on, among children or in a start tag. What is left around an element (`around`) is
 //! shared by the states that stand inside of it. Each call is one step (`step`) of every way: behind an element's name
 //! (`entering`), an attribute or the end of a tag (`tags`), a string or the end of an element (`content`). The ways that a step
-//! gives are merged (`merging`) where they are among children with the same outside. Where each level of a document may be of two
+//! gives are merged (`merging`) where they are among children with the same outside. Which attributes all ways require, and which
+//! elements they need, is asked of the patterns that are left (`required`, `needed`). Where each level of a document may be of two
 //! definitions of one name, with different rests behind them, the outsides differ, and the ways double with each level.
 //!
 //! An example: behind `<doc>`, where the content of doc is `(para | note)*`, there is one way, in a start tag with that content;
@@ -22,6 +23,7 @@ pub mod around;
 mod content;
 mod entering;
 mod merging;
+mod needed;
 pub mod plain;
 mod required;
 mod step;

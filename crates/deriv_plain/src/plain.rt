@@ -22,6 +22,7 @@ ghost use Rattle.deriv_pattern.specs.Steps.{way_step};
 ghost use Rattle.deriv_plain.specs.Ways.{residual_of};
 
 use crate::around::Around;
+use crate::needed::needed_names;
 use crate::required::required_names;
 use crate::step::stepped;
 use crate::ways::{OneWay, Ways, as_answer, copied_ways, just_one, same_ways};
@@ -278,6 +279,15 @@ impl Matcher for Plain {
 
     fn required(&mut self, alloc: Global, s: &Ways) -> Result<Names, NoMemory> {
         required_names(alloc, s.as_slice())
+    }
+
+    fn needed(&mut self, alloc: Global, s: &Ways, name: Option<&Name>) -> Result<Names, NoMemory> {
+        needed_names(
+            alloc,
+            self.schema.grammar().defs.as_slice(),
+            name,
+            s.as_slice(),
+        )
     }
 
     fn chars(&mut self, alloc: Global, s: &Ways, text: &[u8]) -> Result<Option<Ways>, NoMemory> {

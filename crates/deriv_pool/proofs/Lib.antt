@@ -1,4 +1,5 @@
 pub mod Fits
+pub mod Kept
 pub mod Knowing
 pub mod Needing
 pub mod Remembering

@@ -1,3 +1,4 @@
+pub mod Kept
 pub mod Later
 pub mod Laws
 pub mod Meaning

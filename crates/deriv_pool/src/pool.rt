@@ -1,6 +1,7 @@
 //! The matcher.
 
 ghost use Rattle.std.specs.Prelude.{◌≡◌, IfOk, true};
+ghost use Rattle.deriv_pool.specs.Kept.{AreKept};
 ghost use Rattle.deriv_pool.specs.Remembering.{AreAnswers, KeepsNoted};
 ghost use Rattle.rng_core.specs.Soundness.{IsSound};
 ghost use Rattle.rng_kept.specs.Live.{IsLive};
@@ -8,6 +9,8 @@ ghost use Rattle.rng_live.specs.Schemas.{schema_language};
 ghost use Rattle.deriv_nodes.specs.Numbers.{IsAt};
 ghost use Rattle.deriv_states.specs.Places.{AreContents, LaterPlaces};
 
+use crate::kept_names::KeptNames;
+use crate::needed::needed_names;
 use crate::recalling::{
     entered, left, read_attribute, read_chars, recalled_attribute, recalled_chars, recalled_enter,
     recalled_leave, recalled_tag_end, tag_ended,
@@ -30,10 +33,12 @@ pub struct Pool {
     schema: Schema,
     pub(crate) states: States,
     memory: Memory,
+    kept: KeptNames,
     ghost live: { ∥ IsLive (schema_language schema) ∥₁ },
     ghost sound: { ∥ IsSound schema.grammar ∥₁ },
     ghost fits: { ∥ AreContents states (schema_language schema).definitions ∥₁ },
     ghost right: { ∥ AreAnswers (schema_language schema).definitions states memory ∥₁ },
+    ghost names: { ∥ AreKept (schema_language schema).definitions states.patterns kept.entries.items ∥₁ },
 }
 
 impl Pool {
@@ -50,6 +55,7 @@ impl Pool {
             schema,
             states,
             memory,
+            kept: KeptNames::new(alloc),
         })
     }
 
@@ -58,6 +64,7 @@ impl Pool {
         ensures schema { self.new.schema ≡ self.old.schema }
         ensures later { LaterPlaces self.old.states self.new.states }
         ensures memory { self.new.memory ≡ self.old.memory }
+        ensures kept { self.new.kept ≡ self.old.kept }
         ensures made { IfOk result (IsAt self.new.states.patterns (schema_language self.old.schema).start) }
     {
         sound_are_in_order();
@@ -173,6 +180,16 @@ impl Matcher for Pool {
 
     fn required(&mut self, alloc: Global, s: &PoolState) -> Result<Names, NoMemory> {
         required_names(alloc, &self.states, s.number)
+    }
+
+    fn needed(
+        &mut self,
+        alloc: Global,
+        s: &PoolState,
+        name: Option<&Name>,
+    ) -> Result<Names, NoMemory> {
+        let defs = self.schema.grammar().defs.as_slice();
+        needed_names(alloc, &self.states, &mut self.kept, defs, name, s.number)
     }
 
     #[inline(always)]

@@ -13,6 +13,7 @@ ghost use Rattle.rng_kept.specs.Openings as openings;
 ghost use Rattle.rng_kept.specs.Skipping as skipping;
 ghost use Rattle.rng_kept.specs.Entering as entering;
 ghost use Rattle.rng_kept.specs.Merging as merging;
+ghost use Rattle.rng_kept.specs.Needed as needed;
 ghost use Rattle.rng_kept.specs.Required as required;
 ghost use Rattle.rng_kept.specs.Residuals as residual;
 ghost use Rattle.deriv_pattern.specs.Leaves.{ContentsAreInOrder, IsInOrder};
@@ -279,7 +280,7 @@ impl States {
     }
 
     /// What lies around an element, by its number.
-    pub(crate) fn around(&self, o: usize) -> Around
+    pub fn around(&self, o: usize) -> Around
         requires { o < length self.now.outers }
         ensures is { outer_in self.now.outers o ≡ outer_made self.now.patterns self.now.outers result }
         ensures parts { IsAroundBelow (length self.now.patterns) o result }
@@ -367,6 +368,34 @@ impl States {
         ensures { IfOk result (λ names. (n : TheName) → IsTrue (required.needs n (at self.now.patterns p)) → Contains names n) }
     {
         self.nodes.candidates(alloc, p)
+    }
+
+    /// What all content needs that the node matches; none where it matches none.
+    pub fn content_names(
+        &self,
+        alloc: Global,
+        defs: &[Def],
+        p: usize,
+    ) -> Result<Option<Names>, NoMemory>
+        requires { p < length self.now.patterns }
+        ensures { IfOk result (λ names. names ≡ needed.content_names (map definition_of defs.now) (at self.now.patterns p)) }
+    {
+        self.nodes.content_names(alloc, defs, p)
+    }
+
+    /// The names of which children that the node matches have an element in front of each element of this name; none where no
+    /// element of them can have the name.
+    pub fn front_names(
+        &self,
+        alloc: Global,
+        defs: &[Def],
+        name: &Name,
+        p: usize,
+    ) -> Result<Option<Names>, NoMemory>
+        requires { p < length self.now.patterns }
+        ensures { IfOk result (λ names. names ≡ needed.front_names (map definition_of defs.now) name.now (at self.now.patterns p)) }
+    {
+        self.nodes.front_names(alloc, defs, name, p)
     }
 
     /// The ways of a state.

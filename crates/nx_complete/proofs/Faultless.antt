@@ -78,7 +78,7 @@ module _ (g : Language) where
     where
       inner : (m o : ℕ) → suc m ≡ suc o → o ≡ m
       inner m o e = omega arith
-  steps trees.Leave s i b (nesting.leaves (rows.incomplete a)) e = cc
+  steps trees.Leave s i b (nesting.leaves (rows.incomplete names a c)) e = cc
   steps trees.Leave s i b (nesting.leaves_own c) e = absurd i
   steps trees.Leave s i b nesting.leaves_lost e = absurd i
   steps trees.Leave s i b nesting.leaves_nothing e = absurd (none b)

@@ -4,3 +4,4 @@ pub mod Going
 pub mod Stepping
 pub mod PlainSteps
 pub mod RequiredNames
+pub mod NeededNames

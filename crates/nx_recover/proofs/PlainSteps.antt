@@ -15,6 +15,7 @@ use Rattle.nx_events.specs.Prefixes.{run_string}
 use Rattle.nx_events.specs.Runs.{run_items}
 use Rattle.nx_events.specs.Texts.{RunIsText, StateIsText}
 use Rattle.nx_events.specs.declared.item.Event.{Event}
+use Rattle.nx_events.specs.declared.flaw.Flaw.{Flaw}
 use Rattle.nx_events.specs.declared.item.Event.TheVariants.{Enter, Att, TagEnd, Chars, Leave}
 use Rattle.nx_events.specs.declared.item.Item.{Item}
 use Rattle.nx_events.specs.declared.item.Item.TheVariants as items
@@ -29,12 +30,13 @@ use Rattle.rng_kept.specs.Residuals.{Residual}
 use Rattle.rng_kept.specs.Tags.{attribute_of, attribute_any, tag_end, tag_end_missing}
 use Rattle.rng_live.specs.Calls.{Answers}
 use Rattle.nx_recover.specs.Aside.{without_innermost}
-use Rattle.nx_recover.specs.Details.{names_text}
+use Rattle.nx_recover.specs.Details.{names_text, needs_text}
 use Rattle.nx_recover.specs.Faults.{flaw_at}
 use Rattle.nx_recover.specs.Items.{form_along, found_along}
 use Rattle.nx_recover.specs.Later.{states_later, stack_of_same}
 use Rattle.nx_recover.specs.Outcomes.{flaw}
 use Rattle.nx_recover.specs.PlainSteps.{then_answered, behind_run, behind_attributes, inside_of, outside_of, IsAdmitted}
+use Rattle.nx_recover.specs.Needed.{needed_names}
 use Rattle.nx_recover.specs.Required.{required_names}
 use Rattle.nx_recover.specs.States.{View, IsOpen, AreStates, stack, form, view_of}
 use Rattle.nx_recover.specs.Table.{Form, Done, done, done_by, opens, goes_on_by, or_made_up, or_left_out, attributed, charred, tag_ended, left}
@@ -96,7 +98,8 @@ leave_admitted : (g : Language) (x y : Residual) (os : List (Open Residual)) (n 
     done_by g (record { here = Some x; elements = In n ∷ os }) Leave ≡ done (Some y) os None
 unfolding done_by left
 leave_admitted g x y os n e =
-    ap (λ o. done (or_made_up o (leave_skip x) (flaw kinds.Incomplete (name_text n))).next os (or_made_up o (leave_skip x) (flaw kinds.Incomplete (name_text n))).flaw) e
+    let missing : Option Flaw = flaw kinds.Incomplete (needs_text n (needed_names g None x)) in
+    ap (λ o. done (or_made_up o (leave_skip x) missing).next os (or_made_up o (leave_skip x) missing).flaw) e
 
 -- behind the run that ends, if one does
 leads_by_run : (g : Language) (x z : Residual) (os qs : List (Open Residual)) (at : ℕ) (run : Option Run) (f : Residual → Option Residual) (rest : List Item) →

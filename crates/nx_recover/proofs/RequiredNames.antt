@@ -19,13 +19,14 @@ use Rattle.rng_core.specs.Patterns.{Pattern, not_allowed, empty, any_text, typed
 use Rattle.rng_core.specs.Unmentioned.{covers_others}
 use Rattle.rng_kept.specs.Events.{IsAmong, first, later}
 use Rattle.rng_kept.specs.Mentioned.{class_mentions, class_mentions_ns}
+use Rattle.rng_kept.specs.Needed.{class_names}
 use Rattle.rng_kept.specs.Required.{other_at, has_only, needs, way_needs, is_required}
 use Rattle.rng_kept.specs.Residuals.{among, in_tag, Residual, is_in_tag}
 use Rattle.rng_live.specs.Calls.{AreRequired}
 use Rattle.rng_live.specs.Order.{name_order, text_order}
 use Rattle.rng_residual.proofs.Mentioned.{covers-unmentioned, covers-other_namespace}
 use Rattle.rng_residual.proofs.SoleNames.{found_by_ns, same_name_is}
-use Rattle.nx_recover.specs.Required.{class_names, pattern_names, way_names, in_order, required_names}
+use Rattle.nx_recover.specs.Required.{pattern_names, way_names, in_order, required_names}
 
 -- ---- names among others
 
@@ -143,11 +144,11 @@ put_on : (ns : List Name) (k n : Name) → IsAmong n ns → IsAmong n (insert_ke
 put_on [] k n i = elim i [ ]
 put_on (m ∷ ns) k n i = put_other (name_order k m) n m k ns (insert_key name_order ns k) i (put_on ns k n)
 
-from_order : (ns : List Name) (n : Name) → IsAmong n (in_order ns) → IsAmong n ns
+pub from_order : (ns : List Name) (n : Name) → IsAmong n (in_order ns) → IsAmong n ns
 from_order [] n i = elim i [ ]
 from_order (m ∷ ns) n i = elim (from_put (in_order ns) m n i) [ inl e ↦ first e | inr j ↦ later (from_order ns n j) ]
 
-to_order : (ns : List Name) (n : Name) → IsAmong n ns → IsAmong n (in_order ns)
+pub to_order : (ns : List Name) (n : Name) → IsAmong n ns → IsAmong n (in_order ns)
 to_order [] n i = elim i [ ]
 to_order (m ∷ ns) n (first e) = subst (λ k. IsAmong k (insert_key name_order (in_order ns) m)) e (put_here (in_order ns) m)
 to_order (m ∷ ns) n (later i) = put_on (in_order ns) m n (to_order ns n i)
@@ -176,7 +177,7 @@ unfolding IsStrictlySortedBy
 sorted_put [] k h = (tt, tt)
 sorted_put (m ∷ ns) k h = sorted_by (name_order k m) k m ns (insert_key name_order ns k) refl h (sorted_put ns k h.1) (λ e. below_put m k ns e h.0)
 
-sorted_order : (ns : List Name) → IsStrictlySortedBy name_order (in_order ns)
+pub sorted_order : (ns : List Name) → IsStrictlySortedBy name_order (in_order ns)
 unfolding IsStrictlySortedBy
 sorted_order [] = tt
 sorted_order (m ∷ ns) = sorted_put (in_order ns) m (sorted_order ns)
@@ -232,12 +233,12 @@ mentioned_named any_name n h = absurd (false≢true h)
 mentioned_named (ns_name ns) n h = absurd (false≢true h)
 mentioned_named (the_name m) n h = first (sym (same_name_is n m h))
 mentioned_named (either c d) n h = elim (or_cases (class_mentions c n) (class_mentions d n) h) [
-  | inl e ↦ among_front (class_names c) (class_names d) n (mentioned_named c n e)
-  | inr e ↦ among_back (class_names c) (class_names d) n (mentioned_named d n e)
+  | inl e ↦ among_back (class_names d) (class_names c) n (mentioned_named c n e)
+  | inr e ↦ among_front (class_names d) (class_names c) n (mentioned_named d n e)
 ]
 mentioned_named (without c d) n h = elim (or_cases (class_mentions c n) (class_mentions d n) h) [
-  | inl e ↦ among_front (class_names c) (class_names d) n (mentioned_named c n e)
-  | inr e ↦ among_back (class_names c) (class_names d) n (mentioned_named d n e)
+  | inl e ↦ among_back (class_names d) (class_names c) n (mentioned_named c n e)
+  | inr e ↦ among_front (class_names d) (class_names c) n (mentioned_named d n e)
 ]
 
 needed_named : (p : Pattern) (n : Name) → needs n p ≡ true → IsAmong n (pattern_names p)

@@ -13,6 +13,7 @@ use Rattle.rng_live.specs.Calls.{Answers}
 use Rattle.nx_recover.specs.Admitting.{admitted, refused, refused_in}
 use Rattle.nx_recover.specs.Aside.{Takes}
 use Rattle.nx_recover.specs.Later.{form_same}
+use Rattle.nx_recover.specs.Needed.{needed_names}
 use Rattle.nx_recover.specs.States.{View, AreStates, IsChange, changed, form, stack}
 use Rattle.nx_recover.specs.Table.{Form, begun, done_in, entered, entered_by, entered_known, opens}
 use Rattle.nx_recover.specs.declared.levels.Open.TheVariants.{In}
@@ -23,12 +24,12 @@ use Rattle.nx_recover.proofs.Tops.{begins}
 
 pub entered_if_admitted : (g : Language) (n : Name) (here : Option Residual) (y : Residual) → admitted g n here ≡ Some y → entered g n here ≡ begun (Some y) (In n) None
 unfolding entered
-entered_if_admitted g n (Some x) y e = ap (λ o. entered_by x n o (answered (enter_skip g.definitions n x)) (entered_known g n)) e
+entered_if_admitted g n (Some x) y e = ap (λ o. entered_by x n (needed_names g (Some n) x) o (answered (enter_skip g.definitions n x)) (entered_known g n)) e
 entered_if_admitted g n None y e = cc
 
 entered_if_refused : (g : Language) (n : Name) (here : Option Residual) → admitted g n here ≡ None → entered g n here ≡ refused g n here
 unfolding entered
-entered_if_refused g n (Some x) e = ap (λ o. entered_by x n o (answered (enter_skip g.definitions n x)) (entered_known g n)) e
+entered_if_refused g n (Some x) e = ap (λ o. entered_by x n (needed_names g (Some n) x) o (answered (enter_skip g.definitions n x)) (entered_known g n)) e
 entered_if_refused g n None e = refl
 
 module _ {D S : Type 0} {later : D → D → Type 0} {is_state : D → S → Type 0} {means : D → S → Residual} {language : D → Language} (laws : LaterLaws later is_state means language) {a b : D} (on : later a b) where

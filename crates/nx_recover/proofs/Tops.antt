@@ -142,8 +142,8 @@ module _ {D S : Type 0} {later : D → D → Type 0} {is_state : D → S → Typ
 
   -- the innermost element ends
   pub leaves_last : (l : Levels S) (c d : Change S) (o : Open S) → IsChange (is_state a) l c → IsInnermost (changed l c).elements (Some o) → IsOneLess l c d →
-      (t : Ended S) → EndedIs (is_state b) (means b) (ended (option_map (means a) (changed l c).here) (open_form (means a) o)) t →
-      Takes (is_state b) (means b) l (record d { here = Some t.here }) (leaves (option_map (means a) (changed l c).here) (stack (means a) (changed l c).elements)) t.flaw
+      (t : Ended S) → EndedIs (is_state b) (means b) (ended (language a) (option_map (means a) (changed l c).here) (open_form (means a) o)) t →
+      Takes (is_state b) (means b) l (record d { here = Some t.here }) (leaves (language a) (option_map (means a) (changed l c).here) (stack (means a) (changed l c).elements)) t.flaw
   leaves_last l c d o h last less t k =
       let es : List (Open S) = without_innermost (changed l c).elements in
       let H : Option (Option S) → Type 0 = λ x. IfSome (unwrap_or x l.here) (is_state a) in
@@ -157,15 +157,15 @@ module _ {D S : Type 0} {later : D → D → Type 0} {is_state : D → S → Typ
       } in
       let top : stack (means a) (changed l c).elements ≡ open_form (means a) o ∷ stack (means a) (changed l d).elements =
       ap (stack (means a)) last ∙ stack_more (means a) es o ∙ ap (λ zs. open_form (means a) o ∷ stack (means a) zs) (sym less.elements) in
-      let T : List (Open Residual) → Type 0 = λ s. Takes (is_state b) (means b) l (record d { here = Some t.here }) (leaves (option_map (means a) (changed l c).here) s) t.flaw in
-      subst T (sym top) (ends l d left (ended (option_map (means a) (changed l c).here) (open_form (means a) o)) t k)
+      let T : List (Open Residual) → Type 0 = λ s. Takes (is_state b) (means b) l (record d { here = Some t.here }) (leaves (language a) (option_map (means a) (changed l c).here) s) t.flaw in
+      subst T (sym top) (ends l d left (ended (language a) (option_map (means a) (changed l c).here) (open_form (means a) o)) t k)
 
 -- nothing ends where nothing is open
-pub leaves_none : {S : Type 0} (P : S → Type 0) (f : S → Residual) (l : Levels S) (c : Change S) → IsChange P l c → (changed l c).elements ≡ [] →
-    Takes P f l c (leaves (option_map f (changed l c).here) (stack f (changed l c).elements)) None
-leaves_none P f l c h none =
+pub leaves_none : {S : Type 0} (g : Language) (P : S → Type 0) (f : S → Residual) (l : Levels S) (c : Change S) → IsChange P l c → (changed l c).elements ≡ [] →
+    Takes P f l c (leaves g (option_map f (changed l c).here) (stack f (changed l c).elements)) None
+leaves_none g P f l c h none =
     let e : stack f (changed l c).elements ≡ [] = ap (stack f) none ∙ stack_nil f in
-    let T : List (Open Residual) → Type 0 = λ s. Takes P f l c (leaves (option_map f (changed l c).here) s) None in
+    let T : List (Open Residual) → Type 0 = λ s. Takes P f l c (leaves g (option_map f (changed l c).here) s) None in
     subst T (sym e) (record { change = h; form = form_is f (changed l c) (option_map f (changed l c).here) [] refl e; flaw = refl })
 
 -- the innermost element's states are states

@@ -5,6 +5,7 @@ use Rattle.rng_core.specs.Patterns.{Language}
 use Rattle.rng_kept.specs.Residuals.{Residual}
 use Rattle.rng_kept.specs.Merging.{answered}
 use Rattle.rng_kept.specs.Entering.{enter, enter_skip}
+use Rattle.nx_recover.specs.Needed.{needed_names}
 use Rattle.nx_recover.specs.Table.{Form, Done, entered_by, entered_known, found_by, opens}
 use Rattle.nx_recover.specs.declared.levels.Begun.{Begun}
 
@@ -15,7 +16,7 @@ admitted g n None = None
 
 -- the rows of an element that isn't admitted
 abbrev pub refused : Language → Name → Option Residual → Begun Residual
-refused g n (Some x) = entered_by x n None (answered (enter_skip g.definitions n x)) (entered_known g n)
+refused g n (Some x) = entered_by x n (needed_names g (Some n) x) None (answered (enter_skip g.definitions n x)) (entered_known g n)
 refused g n None = found_by n (entered_known g n)
 
 -- the levels behind it, and what is wrong

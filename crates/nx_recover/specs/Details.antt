@@ -12,3 +12,12 @@ further_text names = flat_map (λ name. codes " " ++ name_text name) names
 abbrev pub names_text : List Name → List ℕ
 names_text [] = []
 names_text (name ∷ others) = name_text name ++ further_text others
+
+-- what is needed, if anything is, behind its word
+abbrev pub needed_text : List Name → List ℕ
+needed_text [] = []
+needed_text (name ∷ others) = codes " needs" ++ further_text (name ∷ others)
+
+-- a name, and what is needed
+abbrev pub needs_text : Name → List Name → List ℕ
+needs_text name needed = name_text name ++ needed_text needed

@@ -1,11 +1,11 @@
 -- Frames: what recovery knows of the events from an element on.
-use Rattle.std.specs.Prelude.{◌↔◌, List, [], ◌∷◌, Contains}
+use Rattle.std.specs.Prelude.{◌↔◌, List, [], ◌∷◌, Option, Contains}
 use Rattle.std.specs.List.Sorted.{IsStrictlySortedBy}
 use Rattle.nx_base.specs.declared.name.Name.{Name}
 use Rattle.nx_base.specs.Trees.{Enter}
 use Rattle.rng_core.specs.Patterns.{Pattern, Language}
 use Rattle.rng_kept.specs.Moves.{Move, take}
-use Rattle.rng_kept.specs.KeptLists.{CanMove, IsRequired}
+use Rattle.rng_kept.specs.KeptLists.{CanMove, IsRequired, IsNeeded}
 use Rattle.rng_kept.specs.Standing.{known}
 use Rattle.rng_live.specs.Order.{name_order}
 
@@ -34,3 +34,9 @@ known_frame g n = record { start = known g n; moves = take (Enter n) ∷ [] }
 pub record AreRequiredNames (g : Language) (f : Frame) (names : List Name) : Type 0 where
   pub sorted : IsStrictlySortedBy name_order names
   pub exact : (n : Name) → Contains names n ↔ IsRequired g f.start f.moves n
+
+-- where content is skipped up to an element of the name, or, without one, up to the end of the element around: the names of which
+-- each content that can stand there has an element, in order
+pub record AreNeededNames (g : Language) (f : Frame) (skip : Option Name) (names : List Name) : Type 0 where
+  pub sorted : IsStrictlySortedBy name_order names
+  pub exact : (n : Name) → Contains names n ↔ IsNeeded g f.start f.moves skip n

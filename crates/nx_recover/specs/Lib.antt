@@ -11,6 +11,7 @@ pub mod Offers
 pub mod Completing
 -- ---- the same over residuals, which a matcher computes
 pub mod Required
+pub mod Needed
 pub mod Table
 pub mod Items
 pub mod RecoverRules

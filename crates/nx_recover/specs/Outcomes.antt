@@ -9,8 +9,8 @@ use Rattle.rng_kept.specs.Moves.{take, skip_to, any_value, any_string, missing_a
 use Rattle.rng_kept.specs.Standing.{IsKnown}
 use Rattle.nx_events.specs.declared.flaw.Flaw.{Flaw}
 use Rattle.nx_base.specs.PrintedNames.{name_text}
-use Rattle.nx_recover.specs.Details.{names_text}
-use Rattle.nx_recover.specs.Frames.{Frame, moved, Can, AreRequiredNames}
+use Rattle.nx_recover.specs.Details.{names_text, needs_text}
+use Rattle.nx_recover.specs.Frames.{Frame, moved, Can, AreRequiredNames, AreNeededNames}
 
 pub data Outcome : Type 0 where
   -- the frame goes on as this one
@@ -29,8 +29,8 @@ pub data Recovers (g : Language) (f : Frame) : Event → Outcome → Option Flaw
   -- some kept list followed by the event is viable
   admitted : {e : Event} → Can g f (take e) → Recovers g f e (goes_on (moved f (take e))) None
   -- elements are missing in front of it
-  not_yet : {n : Name} → (Can g f (take (Enter n)) → ⊥) → Can g f (skip_to n)
-      → Recovers g f (Enter n) (goes_on (moved f (skip_to n))) (flaw kinds.NotYet (name_text n))
+  not_yet : {n : Name} (names : List Name) → (Can g f (take (Enter n)) → ⊥) → Can g f (skip_to n) → AreNeededNames g f (Some n) names
+      → Recovers g f (Enter n) (goes_on (moved f (skip_to n))) (flaw kinds.NotYet (needs_text n names))
   -- a definition has the name
   not_allowed : {n : Name} → (Can g f (take (Enter n)) → ⊥) → (Can g f (skip_to n) → ⊥) → IsKnown g n
       → Recovers g f (Enter n) begins_frame (flaw kinds.NotAllowed (name_text n))
@@ -54,4 +54,5 @@ pub data Recovers (g : Language) (f : Frame) : Event → Outcome → Option Flaw
 -- the end of the innermost element, which has this name
 pub data EndsElement (g : Language) (f : Frame) (n : Name) : Frame → Option Flaw → Type 0 where
   complete : Can g f (take Leave) → EndsElement g f n (moved f (take Leave)) None
-  incomplete : (Can g f (take Leave) → ⊥) → EndsElement g f n (moved f missing_content) (flaw kinds.Incomplete (name_text n))
+  incomplete : (names : List Name) → (Can g f (take Leave) → ⊥) → AreNeededNames g f None names
+      → EndsElement g f n (moved f missing_content) (flaw kinds.Incomplete (needs_text n names))

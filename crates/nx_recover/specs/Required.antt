@@ -3,21 +3,13 @@ use Rattle.std.specs.Prelude.{◌&&◌, List, [], ◌∷◌, ◌++◌}
 use Rattle.std.specs.List.{filter, flat_map}
 use Rattle.std.specs.BTreeSet.{insert_key}
 use Rattle.nx_base.specs.declared.name.Name.{Name}
-use Rattle.rng_core.specs.Names.{Class, any_name, ns_name, the_name, either, without}
 use Rattle.rng_core.specs.Patterns.{Pattern, attribute, one_or_more, choice, group, interleave}
+use Rattle.rng_kept.specs.Needed.{class_names}
 use Rattle.rng_kept.specs.Required.{is_required}
 use Rattle.rng_kept.specs.Residuals.{Way, among, in_tag, Residual, is_in_tag}
 use Rattle.rng_live.specs.Order.{name_order}
 
--- the names that a class mentions: it has no single name but one of these
-abbrev pub class_names : Class → List Name
-class_names any_name = []
-class_names (ns_name ns) = []
-class_names (the_name n) = n ∷ []
-class_names (either c d) = class_names c ++ class_names d
-class_names (without c d) = class_names c ++ class_names d
-
--- those of the attributes in a pattern
+-- the names that the classes of the attributes in a pattern mention: no other one is required
 abbrev pub pattern_names : Pattern → List Name
 pattern_names (attribute class p) = class_names class
 pattern_names (one_or_more p) = pattern_names p

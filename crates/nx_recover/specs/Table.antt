@@ -13,8 +13,9 @@ use Rattle.nx_events.specs.declared.flaw.Flaw.{Flaw}
 use Rattle.nx_events.specs.declared.item.Event.{Event}
 use Rattle.nx_events.specs.declared.item.Event.TheVariants.{Enter, EnterLost, Att, TagEnd, Chars, Leave}
 use Rattle.nx_base.specs.PrintedNames.{name_text}
-use Rattle.nx_recover.specs.Details.{names_text}
+use Rattle.nx_recover.specs.Details.{names_text, needs_text}
 use Rattle.nx_recover.specs.Outcomes.{flaw}
+use Rattle.nx_recover.specs.Needed.{needed_names}
 use Rattle.nx_recover.specs.Required.{required_names}
 use Rattle.nx_recover.specs.declared.levels.Open.{Open}
 use Rattle.nx_recover.specs.declared.levels.Open.TheVariants.{In, Begins, Lost}
@@ -46,12 +47,12 @@ entered_first g n None = None
 unfoldable pub entered_known : Language → Name → Option Residual
 entered_known g n = entered_first g n (begin_known g n)
 
--- in a frame: admitted, not yet, not allowed, unknown
-abbrev pub entered_by : Residual → Name → Option Residual → Option Residual → Option Residual → Begun Residual
-entered_by x n (Some y) skipped known = begun (Some y) (In n) None
-entered_by x n None (Some y) known = begun (Some y) (In n) (flaw kinds.NotYet (name_text n))
-entered_by x n None None (Some y) = begun (Some y) (Begins n (Some x)) (flaw kinds.NotAllowed (name_text n))
-entered_by x n None None None = begun None (Lost (Some x)) (flaw kinds.Unknown (name_text n))
+-- in a frame: admitted, not yet, by what is needed, not allowed, unknown
+abbrev pub entered_by : Residual → Name → List Name → Option Residual → Option Residual → Option Residual → Begun Residual
+entered_by x n needed (Some y) skipped known = begun (Some y) (In n) None
+entered_by x n needed None (Some y) known = begun (Some y) (In n) (flaw kinds.NotYet (needs_text n needed))
+entered_by x n needed None None (Some y) = begun (Some y) (Begins n (Some x)) (flaw kinds.NotAllowed (name_text n))
+entered_by x n needed None None None = begun None (Lost (Some x)) (flaw kinds.Unknown (name_text n))
 
 -- in a lost element: known, lost
 abbrev pub found_by : Name → Option Residual → Begun Residual
@@ -60,7 +61,7 @@ found_by n None = begun None (Lost None) None
 
 unfoldable pub entered : Language → Name → Option Residual → Begun Residual
 entered g n (Some x) =
-    entered_by x n (answered (enter g.definitions n x)) (answered (enter_skip g.definitions n x)) (entered_known g n)
+    entered_by x n (needed_names g (Some n) x) (answered (enter g.definitions n x)) (answered (enter_skip g.definitions n x)) (entered_known g n)
 entered g n None = found_by n (entered_known g n)
 
 -- ---- an event inside of an element
@@ -92,8 +93,8 @@ unfoldable pub charred : List ℕ → Residual → Turn Residual
 charred t x = or_left_out (answered (chars t x)) (answered (chars_any x)) (flaw kinds.BadValue []) (flaw kinds.TextNotAllowed [])
 
 -- complete, incomplete
-unfoldable pub left : Name → Residual → Turn Residual
-left n x = or_made_up (answered (leave x)) (leave_skip x) (flaw kinds.Incomplete (name_text n))
+unfoldable pub left : Language → Name → Residual → Turn Residual
+left g n x = or_made_up (answered (leave x)) (leave_skip x) (flaw kinds.Incomplete (needs_text n (needed_names g None x)))
 
 -- in a lost element nothing happens
 abbrev pub in_frame : (Residual → Turn Residual) → Option Residual → Turn Residual
@@ -119,10 +120,10 @@ goes_on_as here None = here
 -- ---- an element ends
 
 -- a frame goes on behind its elements, and otherwise the one around
-abbrev pub ended : Option Residual → Open Residual → Ended Residual
-ended here (In n) = ended_as (in_frame (left n) here).next (in_frame (left n) here).flaw
-ended here (Begins n around) = ended_as around (in_frame (left n) here).flaw
-ended here (Lost around) = ended_as around None
+abbrev pub ended : Language → Option Residual → Open Residual → Ended Residual
+ended g here (In n) = ended_as (in_frame (left g n) here).next (in_frame (left g n) here).flaw
+ended g here (Begins n around) = ended_as around (in_frame (left g n) here).flaw
+ended g here (Lost around) = ended_as around None
 
 -- ---- the levels behind an event
 
@@ -142,9 +143,9 @@ goes_on_by here os t = done (goes_on_as here t.next) os t.flaw
 abbrev pub closes : List (Open Residual) → Ended Residual → Done
 closes os e = done e.here os e.flaw
 
-abbrev pub leaves : Option Residual → List (Open Residual) → Done
-leaves here [] = done here [] None
-leaves here (o ∷ os) = closes os (ended here o)
+abbrev pub leaves : Language → Option Residual → List (Open Residual) → Done
+leaves g here [] = done here [] None
+leaves g here (o ∷ os) = closes os (ended g here o)
 
 abbrev pub passed_on : Form → Event → Done
 passed_on l event = goes_on_by l.here l.elements (passed l.here event)
@@ -155,7 +156,7 @@ done_in g l EnterLost = opens l.elements (begun None (Lost l.here) None)
 done_in g l (Att n v) = passed_on l (Att n v)
 done_in g l TagEnd = passed_on l TagEnd
 done_in g l (Chars t) = passed_on l (Chars t)
-done_in g l Leave = leaves l.here l.elements
+done_in g l Leave = leaves g l.here l.elements
 
 unfoldable pub done_by : Language → Form → Event → Done
 done_by g l event = done_in g l event

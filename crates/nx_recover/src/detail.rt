@@ -2,7 +2,7 @@
 
 ghost use Rattle.std.specs.Prelude.{◌≡◌, ◌++◌, IfOk, OnOk, codes, take};
 ghost use Rattle.nx_base.specs.PrintedNames.{name_text};
-ghost use Rattle.nx_recover.specs.Details.{further_text, names_text};
+ghost use Rattle.nx_recover.specs.Details.{further_text, names_text, needed_text, needs_text};
 
 use nx_base::memory::NoMemory;
 use nx_base::name::Name;
@@ -39,5 +39,27 @@ pub(crate) fn names_text(alloc: Global, names: &[Name]) -> Result<Bytes, NoMemor
     let mut text = Vec::new(alloc);
     push_name(&mut text, first)?;
     push_others(&mut text, others)?;
+    Ok(Sequence::from_vec(text))
+}
+
+// Adds what is needed, if anything is, behind its word.
+fn push_needed(text: &mut Vec<u8>, needed: &[Name]) -> Result<(), NoMemory>
+    ensures { OnOk result (text.new.items ≡ text.old.items ++ needed_text needed.now) }
+{
+    if needed.is_empty() {
+        return Ok(());
+    }
+    text.extend_from_slice(b" needs")?;
+    push_others(text, needed)?;
+    Ok(())
+}
+
+/// A name, and what is needed.
+pub(crate) fn needs_text(alloc: Global, name: &Name, needed: &[Name]) -> Result<Bytes, NoMemory>
+    ensures { IfOk result (λ text. text ≡ needs_text name.now needed.now) }
+{
+    let mut text = Vec::new(alloc);
+    push_name(&mut text, name)?;
+    push_needed(&mut text, needed)?;
     Ok(Sequence::from_vec(text))
 }

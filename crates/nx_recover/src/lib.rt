@@ -5,12 +5,13 @@
 //! isn't, is asked of a matcher (rng_live). Marks (nx_marks) keep states of this machine.
 //!
 //! The idea: where an event isn't admitted, go on as if what was meant had stood there, whatever it was. Behind an element in front
-//! of which others are missing, all of these are taken as read. An element that may not stand here is left out, and if the schema
-//! knows its name, its own content is checked by itself. So one fault brings about no others.
+//! of which others are missing, all of these are taken as read, and the fault names those that every such content has. An element
+//! that may not stand here is left out, and if the schema knows its name, its own content is checked by itself. So one fault brings
+//! about no others.
 //!
 //! Where a schema wants `doc` with an `id`, and in it a `title` before any `para`, `<doc><para/><x/></doc>` has three faults: at
-//! `<doc>` the attribute is missing, at `<para/>` the title (it isn't there yet), and `<x/>` is unknown. The `para` is complete, and
-//! so is the `doc`, since what is missing counts as read.
+//! `<doc>` the attribute is missing, `<para/>` stands where it can't yet and needs the title, and `<x/>` is unknown. The `para` is
+//! complete, and so is the `doc`, since what is missing counts as read.
 //!
 //! `specs/Outcomes.antt` is the table of recovery, a line for each row, and `src/row.rt` follows it row by row over a matcher's
 //! states. What a token changes is kept aside and put in place last (`step`); a token that one look tells, and that is admitted whole,

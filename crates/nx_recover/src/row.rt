@@ -1,6 +1,6 @@
 //! The rows of recovery's table, a function for each kind of event.
 
-ghost use Rattle.std.specs.Prelude.{◌≡◌, IsUtf8, IfOk, IfSome, None, option_map};
+ghost use Rattle.std.specs.Prelude.{◌≡◌, IsUtf8, IfOk, IfSome, None, Some, option_copied, option_map};
 ghost use Rattle.nx_events.specs.Texts.{EventIsText};
 ghost use Rattle.rng_kept.specs.Entering.{enter_skip};
 ghost use Rattle.rng_kept.specs.Merging.{answered};
@@ -8,12 +8,13 @@ ghost use Rattle.rng_live.specs.Calls.{Answers};
 ghost use Rattle.nx_recover.specs.Admitting.{admitted, refused};
 ghost use Rattle.nx_recover.specs.Outcomes.{flaw};
 ghost use Rattle.nx_base.specs.PrintedNames.{name_text};
-ghost use Rattle.nx_recover.specs.Details.{names_text};
+ghost use Rattle.nx_recover.specs.Details.{names_text, needs_text};
+ghost use Rattle.nx_recover.specs.Needed.{needed_names};
 ghost use Rattle.nx_recover.specs.Required.{required_names};
 ghost use Rattle.nx_recover.specs.States.{TurnIs, BegunIs, EndedIs, IsOpen, open_form};
 ghost use Rattle.nx_recover.specs.Table as t;
 
-use crate::detail::names_text;
+use crate::detail::{names_text, needs_text};
 use crate::levels::{Begun, Ended, Open, Turn};
 use crate::open_name::OpenName;
 use crate::packed::{Held, Packed, name_inside};
@@ -104,7 +105,8 @@ fn enter_other<M: Matcher>(
     requires { M.is_state matcher.old here.now }
     ensures later { M.later matcher.old matcher.new }
     ensures gives { IfOk result (BegunIs (M.is_state matcher.new) (M.means matcher.new)
-        (t.entered_by (M.means matcher.old here.now) name.now None None (t.entered_known (M.language matcher.old) name.now))) }
+        (t.entered_by (M.means matcher.old here.now) name.now
+        (needed_names (M.language matcher.old) (Some name.now) (M.means matcher.old here.now)) None None (t.entered_known (M.language matcher.old) name.now))) }
 {
     let around = matcher.copy(alloc, here)?;
     match enter_known(alloc, matcher, name)? {
@@ -127,6 +129,26 @@ fn enter_other<M: Matcher>(
     }
 }
 
+// What is wrong where content is missing up to an element of the name, or, without one, up to the end of the element around.
+#[tactic(auto, using(crate::proofs::NeededNames::needed_is))]
+fn lacking<M: Matcher>(
+    alloc: Global,
+    matcher: &mut M,
+    here: &M::State,
+    kind: Kind,
+    about: &Name,
+    skip: Option<&Name>,
+) -> Result<Option<Flaw>, NoMemory>
+    requires { M.is_state matcher.old here.now }
+    ensures later { M.later matcher.old matcher.new }
+    ensures flaw { IfOk result (λ found. found ≡ flaw kind
+        (needs_text about.now (needed_names (M.language matcher.old) (option_copied skip.entry) (M.means matcher.old here.now)))) }
+{
+    let names = matcher.needed(alloc, here, skip)?;
+    let detail = needs_text(alloc, about, names.as_slice())?;
+    Ok(Some(Flaw { kind, detail }))
+}
+
 // Where an element begins that isn't admitted.
 fn enter_awaited<M: Matcher>(
     alloc: Global,
@@ -138,13 +160,14 @@ fn enter_awaited<M: Matcher>(
     requires { M.is_state matcher.old here.now }
     ensures later { M.later matcher.old matcher.new }
     ensures gives { IfOk result (BegunIs (M.is_state matcher.new) (M.means matcher.new)
-        (t.entered_by (M.means matcher.old here.now) name.now None
+        (t.entered_by (M.means matcher.old here.now) name.now
+        (needed_names (M.language matcher.old) (Some name.now) (M.means matcher.old here.now)) None
         (answered (enter_skip (M.language matcher.old).definitions name.now (M.means matcher.old here.now)))
         (t.entered_known (M.language matcher.old) name.now))) }
 {
     match matcher.enter_skip(alloc, here, name)? {
         Some(state) => {
-            let flaw = named(alloc, Kind::NotYet, name)?;
+            let flaw = lacking(alloc, matcher, here, Kind::NotYet, name, Some(name))?;
             Ok(Begun {
                 here: Some(state),
                 element: Open::In(name_inside(alloc, name, outer)?),
@@ -218,11 +241,19 @@ pub fn enter_refused<M: Matcher>(
 }
 
 // That an element ends whose content isn't complete.
-fn incomplete_flaw(alloc: Global, name: &OpenName) -> Result<Option<Flaw>, NoMemory>
-    ensures { IfOk result (λ found. found ≡ flaw Kind.Incomplete (name_text name.now)) }
+fn incomplete_flaw<M: Matcher>(
+    alloc: Global,
+    matcher: &mut M,
+    here: &M::State,
+    name: &OpenName,
+) -> Result<Option<Flaw>, NoMemory>
+    requires { M.is_state matcher.old here.now }
+    ensures later { M.later matcher.old matcher.new }
+    ensures flaw { IfOk result (λ found. found ≡ flaw Kind.Incomplete
+        (needs_text name.now (needed_names (M.language matcher.old) None (M.means matcher.old here.now)))) }
 {
     let name = name.to_name()?;
-    let flaw = named(alloc, Kind::Incomplete, &name)?;
+    let flaw = lacking(alloc, matcher, here, Kind::Incomplete, &name, None)?;
     Ok(flaw)
 }
 
@@ -237,7 +268,7 @@ fn leave<M: Matcher>(
     requires { M.is_state matcher.old here.now }
     ensures later { M.later matcher.old matcher.new }
     ensures gives { IfOk result (TurnIs (M.is_state matcher.new) (M.means matcher.new)
-        (t.left name.now (M.means matcher.old here.now))) }
+        (t.left (M.language matcher.old) name.now (M.means matcher.old here.now))) }
 {
     if let Some(state) = matcher.leave(alloc, here)? {
         return Ok(Turn {
@@ -245,7 +276,7 @@ fn leave<M: Matcher>(
             flaw: None,
         });
     }
-    let flaw = incomplete_flaw(alloc, name)?;
+    let flaw = incomplete_flaw(alloc, matcher, here, name)?;
     Ok(Turn {
         next: Some(matcher.leave_skip(alloc, here)?),
         flaw,
@@ -262,7 +293,7 @@ fn leave_here<M: Matcher>(
     requires { IfSome here.now (M.is_state matcher.old) }
     ensures later { M.later matcher.old matcher.new }
     ensures gives { IfOk result (TurnIs (M.is_state matcher.new) (M.means matcher.new)
-        (t.in_frame (t.left name.now) (option_map (M.means matcher.old) here.now))) }
+        (t.in_frame (t.left (M.language matcher.old) name.now) (option_map (M.means matcher.old) here.now))) }
 {
     match here {
         Some(state) => leave(alloc, matcher, state, name),
@@ -283,11 +314,11 @@ fn incomplete<M: Matcher>(
 ) -> Result<Option<Flaw>, NoMemory>
     requires { M.is_state matcher.old here.now }
     ensures later { M.later matcher.old matcher.new }
-    ensures gives { IfOk result (λ found. found ≡ (t.left name.now (M.means matcher.old here.now)).flaw) }
+    ensures gives { IfOk result (λ found. found ≡ (t.left (M.language matcher.old) name.now (M.means matcher.old here.now)).flaw) }
 {
     match matcher.leave(alloc, here)? {
         Some(_) => Ok(None),
-        None => incomplete_flaw(alloc, name),
+        None => incomplete_flaw(alloc, matcher, here, name),
     }
 }
 
@@ -301,7 +332,7 @@ fn incomplete_here<M: Matcher>(
     requires { IfSome here.now (M.is_state matcher.old) }
     ensures later { M.later matcher.old matcher.new }
     ensures gives { IfOk result (λ found. found
-        ≡ (t.in_frame (t.left name.now) (option_map (M.means matcher.old) here.now)).flaw) }
+        ≡ (t.in_frame (t.left (M.language matcher.old) name.now) (option_map (M.means matcher.old) here.now)).flaw) }
 {
     match here {
         Some(state) => incomplete(alloc, matcher, state, name),
@@ -320,7 +351,7 @@ pub fn end_element<M: Matcher>(
     requires element { IsOpen (M.is_state matcher.old) element.now }
     ensures later { M.later matcher.old matcher.new }
     ensures gives { IfOk result (EndedIs (M.is_state matcher.new) (M.means matcher.new)
-        (t.ended (option_map (M.means matcher.old) here.now) (open_form (M.means matcher.old) element.now))) }
+        (t.ended (M.language matcher.old) (option_map (M.means matcher.old) here.now) (open_form (M.means matcher.old) element.now))) }
 {
     match &element.held {
         Held::In(name) => {

@@ -1,15 +1,16 @@
 -- The details of faults are names of the text or names that the schema requires, and so UTF-8.
-use Rattle.std.proofs.Common.{◌≡◌, ℕ, List, [], ◌∷◌, ◌++◌, Option, Some, None, refl, sym, subst, arith}
+use Rattle.std.proofs.Common.{◌≡◌, ℕ, suc, List, [], ◌∷◌, ◌++◌, Option, Some, None, refl, sym, subst, arith}
 use Rattle.std.specs.Prelude.{IfSome, IsTrue, Contains, codes}
 use Rattle.std.specs.List.{AllByRecursion}
 use Rattle.std.specs.Str.{IsUtf8, is_utf8, chars}
+use lib.Utf8.{encode}
 use Rattle.std.proofs.lemmas.Bool.{and_parts}
 use Rattle.std.proofs.lemmas.List.Elements.{recursion_from_All, Contains-get_or}
 use Rattle.std.proofs.lemmas.Str.{IsUtf8-append, IsUtf8-nil, IsUtf8-from_is_utf8}
 use Rattle.nx_base.specs.Characters.{is_of_chars, is_nc_name}
 use Rattle.nx_base.specs.Names.{is_namespace, is_local, is_xml_name, is_attribute_name}
 use Rattle.nx_base.specs.Trees as trees
-use Rattle.nx_base.specs.Trees.{Attribute, HasAttribute, attributes_flat, AreWritable}
+use Rattle.nx_base.specs.Trees.{Attribute, HasAttribute, Children, nil, string, element, Leave, TagEnd, attributes_flat, children_flat, AreWritable}
 use Rattle.nx_base.specs.declared.fault.Fault.{Fault}
 use Rattle.nx_base.specs.declared.fault.Span.{Span}
 use Rattle.nx_base.specs.declared.name.Name.{Name}
@@ -18,22 +19,23 @@ use Rattle.nx_events.specs.Items.{items_of_text}
 use Rattle.nx_events.specs.Texts.{NameIsText, EventIsText, ItemsAreText}
 use Rattle.nx_events.specs.declared.flaw.Flaw.{Flaw}
 use Rattle.nx_events.specs.declared.item.Event.{Event}
-use Rattle.nx_events.specs.declared.item.Event.TheVariants.{TagEnd}
+use Rattle.nx_events.specs.declared.item.Event.TheVariants as event
 use Rattle.nx_events.specs.declared.item.Item.{Item}
 use Rattle.nx_events.specs.declared.item.Item.TheVariants as items
 use Rattle.nx_events.proofs.Texts.{ascii_one}
 use Rattle.rng_core.specs.Patterns.{Language}
 use Rattle.rng_core.specs.Validity.{Viable}
-use Rattle.rng_kept.specs.KeptLists.{Kept, IsRequired}
+use Rattle.rng_kept.specs.KeptLists.{Kept, IsRequired, IsNeeded, HasChild, this_element, behind_element, behind_string, skip_end, skip_move}
 use Rattle.rng_kept.specs.Live.{AreLive}
-use Rattle.rng_kept.specs.Moves.{Adds, adds_attributes, missing_attributes}
+use Rattle.rng_kept.specs.Moves.{Adds, adds_attributes, adds_skipped, adds_content, missing_attributes, missing_content, skip_to}
 use Rattle.rng_kept.specs.Residuals.{Residual}
 use Rattle.rng_kept.specs.Standing.{first_residual}
 use Rattle.rng_residual.proofs.Missing.{missing_parts_go_on}
+use Rattle.rng_residual.proofs.Solid.{behind_attributes, behind_children}
 use Rattle.nx_base.specs.PrintedNames.{braced, name_text}
-use Rattle.nx_recover.specs.Details.{further_text, names_text}
+use Rattle.nx_recover.specs.Details.{further_text, names_text, needed_text}
 use Rattle.nx_recover.specs.Faults.{flaw_at, Along, at_end, by_event, by_fault}
-use Rattle.nx_recover.specs.Frames.{Frame, AreRequiredNames}
+use Rattle.nx_recover.specs.Frames.{Frame, Can, AreRequiredNames, AreNeededNames}
 use Rattle.nx_recover.specs.Nesting as nesting
 use Rattle.nx_recover.specs.Nesting.{LevelsAfter}
 use Rattle.nx_recover.specs.Outcomes as rows
@@ -89,6 +91,42 @@ required_text g live f x l depth s names r =
     let one : (n : Name) → Contains names n → NameIsText n = λ n h. added_text g f n k.0 ((r.exact n).0 h) k.2 k.3 v in
     recursion_from_All NameIsText names (λ i d lt. one _ (Contains-get_or names i d lt))
 
+-- ---- names that are needed
+
+needed_utf8 : (names : List Name) → AllByRecursion NameIsText names → IsUtf8 (needed_text names)
+unfolding is_utf8 chars encode
+needed_utf8 [] h = IsUtf8-nil
+needed_utf8 (n ∷ names) h = IsUtf8-append (codes " needs") _ (IsUtf8-from_is_utf8 (codes " needs") refl) (further_utf8 (n ∷ names) h)
+
+child_name_text : (n : Name) → IsTrue (is_xml_name n) → NameIsText n
+child_name_text n h =
+    let x = and_parts (is_namespace n.ns) (is_local n.local) h in
+    let ns = (and_parts (is_of_chars n.ns) _ x.0).0 in
+    (IsUtf8-from_is_utf8 n.ns (and_parts (is_utf8 n.ns) _ ns).0, IsUtf8-from_is_utf8 n.local (and_parts (is_utf8 n.local) (is_nc_name (chars n.local)) x.1).0)
+
+child_text : {n : Name} (k : Children) → HasChild n k → AreWritable (children_flat k []) → NameIsText n
+child_text nil h w = elim h [ ]
+child_text (string t k) (behind_string h) w = child_text k h w.1
+child_text (element m a j k) (this_element e) w = subst NameIsText e (child_name_text m w.0)
+child_text (element m a j k) (behind_element h) w =
+    let inside = (behind_attributes trees.IsWritable a (TagEnd ∷ children_flat j (Leave ∷ children_flat k [])) w.1).1 in
+    child_text k h (behind_children trees.IsWritable j (Leave ∷ children_flat k []) inside).1
+
+skipped_text : (g : Language) (f : Frame) (skip : Option Name) (n : Name) (before : List trees.Event) {added : List trees.Event} → IsNeeded g f.start f.moves skip n →
+    Kept g f.start f.moves before → Adds (skip_move skip) added → Viable g.definitions f.start (before ++ added) → NameIsText n
+skipped_text g f (Some m) n before r k (adds_skipped over c w) v = child_text over (r over before c w k v) w
+skipped_text g f None n before r k (adds_content over c w) v = child_text over (r over before c w k v) w
+
+needed_are_text : {g : Language} {f : Frame} (skip : Option Name) → Can g f (skip_move skip) → (names : List Name) → AreNeededNames g f skip names → AllByRecursion NameIsText names
+needed_are_text {g = g} {f = f} skip c names r =
+    let k = c.is_kept in
+    let v : Viable g.definitions f.start (k.0 ++ k.1) = subst (λ (e : List trees.Event). Viable g.definitions f.start e) k.4 c.viable in
+    let one : (n : Name) → Contains names n → NameIsText n = λ n h. skipped_text g f skip n k.0 ((r.exact n).0 h) k.2 k.3 v in
+    recursion_from_All NameIsText names (λ i d lt. one _ (Contains-get_or names i d lt))
+
+needs_utf8 : (n : Name) (names : List Name) → NameIsText n → AllByRecursion NameIsText names → IsUtf8 (name_text n ++ needed_text names)
+needs_utf8 n names h k = IsUtf8-append (name_text n) (needed_text names) (name_utf8 n h) (needed_utf8 names k)
+
 -- ---- rows
 
 abbrev FlawIsText : Option Flaw → Type 0
@@ -97,7 +135,7 @@ FlawIsText w = IfSome w (λ (flaw : Flaw). IsUtf8 flaw.detail)
 module _ {g : Language} {f : Frame} where
   enter_text : {n : Name} {o : Outcome} {w : Option Flaw} → NameIsText n → Recovers g f (trees.Enter n) o w → FlawIsText w
   enter_text h (rows.admitted a) = tt
-  enter_text {n = n} h (rows.not_yet a b) = name_utf8 n h
+  enter_text {n = n} h (rows.not_yet names a b c) = needs_utf8 n names h (needed_are_text (Some n) b names c)
   enter_text {n = n} h (rows.not_allowed a b c) = name_utf8 n h
   enter_text {n = n} h (rows.unknown a b c) = name_utf8 n h
 
@@ -115,9 +153,10 @@ module _ {g : Language} {f : Frame} where
   chars_text (rows.bad_text a b) = IsUtf8-nil
   chars_text (rows.text_not_allowed a b) = IsUtf8-nil
 
-completes_text : {g : Language} {f k : Frame} {w : Option Flaw} (n : Name) → NameIsText n → EndsElement g f n k w → FlawIsText w
-completes_text n h (rows.complete a) = tt
-completes_text n h (rows.incomplete a) = name_utf8 n h
+completes_text : {g : Language} {f k : Frame} {w : Option Flaw} (n : Name) → NameIsText n → ((names : List Name) → AreNeededNames g f None names → AllByRecursion NameIsText names) →
+    EndsElement g f n k w → FlawIsText w
+completes_text n h all (rows.complete a) = tt
+completes_text n h all (rows.incomplete names a b) = needs_utf8 n names h (all names b)
 
 -- ---- events
 
@@ -130,13 +169,24 @@ abbrev OpenAreText : List (Open Frame) → Type 0
 OpenAreText os = AllByRecursion OpenIsText os
 
 -- the names that are required where a tag ends, in a frame that stands
-tag_required : (g : Language) → AreLive g.definitions → (tag : Option (List Name)) (depth : ℕ) (f : Frame) {here : Option Frame} {x : Option Residual} → here ≡ Some f → Fits tag TagEnd → StandsHere g tag depth here x →
+tag_required : (g : Language) → AreLive g.definitions → (tag : Option (List Name)) (depth : ℕ) (f : Frame) {here : Option Frame} {x : Option Residual} → here ≡ Some f → Fits tag event.TagEnd → StandsHere g tag depth here x →
     (names : List Name) → AreRequiredNames g f names → AllByRecursion NameIsText names
 tag_required g live None depth f e fits s names r = absurd fits
 tag_required g live (Some l) depth f e fits (frame_here {f = k} {x = x} s) names r =
     let same : k ≡ f = cc in
     required_text g live k x l depth s names (subst (λ (j : Frame). AreRequiredNames g j names) (sym same) r)
 tag_required g live (Some l) depth f e fits lost_here names r = cc
+
+-- the names that are needed where an element ends, in a frame that stands
+end_needed : (g : Language) → AreLive g.definitions → (tag : Option (List Name)) (depth : ℕ) (f : Frame) {here : Option Frame} {x : Option Residual} → here ≡ Some f → Fits tag event.Leave → StandsHere g tag (suc depth) here x →
+    (names : List Name) → AreNeededNames g f None names → AllByRecursion NameIsText names
+end_needed g live (Some l) depth f e fits s names r = absurd fits
+end_needed g live None depth f e fits (frame_here {f = k} {x = x} s) names r =
+    let same : k ≡ f = cc in
+    let opened = s.opened in
+    let can = (missing_parts_go_on g k.start k.moves x live s.stands).1 s.of_tag (omega arith) in
+    needed_are_text None can names (subst (λ (j : Frame). AreNeededNames g j None names) (sym same) r)
+end_needed g live None depth f e fits lost_here names r = cc
 
 module _ (g : Language) (live : AreLive g.definitions) where
   record TextAfter (behind : List (Open Frame)) (w : Option Flaw) : Type 0 where
@@ -151,8 +201,8 @@ module _ (g : Language) (live : AreLive g.definitions) where
   text_after tag fits t h l (nesting.attribute r) = record { flaw = att_text t.0 r; elements = h }
   text_after tag fits t h l (nesting.tag_end {f = f} r) = record { flaw = tag_text (tag_required g live tag _ f refl fits l.stands) r; elements = h }
   text_after tag fits t h l (nesting.text r) = record { flaw = chars_text r; elements = h }
-  text_after tag fits t h l (nesting.leaves {n = n} c) = record { flaw = completes_text n h.0 c; elements = h.1 }
-  text_after tag fits t h l (nesting.leaves_own {n = n} c) = record { flaw = completes_text n h.0 c; elements = h.1 }
+  text_after tag fits t h l (nesting.leaves {f = f} {n = n} c) = record { flaw = completes_text n h.0 (end_needed g live tag _ f refl fits l.stands) c; elements = h.1 }
+  text_after tag fits t h l (nesting.leaves_own {f = f} {n = n} c) = record { flaw = completes_text n h.0 (end_needed g live tag 0 f refl fits l.stands) c; elements = h.1 }
   text_after tag fits t h l (nesting.enters_known k) = record { flaw = tt; elements = (t, h) }
   text_after tag fits t h l (nesting.enters_lost k) = record { flaw = tt; elements = (tt, h) }
   text_after tag fits t h l nesting.attribute_lost = record { flaw = tt; elements = h }

@@ -19,13 +19,16 @@ use Rattle.rng_kept.specs.Standing.{Stands, StandsBehind}
 use Rattle.rng_residual.proofs.MoveStands.{moves_stand}
 use Rattle.rng_residual.proofs.Standing.{answers_tell_moves}
 use Rattle.rng_residual.proofs.Missing.{tags_are_told, missing_parts_go_on}
+use Rattle.rng_kept.specs.KeptLists.{skip_move}
+use Rattle.rng_residual.proofs.Needed.{needed_is_exact}
 use Rattle.rng_residual.proofs.Required.{required_is_exact}
 use Rattle.nx_events.specs.Texts.{EventIsText}
 use Rattle.nx_events.specs.declared.item.Event.{Event}
 use Rattle.nx_events.specs.declared.item.Event.TheVariants.{Enter, EnterLost, Att, TagEnd, Chars, Leave}
 use Rattle.nx_base.specs.PrintedNames.{name_text}
-use Rattle.nx_recover.specs.Details.{names_text}
-use Rattle.nx_recover.specs.Frames.{Frame, moved, Can, known_frame, AreRequiredNames}
+use Rattle.nx_recover.specs.Details.{names_text, needs_text}
+use Rattle.nx_recover.specs.Frames.{Frame, moved, Can, known_frame, AreRequiredNames, AreNeededNames}
+use Rattle.nx_recover.specs.Needed.{needed_names}
 use Rattle.nx_recover.specs.Required.{required_names}
 use Rattle.nx_recover.specs.Outcomes as rows
 use Rattle.nx_recover.specs.Outcomes.{goes_on, flaw, Recovers, EndsElement}
@@ -36,6 +39,7 @@ use Rattle.nx_recover.specs.Table.{Form, Done, done_by, entered, entered_by, ent
 use Rattle.nx_recover.specs.declared.levels.Open.{Open}
 use Rattle.nx_recover.specs.declared.levels.Open.TheVariants.{In, Begins, Lost}
 use Rattle.nx_recover.specs.declared.levels.Turn.{Turn}
+use Rattle.nx_recover.proofs.NeededNames.{needed_names_are}
 use Rattle.nx_recover.proofs.RequiredNames.{required_names_are}
 use Rattle.nx_recovery.proofs.Tags.{Fits}
 use Rattle.nx_recovery.specs.Levels.{tag_after, own_elements, StandsFor, StandsHere, lost_here, frame_here, stands_in, stands_begins, stands_lost, StandAround, none_around, one_around}
@@ -82,6 +86,17 @@ required g live f x s open_tag =
     both : (a b : Bool) → a ≡ true → b ≡ true → IsTrue (a && b)
     both a b e f = rw (e, f) refl
 
+needs : (g : Language) → AreLive g.definitions → (f : Frame) (x : Residual) (skip : Option Name) → Stands g f.start f.moves x → Can g f (skip_move skip) → AreNeededNames g f skip (needed_names g skip x)
+needs g live f x skip s can =
+    let r = needed_names_are g skip x in
+    record {
+      sorted = r.sorted;
+      exact = λ n.
+          let w = needed_is_exact g live f.start f.moves x s skip can n in
+          let e = r.same n in
+          (λ h. w.0 (e.0 h), λ h. e.1 (w.1 h));
+    }
+
 one_name : (n : Name) (l names : List Name) → ((m : Name) → IsAmong m names → IsAmong m l) → (m : Name) → IsAmong m (n ∷ names) → IsAmong m (n ∷ l)
 one_name n l names h m (first e) = first e
 one_name n l names h m (later k) = later (h m k)
@@ -92,31 +107,31 @@ no_names n h = elim h [ ]
 -- ---- an element begins
 
 module _ (g : Language) (live : AreLive g.definitions) where
-  entered_here : (f : Frame) (x : Residual) (os : List (Open Frame)) (xs : List (Open Residual)) (n : Name) (o k i : Option Residual) →
-      StandsFor g None (own_elements os) f x → StandAround g os xs → Follows g f (take (trees.Enter n)) o → Follows g f (skip_to n) k → FollowsKnown g n i →
-      RecoversTo g (Some f) os (Enter n) (Some []) (table.opens xs (entered_by x n o k i))
-  entered_here f x os xs n (Some y) k i s t a b c = record {
+  entered_here : (f : Frame) (x : Residual) (os : List (Open Frame)) (xs : List (Open Residual)) (n : Name) (names : List Name) (o k i : Option Residual) →
+      StandsFor g None (own_elements os) f x → StandAround g os xs → Follows g f (take (trees.Enter n)) o → Follows g f (skip_to n) k → (Can g f (skip_to n) → AreNeededNames g f (Some n) names) → FollowsKnown g n i →
+      RecoversTo g (Some f) os (Enter n) (Some []) (table.opens xs (entered_by x n names o k i))
+  entered_here f x os xs n names (Some y) k i s t a b d c = record {
     next = Some (moved f (take (trees.Enter n)));
     behind = In n ∷ os;
     recovers = nesting.enters (rows.admitted a.0);
     stands = frame_here (record { stands = a.1; opened = ap suc s.opened; of_tag = (refl, no_names) });
     around = one_around stands_in t;
   }
-  entered_here f x os xs n None (Some y) i s t a b c = record {
+  entered_here f x os xs n names None (Some y) i s t a b d c = record {
     next = Some (moved f (skip_to n));
     behind = In n ∷ os;
-    recovers = nesting.enters (rows.not_yet a b.0);
+    recovers = nesting.enters (rows.not_yet names a b.0 (d b.0));
     stands = frame_here (record { stands = b.1; opened = ap suc s.opened; of_tag = (refl, no_names) });
     around = one_around stands_in t;
   }
-  entered_here f x os xs n None None (Some y) s t a b c = record {
+  entered_here f x os xs n names None None (Some y) s t a b d c = record {
     next = Some (known_frame g n);
     behind = Begins n (Some f) ∷ os;
     recovers = nesting.enters_own (rows.not_allowed a b c.0);
     stands = frame_here (record { stands = c.1; opened = refl; of_tag = (refl, no_names) });
     around = one_around (stands_begins (frame_here s)) t;
   }
-  entered_here f x os xs n None None None s t a b c = record {
+  entered_here f x os xs n names None None None s t a b d c = record {
     next = None;
     behind = Lost (Some f) ∷ os;
     recovers = nesting.enters_unknown (rows.unknown a b c);
@@ -146,9 +161,10 @@ module _ (g : Language) (live : AreLive g.definitions) where
   unfolding entered
   enters here x os xs n (frame_here {f = f} {x = y} s) t =
       let m = moves_stand g live f.start f.moves y s.stands in
-      entered_here f y os xs n (answered (enter g.definitions n y)) (answered (enter_skip g.definitions n y)) (entered_known g n) s t
+      entered_here f y os xs n (needed_names g (Some n) y) (answered (enter g.definitions n y)) (answered (enter_skip g.definitions n y)) (entered_known g n) s t
       (follows g live f (take (trees.Enter n)) _ (m.event (trees.Enter n) tt tt))
       (follows g live f (skip_to n) _ (m.skip n))
+      (λ can. needs g live f y (Some n) s.stands can)
       (known_follows g n live)
   enters here x os xs n lost_here t = found_here os xs n (entered_known g n) t (known_follows g n live)
 
@@ -275,39 +291,42 @@ module _ (g : Language) (live : AreLive g.definitions) where
     completes : EndsElement g f n frame d.flaw
     stands : StandsFor g None depth frame residual
 
-  left_by : (f : Frame) (n : Name) (depth : ℕ) (o : Option Residual) (z : Residual) → open_elements f.moves ≡ suc depth →
-      Follows g f (take trees.Leave) o → Stands g f.start (missing_content ∷ f.moves) z → CompletesTo f n depth (or_made_up o z (flaw kinds.Incomplete (name_text n)))
-  left_by f n depth (Some y) z e a b = record {
+  left_by : (f : Frame) (n : Name) (depth : ℕ) (names : List Name) (o : Option Residual) (z : Residual) → open_elements f.moves ≡ suc depth →
+      Follows g f (take trees.Leave) o → Stands g f.start (missing_content ∷ f.moves) z → AreNeededNames g f None names →
+      CompletesTo f n depth (or_made_up o z (flaw kinds.Incomplete (needs_text n names)))
+  left_by f n depth names (Some y) z e a b c = record {
     frame = moved f (take trees.Leave);
     residual = y;
     next = refl;
     completes = rows.complete a.0;
     stands = record { stands = a.1; opened = let d : open_elements f.moves - 1 ≡ depth = omega arith in d; of_tag = refl };
   }
-  left_by f n depth None z e a b = record {
+  left_by f n depth names None z e a b c = record {
     frame = moved f missing_content;
     residual = z;
     next = refl;
-    completes = rows.incomplete a;
+    completes = rows.incomplete names a c;
     stands = record { stands = b; opened = let d : open_elements f.moves - 1 ≡ depth = omega arith in d; of_tag = refl };
   }
 
-  leaves_frame : (f : Frame) (x : Residual) (n : Name) (depth : ℕ) → StandsFor g None (suc depth) f x → CompletesTo f n depth (left n x)
+  leaves_frame : (f : Frame) (x : Residual) (n : Name) (depth : ℕ) → StandsFor g None (suc depth) f x → CompletesTo f n depth (left g n x)
   unfolding left
   leaves_frame f x n depth s =
       let m = moves_stand g live f.start f.moves x s.stands in
       let e = s.opened in
-      left_by f n depth (answered (leave x)) (leave_skip x) s.opened
+      let can = (missing_parts_go_on g f.start f.moves x live s.stands).1 s.of_tag (omega arith) in
+      left_by f n depth (needed_names g None x) (answered (leave x)) (leave_skip x) s.opened
       (follows g live f (take trees.Leave) _ (m.event trees.Leave tt tt))
-      (made_up g live f missing_content (leave_skip x) m.content ((missing_parts_go_on g f.start f.moves x live s.stands).1 s.of_tag (omega arith)))
+      (made_up g live f missing_content (leave_skip x) m.content can)
+      (needs g live f x None s.stands can)
 
   leaves : (here : Option Frame) (x : Option Residual) (os : List (Open Frame)) (xs : List (Open Residual)) →
-      StandsHere g None (own_elements os) here x → StandAround g os xs → RecoversTo g here os Leave None (table.leaves x xs)
+      StandsHere g None (own_elements os) here x → StandAround g os xs → RecoversTo g here os Leave None (table.leaves g x xs)
   leaves here x os xs s none_around = record { next = here; behind = []; recovers = nesting.leaves_nothing; stands = s; around = none_around }
   leaves here x os xs s (one_around {os = os'} {xs = xs'} (stands_in {n = n}) t) = within here x os' xs' n s t
     where
       within : (here : Option Frame) (x : Option Residual) (os : List (Open Frame)) (xs : List (Open Residual)) (n : Name) →
-          StandsHere g None (suc (own_elements os)) here x → StandAround g os xs → RecoversTo g here (In n ∷ os) Leave None (table.closes xs (ended x (In n)))
+          StandsHere g None (suc (own_elements os)) here x → StandAround g os xs → RecoversTo g here (In n ∷ os) Leave None (table.closes xs (ended g x (In n)))
       within here x os xs n (frame_here {f = f} {x = y} s) t =
           let c = leaves_frame f y n (own_elements os) s in
           record {
@@ -322,7 +341,7 @@ module _ (g : Language) (live : AreLive g.definitions) where
     where
       own : (here : Option Frame) (x : Option Residual) (os : List (Open Frame)) (xs : List (Open Residual)) (n : Name) (around : Option Frame) (y : Option Residual) →
           StandsHere g None 1 here x → StandsHere g None (own_elements os) around y → StandAround g os xs →
-          RecoversTo g here (Begins n around ∷ os) Leave None (table.closes xs (ended x (Begins n y)))
+          RecoversTo g here (Begins n around ∷ os) Leave None (table.closes xs (ended g x (Begins n y)))
       own here x os xs n around y (frame_here {f = f} {x = z} s) a t =
           let c = leaves_frame f z n 0 s in
           record { next = around; behind = os; recovers = nesting.leaves_own c.completes; stands = a; around = t }

@@ -9,8 +9,8 @@ use Rattle.nx_events.specs.declared.flaw.Flaw.{Flaw}
 use Rattle.nx_events.specs.declared.item.Event.{Event}
 use Rattle.nx_events.specs.declared.item.Item.{Item}
 use Rattle.nx_recover.proofs.RequiredNames.{to_among, from_among, one_list}
-use Rattle.nx_recover.specs.Details.{names_text}
-use Rattle.nx_recover.specs.Frames.{Frame, AreRequiredNames}
+use Rattle.nx_recover.specs.Details.{names_text, needs_text}
+use Rattle.nx_recover.specs.Frames.{Frame, AreRequiredNames, AreNeededNames}
 use Rattle.nx_recover.specs.Outcomes as table
 use Rattle.nx_recover.specs.Outcomes.{Outcome, goes_on, begins_frame, loses, flaw, Recovers, EndsElement, complete, incomplete}
 use Rattle.nx_recover.specs.Nesting as nesting
@@ -35,9 +35,15 @@ module _ {g : Language} {f : Frame} where
       (λ n i. to_among others n ((b.exact n).1 ((a.exact n).0 (from_among names n i))))
       (λ n i. to_among names n ((a.exact n).1 ((b.exact n).0 (from_among others n i))))
 
+  same_needed : (skip : Option Name) (names others : List Name) → AreNeededNames g f skip names → AreNeededNames g f skip others → names ≡ others
+  same_needed skip names others a b =
+      one_list names others a.sorted b.sorted
+      (λ n i. to_among others n ((b.exact n).1 ((a.exact n).0 (from_among names n i))))
+      (λ n i. to_among names n ((a.exact n).1 ((b.exact n).0 (from_among others n i))))
+
   pub one_row : {e : trees.Event} {o u : Outcome} {w v : Option Flaw} → Recovers g f e o w → Recovers g f e u v → SameRow o u w v
   one_row (table.admitted a) (table.admitted b) = same_row
-  one_row (table.admitted a) (table.not_yet b c) = absurd (b a)
+  one_row (table.admitted a) (table.not_yet names b c d) = absurd (b a)
   one_row (table.admitted a) (table.not_allowed b c d) = absurd (b a)
   one_row (table.admitted a) (table.unknown b c d) = absurd (b a)
   one_row (table.admitted a) (table.bad_value b c) = absurd (b a)
@@ -45,16 +51,17 @@ module _ {g : Language} {f : Frame} where
   one_row (table.admitted a) (table.lacks_attributes names b c) = absurd (b a)
   one_row (table.admitted a) (table.bad_text b c) = absurd (b a)
   one_row (table.admitted a) (table.text_not_allowed b c) = absurd (b a)
-  one_row (table.not_yet b c) (table.admitted a) = absurd (b a)
-  one_row (table.not_yet b c) (table.not_yet d e) = same_row
-  one_row (table.not_yet b c) (table.not_allowed d e f) = absurd (e c)
-  one_row (table.not_yet b c) (table.unknown d e f) = absurd (e c)
+  one_row (table.not_yet names b c d) (table.admitted a) = absurd (b a)
+  one_row {e = trees.Enter n} (table.not_yet names b c d) (table.not_yet others h k l) =
+      record { outcome = refl; flaw = ap (λ (ns : List Name). flaw kinds.NotYet (needs_text n ns)) (same_needed (Some n) names others d l) }
+  one_row (table.not_yet names b c d) (table.not_allowed h e f) = absurd (e c)
+  one_row (table.not_yet names b c d) (table.unknown h e f) = absurd (e c)
   one_row (table.not_allowed b c d) (table.admitted a) = absurd (b a)
-  one_row (table.not_allowed b c d) (table.not_yet a e) = absurd (c e)
+  one_row (table.not_allowed b c d) (table.not_yet names a e h) = absurd (c e)
   one_row (table.not_allowed b c d) (table.not_allowed a e f) = same_row
   one_row (table.not_allowed b c d) (table.unknown a e f) = absurd (f d)
   one_row (table.unknown b c d) (table.admitted a) = absurd (b a)
-  one_row (table.unknown b c d) (table.not_yet a e) = absurd (c e)
+  one_row (table.unknown b c d) (table.not_yet names a e h) = absurd (c e)
   one_row (table.unknown b c d) (table.not_allowed a e f) = absurd (d f)
   one_row (table.unknown b c d) (table.unknown a e f) = same_row
   one_row (table.bad_value b c) (table.admitted a) = absurd (b a)
@@ -108,9 +115,10 @@ module _ {g : Language} where
 
   completes_same : {f k j : Frame} {n : Name} {os : List (Open Frame)} {w v : Option Flaw} → EndsElement g f n k w → EndsElement g f n j v → SameLevels (Some k) (Some j) os os w v
   completes_same (complete a) (complete b) = same_levels
-  completes_same (complete a) (incomplete b) = absurd (b a)
-  completes_same (incomplete a) (complete b) = absurd (a b)
-  completes_same (incomplete a) (incomplete b) = same_levels
+  completes_same (complete a) (incomplete names b c) = absurd (b a)
+  completes_same (incomplete names a c) (complete b) = absurd (a b)
+  completes_same {n = n} (incomplete names a c) (incomplete others b d) =
+      record { here = refl; elements = refl; flaw = ap (λ (ns : List Name). flaw kinds.Incomplete (needs_text n ns)) (same_needed None names others c d) }
 
   pub one_event : {here next other : Option Frame} {os behind others : List (Open Frame)} {e : Event} {w v : Option Flaw} →
       LevelsAfter g here os e next behind w → LevelsAfter g here os e other others v → SameLevels next other behind others w v

@@ -103,7 +103,7 @@ module _ (g : Language) where
 
   pub admits : {f : Frame} {e : trees.Event} {o : Outcome} {w : Option Flaw} → Recovers g f e o w → w ≡ None → Admits f e o
   admits (rows.admitted a) e = record { can = a; outcome = refl }
-  admits (rows.not_yet a b) e = cc
+  admits (rows.not_yet names a b c) e = cc
   admits (rows.not_allowed a b c) e = cc
   admits (rows.unknown a b c) e = cc
   admits (rows.bad_value a b) e = cc
@@ -130,7 +130,7 @@ module _ (g : Language) where
   step trees.Leave es depth (more_in {depth = d} i) b (nesting.leaves (rows.complete a)) e =
       let same : b.0 ≡ d = cc in
       record { can = a; next_is = refl; depth = d; all_in = i; balanced = subst (λ k. Balanced es k) same b.2 }
-  step trees.Leave es depth i b (nesting.leaves (rows.incomplete a)) e = cc
+  step trees.Leave es depth i b (nesting.leaves (rows.incomplete names a c)) e = cc
   step trees.Leave es depth i b (nesting.leaves_own c) e = elim i [ ]
   step trees.Leave es depth i b nesting.leaves_lost e = elim i [ ]
   step trees.Leave es depth none_in b nesting.leaves_nothing e = let z = b.1 in cc

@@ -166,7 +166,7 @@ pub(crate) const ROWS: [Row; 27] = [
 ];
 
 /// The documents beside a script, of which two are no text, and schemas.
-const DOCUMENTS: [(&str, &[u8]); 27] = [
+const DOCUMENTS: [(&str, &[u8]); 34] = [
     ("file:///work/b.xml", b"a\xE2\x82A"),
     ("file:///work/c.xml", b"a\xE2\x82"),
     ("file:///work/d.xml", b"<d/>\n"),
@@ -198,6 +198,23 @@ const DOCUMENTS: [(&str, &[u8]); 27] = [
     (
         "file:///work/five.rnc",
         b"element n { xsd:int { minInclusive = \"5\" } }",
+    ),
+    (
+        "file:///work/ahead.rnc",
+        b"element n { xsd:date \"2002-10-10+13:00\" }",
+    ),
+    ("file:///work/date.rnc", b"element n { xsd:date }"),
+    (
+        "file:///work/midnight.rnc",
+        b"element n { xsd:dateTime \"2000-12-31T24:00:00Z\" }",
+    ),
+    (
+        "file:///work/octet.rnc",
+        b"element n { xsd:base64Binary { length = \"1\" } }",
+    ),
+    (
+        "file:///work/nothing.rnc",
+        b"element n { xsd:hexBinary { length = \"0\" minLength = \"1\" } }",
     ),
     (
         "file:///work/xy.rnc",
@@ -233,6 +250,14 @@ const DOCUMENTS: [(&str, &[u8]); 27] = [
         b"element abcdefghijklmnopq { element b { empty }* }",
     ),
     ("file:///work/long.rnc", LONG_NAMES),
+    (
+        "file:///work/either.rnc",
+        b"element a { element b { empty } | element c { empty } }",
+    ),
+    (
+        "file:///work/row.rnc",
+        b"element a { element b { empty }, element c { empty }?, element d { empty }, element e { empty } }",
+    ),
 ];
 
 const LOOPING_RULES: &[u8] =
@@ -255,7 +280,7 @@ const SECTIONS: &[u8] =
     b"start = element doc { attribute id { xsd:NCName }, element title { text }, element para { (text | element em { text })* }* }";
 
 /// Scripts that hold documents against those schemas, what they print and how they end.
-pub(crate) const VALIDATED: [(&str, &str, Status); 29] = [
+pub(crate) const VALIDATED: [(&str, &str, Status); 37] = [
     (
         "schema \"s1.rnc\"\nerrors\n",
         "errors: 1\n0-0 NoRoot\n",
@@ -263,7 +288,7 @@ pub(crate) const VALIDATED: [(&str, &str, Status); 29] = [
     ),
     (
         "schema \"s1.rnc\"\ninsert 0 \"<doc id='a'><para/></doc>\"\nerrors\n",
-        "errors: 1\n12-19 NotYet para\n",
+        "errors: 1\n12-19 NotYet para needs title\n",
         Status::Done,
     ),
     (
@@ -328,7 +353,7 @@ pub(crate) const VALIDATED: [(&str, &str, Status); 29] = [
     ),
     (
         "schema \"s1.rnc\"\ninsert 0 \"<doc id='a'><!-- x\"\nerrors\n",
-        "errors: 3\n12-18 Unclosed\n18-18 UnclosedElement doc\n18-18 Incomplete doc\n",
+        "errors: 3\n12-18 Unclosed\n18-18 UnclosedElement doc\n18-18 Incomplete doc needs title\n",
         Status::Done,
     ),
     (
@@ -355,6 +380,36 @@ pub(crate) const VALIDATED: [(&str, &str, Status); 29] = [
         "schema \"five.rnc\"\ninsert 0 \"<n> </n>\"\nerrors\n",
         "errors: 1\n4-8 Incomplete n\n",
         Status::Done,
+    ),
+    (
+        "schema \"ahead.rnc\"\ninsert 0 \"<n>2002-10-09-11:00</n>\"\nerrors\ndelete 13 19\nerrors\n",
+        "errors: 0\nerrors: 1\n3-13 BadValue\n",
+        Status::Done,
+    ),
+    (
+        "schema \"date.rnc\"\ninsert 0 \"<n>2023-02-29</n>\"\nerrors\n",
+        "errors: 1\n3-13 BadValue\n",
+        Status::Done,
+    ),
+    (
+        "schema \"midnight.rnc\"\ninsert 0 \"<n>2001-01-01T01:00:00.0+01:00</n>\"\nerrors\n",
+        "errors: 0\n",
+        Status::Done,
+    ),
+    (
+        "schema \"octet.rnc\"\ninsert 0 \"<n>QQ==</n>\"\nerrors\n",
+        "errors: 0\n",
+        Status::Done,
+    ),
+    (
+        "schema \"octet.rnc\"\ninsert 0 \"<n>QR==</n>\"\nerrors\n",
+        "errors: 1\n3-7 BadValue\n",
+        Status::Done,
+    ),
+    (
+        "schema \"nothing.rnc\"\nerrors\n",
+        "line 1 refused: Unreadable NothingValid\nerrors: 1\n0-0 NoRoot\n",
+        Status::Refused,
     ),
     (
         "schema \"xy.rnc\"\ninsert 0 \"<a y='1' x='2'/>\"\nerrors\n",
@@ -395,13 +450,23 @@ pub(crate) const VALIDATED: [(&str, &str, Status); 29] = [
     (
         "schema \"long.rnc\"\ninsert 0 \"<abcdefghijklmno><abcdefghijklmnop><abcdefghijklmnopq abcdefghijklmnopq='on'>\
 </abcdefghijklmnopq></abcdefghijklmnop></abcdefghijklmno>\"\nerrors\n",
-        "errors: 1\n77-97 Incomplete abcdefghijklmnopq\n",
+        "errors: 1\n77-97 Incomplete abcdefghijklmnopq needs b\n",
         Status::Done,
     ),
     (
         "schema \"long.rnc\"\ninsert 0 \"<abcdefghijklmno><abcdefghijklmnopq abcdefghijklmnopq='on'>\
 </abcdefghijklmnopq></abcdefghijklmno>\"\nerrors\n",
-        "errors: 3\n17-59 NotAllowed abcdefghijklmnopq\n59-79 Incomplete abcdefghijklmnopq\n79-97 Incomplete abcdefghijklmno\n",
+        "errors: 3\n17-59 NotAllowed abcdefghijklmnopq\n59-79 Incomplete abcdefghijklmnopq needs b\n79-97 Incomplete abcdefghijklmno needs abcdefghijklmnop\n",
+        Status::Done,
+    ),
+    (
+        "schema \"either.rnc\"\ninsert 0 \"<a></a>\"\nerrors\n",
+        "errors: 1\n3-7 Incomplete a\n",
+        Status::Done,
+    ),
+    (
+        "schema \"row.rnc\"\ninsert 0 \"<a><e/></a>\"\nerrors\n",
+        "errors: 1\n3-7 NotYet e needs b d\n",
         Status::Done,
     ),
 ];

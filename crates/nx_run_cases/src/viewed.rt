@@ -30,7 +30,7 @@ const SHOWN: [(Panes, &str, &str, Status); 3] = [
     (
         Panes::Narrow,
         "schema \"s1.rnc\"\ninsert 0 \"<doc id='a'><!-- x\"\nerrors\nview 1\n",
-        "errors: 3\n12-18 Unclosed\n18-18 UnclosedElement doc\n18-18 Incomplete doc\nline 4 refused: NoView 1\n",
+        "errors: 3\n12-18 Unclosed\n18-18 UnclosedElement doc\n18-18 Incomplete doc needs title\nline 4 refused: NoView 1\n",
         Status::Refused,
     ),
     (

@@ -2,7 +2,7 @@
 use Rattle.std.proofs.Common.{◌≡◌, ℕ, List, [], ◌∷◌, ◌++◌, refl, subst, sym, ◌∙◌, ap, Some, false}
 use Rattle.std.specs.Prelude.{codes, IsTrue, slice_get}
 use Rattle.std.proofs.lemmas.Bool.{false≢true}
-use Rattle.std.specs.Str.{chars, is_utf8}
+use Rattle.std.specs.Str.{bytes_eq, chars, is_utf8}
 use lib.Utf8.{encode}
 use Rattle.nx_base.specs.Characters.{is_blank, is_char, is_space, is_name_start, is_name_char, is_of_chars}
 use Rattle.nx_base.specs.declared.name.Name.{Name}
@@ -14,8 +14,8 @@ use Rattle.rng_core.specs.Patterns.{Definition, ref}
 use Rattle.rng_core.specs.Matching.{no_attribute, to_first, then_second, element_of_first, AreStrings, no_string, one_string, as_they_stand, Matches, by_group, by_empty, by_text, by_one, by_first, by_second, by_element, by_attribute, by_data}
 use Rattle.rng_core.specs.Validity.{Valid, Viable}
 use Rattle.rng_kept.specs.Moves.{Move, take, Adds, adds_event, adds_skipped, adds_value, adds_string, adds_attributes, adds_content}
-use Rattle.rng_kept.specs.KeptLists.{Kept, IsRestOf}
-use Rattle.rng_kept.specs.Examples.{doc, id, title, para, em, nc_name_type, doc_content, paragraphs, Keeps, named, opened, opening, KeepsLists, NoParagraphAlone}
+use Rattle.rng_kept.specs.KeptLists.{Kept, IsRestOf, HasChild, this_element, behind_element, behind_string, IsNeeded}
+use Rattle.rng_kept.specs.Examples.{doc, id, title, para, em, nc_name_type, doc_content, paragraphs, Keeps, named, opened, opening, KeepsLists, NoParagraphAlone, CountsChildren}
 
 -- ---- documents
 
@@ -186,6 +186,26 @@ keeps_lists = record {
     refl,
     begins_title {inside = nil} _ [] accepts_a no_string no_children tt refl,
   );
+}
+
+-- ---- elements among the children
+
+no_para_first : HasChild para (element title [] nil nil) → ⊥
+no_para_first (this_element same) = false≢true (ap (λ (n : Name). bytes_eq n.local para.local) same)
+no_para_first (behind_element h) = elim h [ ]
+
+no_em_beside : HasChild em (element para [] (element em [] nil nil) nil) → ⊥
+no_em_beside (this_element same) = false≢true (ap (λ (n : Name). bytes_eq n.local em.local) same)
+no_em_beside (behind_element h) = elim h [ ]
+
+-- a title alone can stand there
+pub counts_children : CountsChildren
+counts_children = record {
+  behind_others = behind_string (behind_element (this_element refl));
+  none_inside = no_em_beside;
+  no_para_is_needed = λ needed. no_para_first
+      (needed (element title [] nil nil) opening a_title (title_is_written, (tt, (tt, tt))) opened_kept
+      (begins_title {inside = nil} _ [] accepts_a no_string no_children tt refl));
 }
 
 -- ---- no paragraph alone

@@ -1,7 +1,7 @@
 -- Worked examples: a schema with its kept lists and residuals, step by step.
-use Rattle.std.specs.Prelude.{◌≡◌, ℕ, List, [], ◌∷◌, codes, true, false, None, IsSome}
+use Rattle.std.specs.Prelude.{◌≡◌, ℕ, List, [], ◌∷◌, codes, true, false, Some, None, IsSome}
 use Rattle.nx_base.specs.declared.name.Name.{Name}
-use Rattle.nx_base.specs.Trees.{Event, Enter, Att, TagEnd, Chars, Leave}
+use Rattle.nx_base.specs.Trees.{nil, string, element, Event, Enter, Att, TagEnd, Chars, Leave}
 use Rattle.rng_types.specs.declared.datatype.Datatype.{Datatype}
 use Rattle.rng_types.specs.declared.kind.Word.TheVariants.{NcName}
 use Rattle.rng_types.specs.declared.kind.Form.TheVariants.{One}
@@ -9,13 +9,14 @@ use Rattle.rng_core.specs.Names.{the_name}
 use Rattle.rng_core.specs.Patterns.{Pattern, Definition, empty, any_text, typed, attribute, ref, one_or_more, choice, group, interleave}
 use Rattle.rng_core.specs.Patterns.{Language}
 use Rattle.rng_kept.specs.Moves.{Move, take, skip_to, any_value, any_string, missing_attributes, missing_content}
-use Rattle.rng_kept.specs.KeptLists.{Kept, NoneIsViable}
+use Rattle.rng_kept.specs.KeptLists.{Kept, NoneIsViable, HasChild, IsNeeded}
 use Rattle.rng_kept.specs.Residuals.{Residual}
 use Rattle.rng_kept.specs.Merging.{answered}
 use Rattle.rng_kept.specs.Entering.{enter, enter_skip}
 use Rattle.rng_kept.specs.Tags.{attribute_of, attribute_any, tag_end, tag_end_missing}
 use Rattle.rng_kept.specs.Content.{chars, chars_any, leave, leave_skip}
 use Rattle.rng_kept.specs.Required.{is_required}
+use Rattle.rng_kept.specs.Needed.{needed}
 use Rattle.rng_kept.specs.Standing.{first_residual}
 
 abbrev pub plain_name : List ℕ → Name
@@ -143,10 +144,52 @@ shuffled = record {
 abbrev pub behind_empty : Name → Residual → Residual
 behind_empty n x = leave (tag_end (enter shuffled.definitions n x))
 
-abbrev pub in_r : Residual
-in_r = tag_end (enter shuffled.definitions r (first_residual shuffled.start))
+-- behind the start tag of the root, which has no attributes
+abbrev pub inside_root : Language → Residual
+inside_root g = tag_end (enter g.definitions r (first_residual g.start))
 
 pub record ShufflesChildren : Type 0 where
-  pub a_b_a : IsSome (answered (leave (behind_empty a (behind_empty b (behind_empty a in_r)))))
-  pub no_second_b : answered (behind_empty b (behind_empty b in_r)) ≡ None
-  pub no_end_without_a : answered (leave (behind_empty b in_r)) ≡ None
+  pub a_b_a : IsSome (answered (leave (behind_empty a (behind_empty b (behind_empty a (inside_root shuffled))))))
+  pub no_second_b : answered (behind_empty b (behind_empty b (inside_root shuffled))) ≡ None
+  pub no_end_without_a : answered (leave (behind_empty b (inside_root shuffled))) ≡ None
+
+-- ---- elements that are needed where content is skipped
+
+abbrev pub c : Name
+c = plain_name (codes "c")
+
+abbrev pub d : Name
+d = plain_name (codes "d")
+
+abbrev pub e : Name
+e = plain_name (codes "e")
+
+-- element r { element a { empty } | element b { empty } }
+abbrev pub chosen : Language
+chosen = record {
+  start = ref 0;
+  definitions = element_of r (choice (ref 1) (ref 2)) ∷ element_of a empty ∷ element_of b empty ∷ [];
+}
+
+-- element r { element b { empty }, element c { empty }?, element d { empty }, element e { empty } }
+abbrev pub ordered : Language
+ordered = record {
+  start = ref 0;
+  definitions = element_of r (group (group (group (ref 1) (choice (ref 2) empty)) (ref 3)) (ref 4))
+      ∷ element_of b empty ∷ element_of c empty ∷ element_of d empty ∷ element_of e empty ∷ [];
+}
+
+-- an element is one of the children wherever it stands among them, but not inside of another one; and of what may be left out no
+-- content need have any
+pub record CountsChildren : Type 0 where
+  pub behind_others : HasChild para (string (codes " ") (element title [] nil (element para [] nil nil)))
+  pub none_inside : HasChild em (element para [] (element em [] nil nil) nil) → ⊥
+  pub no_para_is_needed : IsNeeded paragraphs paragraphs.start opened None para → ⊥
+
+pub record NeedsElements : Type 0 where
+  pub a_title_before_a_para : needed paragraphs.definitions (Some para) in_doc ≡ title ∷ []
+  pub a_title_in_all : needed paragraphs.definitions None in_doc ≡ title ∷ []
+  pub neither_of_a_choice : needed chosen.definitions None (inside_root chosen) ≡ []
+  pub all_but_what_is_optional : needed ordered.definitions (Some e) (inside_root ordered) ≡ b ∷ d ∷ []
+  pub both_of_an_interleave : needed shuffled.definitions None (inside_root shuffled) ≡ a ∷ b ∷ []
+  pub none_in_front_of_the_other_side : needed shuffled.definitions (Some b) (inside_root shuffled) ≡ []

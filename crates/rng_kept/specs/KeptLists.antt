@@ -1,7 +1,8 @@
 -- Kept lists: the lists of events that moves keep behind the start of a frame, and how these go on.
-use Rattle.std.specs.Prelude.{◌≡◌, List, [], ◌∷◌, ◌++◌}
+use Rattle.std.specs.Prelude.{◌≡◌, ℕ, List, [], ◌∷◌, ◌++◌, Option, Some, None}
 use Rattle.nx_base.specs.declared.name.Name.{Name}
-use Rattle.nx_base.specs.Trees.{Attribute, HasAttribute, Event, TagEnd, attributes_flat, AreWritable}
+use Rattle.nx_base.specs.Trees.{Attribute, HasAttribute, Children, string, element, AreChildren, Event, Enter, TagEnd, Leave}
+use Rattle.nx_base.specs.Trees.{attributes_flat, children_flat, AreWritable}
 use Rattle.rng_core.specs.Patterns.{Pattern, Language}
 use Rattle.rng_core.specs.Validity.{Valid, IsRest, Viable}
 use Rattle.rng_kept.specs.Moves.{Move, take, skip_to, any_value, any_string, missing_attributes, missing_content, Adds}
@@ -40,6 +41,27 @@ NoneIsViable g p h = (s : List Event) → IsRestOf g p h s → ⊥
 abbrev pub IsRequired : Language → Pattern → List Move → Name → Type 0
 IsRequired g p h n = (a : List Attribute) (k : List Event) → AreWritable (attributes_flat a []) → Kept g p h k
     → Viable g.definitions p (k ++ attributes_flat a (TagEnd ∷ [])) → HasAttribute n a
+
+-- one of the children is an element of this name; what stands inside of elements doesn't count
+pub data HasChild (n : Name) : Children → Type 0 where
+  this_element : {m : Name} {a : List Attribute} {k rest : Children} → m ≡ n → HasChild n (element m a k rest)
+  behind_element : {m : Name} {a : List Attribute} {k rest : Children} → HasChild n rest → HasChild n (element m a k rest)
+  behind_string : {t : List ℕ} {rest : Children} → HasChild n rest → HasChild n (string t rest)
+
+-- the event up to which content is skipped: the start of an element of this name, or, without one, the end of the element around
+abbrev pub skip_end : Option Name → Event
+skip_end (Some m) = Enter m
+skip_end None = Leave
+
+-- the move that skips it
+abbrev pub skip_move : Option Name → Move
+skip_move (Some m) = skip_to m
+skip_move None = missing_content
+
+-- where content is skipped: each content that can stand between a kept list and that event has an element of this name
+abbrev pub IsNeeded : Language → Pattern → List Move → Option Name → Name → Type 0
+IsNeeded g p h skip n = (over : Children) (k : List Event) → AreChildren over → AreWritable (children_flat over []) → Kept g p h k
+    → Viable g.definitions p (k ++ children_flat over (skip_end skip ∷ [])) → HasChild n over
 
 -- some list that is kept behind one move more is viable. An event is admitted where that is so of the text's own event
 pub record CanMove (g : Language) (p : Pattern) (h : List Move) (m : Move) : Type 0 where

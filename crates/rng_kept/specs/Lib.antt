@@ -16,6 +16,7 @@ pub mod Content
 pub mod Tags
 pub mod Mentioned
 pub mod Required
+pub mod Needed
 pub mod Clean
 pub mod Apart
 pub mod Live

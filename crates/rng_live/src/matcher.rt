@@ -1,17 +1,19 @@
 //! The contract of matchers, which follow the events of a document through a schema.
 
-ghost use Rattle.std.specs.Prelude.{◌≡◌, ◌↔◌, IsTrue, IsUtf8, IsOk, IfOk, OnOk, Bool};
+ghost use Rattle.std.specs.Prelude.{◌≡◌, ◌↔◌, IsTrue, IsUtf8, IsOk, IfOk, OnOk, Bool, option_copied};
 ghost use Rattle.nx_base.specs.Rules.{LaterLaws};
 ghost use Rattle.rng_core.specs.Patterns.{Language};
 ghost use Rattle.rng_kept.specs.Live.{IsLive};
 ghost use Rattle.rng_kept.specs.Residuals.{Residual};
 ghost use Rattle.rng_kept.specs.Merging.{answered};
+ghost use Rattle.rng_kept.specs.Needed as needs;
 ghost use Rattle.rng_kept.specs.Standing.{first_residual};
 ghost use Rattle.rng_kept.specs.Entering as entering;
 ghost use Rattle.rng_kept.specs.Tags as tags;
 ghost use Rattle.rng_kept.specs.Content as content;
 ghost use Rattle.rng_live.specs.Calls as calls;
 ghost use Rattle.rng_live.specs.Calls.{Gives, Answers, AreRequired, Call, call_enter, call_tag_end, call_leave, KeepsMemory};
+ghost use Rattle.rng_live.specs.Order.{name_order, SortsOnce};
 ghost use Rattle.rng_live.specs.Schemas.{schema_language};
 
 use crate::schema::Schema;
@@ -171,6 +173,21 @@ pub trait Matcher: Drop {
         requires { is_state self.old s.now }
         ensures later { later self.old self.new }
         ensures gives { IfOk result (Gives (is_state self.new) (means self.new) (content.leave_skip (means self.old s.now))) };
+
+    /// The names of which an element stands in every content that can be skipped up to an element of this name, or, without one,
+    /// up to the end of the element that is open, in order and without doubles; no name where nothing can be skipped so. What
+    /// stands inside of elements of the content doesn't count. That the clause says this of the state is the law `needed_is_exact`
+    /// of rng_residual.
+    fn needed(
+        &mut self,
+        alloc: Global,
+        s: &Self::State,
+        name: Option<&Name>,
+    ) -> Result<Names, NoMemory>
+        requires { is_state self.old s.now }
+        ensures later { later self.old self.new }
+        ensures gives { IfOk result (SortsOnce name_order
+            (needs.needed (language self.old).definitions (option_copied name.entry) (means self.old s.now))) };
 
     /// Whether the two mean the same, so that equal events lead on from both alike.
     fn same(&self, a: &Self::State, b: &Self::State) -> bool

@@ -31,6 +31,8 @@ pub mod MoveStands
 pub mod Known
 pub mod Members
 pub mod Required
+pub mod NameLists
+pub mod Needed
 pub mod Unmentioned
 pub mod Restricted
 pub mod Missing

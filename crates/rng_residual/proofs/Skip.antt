@@ -20,17 +20,17 @@ use Rattle.rng_residual.proofs.Joining.{cat, cat_order, cat_solid, cat_written, 
 use Rattle.rng_residual.proofs.Samples.{sample}
 
 -- of two splits of one list, one front is a front of the other
-record Inner (x c1 c2 r : Children) : Type 0 where
-  middle : Children
-  first : InOrder c1 x middle
-  second : InOrder r middle c2
+pub record Inner (x c1 c2 r : Children) : Type 0 where
+  pub middle : Children
+  pub first : InOrder c1 x middle
+  pub second : InOrder r middle c2
 
-record Outside (x c1 c2 r : Children) : Type 0 where
-  middle : Children
-  first : InOrder x c1 middle
-  second : InOrder c2 middle r
+pub record Outside (x c1 c2 r : Children) : Type 0 where
+  pub middle : Children
+  pub first : InOrder x c1 middle
+  pub second : InOrder c2 middle r
 
-levi : {c c1 c2 x r : Children} → InOrder c c1 c2 → InOrder c x r → Inner x c1 c2 r ⊎ Outside x c1 c2 r
+pub levi : {c c1 c2 x r : Children} → InOrder c c1 c2 → InOrder c x r → Inner x c1 c2 r ⊎ Outside x c1 c2 r
 levi {x = x} then_second t = inr (record { middle = x; first = then_second; second = t })
 levi {c1 = c1} s then_second = inl (record { middle = c1; first = then_second; second = s })
 levi (string_of_first s) (string_of_first t) =
@@ -41,17 +41,17 @@ levi (element_of_first s) (element_of_first t) =
     (λ w. inr (record { middle = w.middle; first = element_of_first w.first; second = w.second })) (levi s t)
 
 -- a shuffle, cut in two
-record Cut (x r c1 c2 : Children) : Type 0 where
-  x1 : Children
-  x2 : Children
-  r1 : Children
-  r2 : Children
-  fronts : Shuffle x x1 x2
-  rests : Shuffle r r1 r2
-  first : InOrder c1 x1 r1
-  second : InOrder c2 x2 r2
+pub record Cut (x r c1 c2 : Children) : Type 0 where
+  pub x1 : Children
+  pub x2 : Children
+  pub r1 : Children
+  pub r2 : Children
+  pub fronts : Shuffle x x1 x2
+  pub rests : Shuffle r r1 r2
+  pub first : InOrder c1 x1 r1
+  pub second : InOrder c2 x2 r2
 
-cut : {c c1 c2 x r : Children} → InOrder c x r → Shuffle c c1 c2 → Cut x r c1 c2
+pub cut : {c c1 c2 x r : Children} → InOrder c x r → Shuffle c c1 c2 → Cut x r c1 c2
 cut {c1 = c1} {c2 = c2} then_second s = record { x1 = nil; x2 = nil; r1 = c1; r2 = c2; fronts = no_child; rests = s; first = then_second; second = then_second }
 cut (string_of_first {text = t} o) (string_to_first s) =
     let w = cut o s in record { x1 = string t w.x1; x2 = w.x2; r1 = w.r1; r2 = w.r2; fronts = string_to_first w.fronts; rests = w.rests; first = string_of_first w.first; second = w.second }
@@ -143,7 +143,7 @@ join_shuffle then_second (element_of_first {n = n} {a = a} {k = k} o) s = let w 
 join_shuffle (string_of_first {text = t} o) u s = let w = join_shuffle o u s in record { all = string t w.all; order = string_of_first w.order; shuffle = string_to_first w.shuffle }
 join_shuffle (element_of_first {n = n} {a = a} {k = k} o) u s = let w = join_shuffle o u s in record { all = element n a k w.all; order = element_of_first w.order; shuffle = element_to_first w.shuffle }
 
-cat_over : {c x r : Children} (k : Children) → InOrder c x r → InOrder (cat k c) (cat k x) r
+pub cat_over : {c x r : Children} (k : Children) → InOrder c x r → InOrder (cat k c) (cat k x) r
 unfolding cat
 cat_over nil o = o
 cat_over (string t k) o = string_of_first (cat_over k o)
@@ -206,26 +206,26 @@ string_no_element : {X : Type 0} {t : List ℕ} {x r : Children} {n : Name} {a :
 string_no_element (string_of_first o) = elim o [ ]
 
 -- the element stands behind the first side, or in it
-record Here (m c2 : Children) (n : Name) (a : List Attribute) (k r : Children) : Type 0 where
-  rest : Children
-  is : m ≡ element n a k rest
-  order : InOrder r rest c2
+pub record Here (m c2 : Children) (n : Name) (a : List Attribute) (k r : Children) : Type 0 where
+  pub rest : Children
+  pub is : m ≡ element n a k rest
+  pub order : InOrder r rest c2
 
-place : {n : Name} {a : List Attribute} {k r m c2 : Children} → InOrder (element n a k r) m c2 → ((m ≡ nil) × (c2 ≡ element n a k r)) ⊎ Here m c2 n a k r
+pub place : {n : Name} {a : List Attribute} {k r m c2 : Children} → InOrder (element n a k r) m c2 → ((m ≡ nil) × (c2 ≡ element n a k r)) ⊎ Here m c2 n a k r
 place then_second = inl (refl, refl)
 place (element_of_first {one = y} o) = inr (record { rest = y; is = refl; order = o })
 
-record OnLeft (r1 r2 : Children) (n : Name) (a : List Attribute) (k r : Children) : Type 0 where
-  rest : Children
-  is : r1 ≡ element n a k rest
-  shuffle : Shuffle r rest r2
+pub record OnLeft (r1 r2 : Children) (n : Name) (a : List Attribute) (k r : Children) : Type 0 where
+  pub rest : Children
+  pub is : r1 ≡ element n a k rest
+  pub shuffle : Shuffle r rest r2
 
-record OnRight (r1 r2 : Children) (n : Name) (a : List Attribute) (k r : Children) : Type 0 where
-  rest : Children
-  is : r2 ≡ element n a k rest
-  shuffle : Shuffle r r1 rest
+pub record OnRight (r1 r2 : Children) (n : Name) (a : List Attribute) (k r : Children) : Type 0 where
+  pub rest : Children
+  pub is : r2 ≡ element n a k rest
+  pub shuffle : Shuffle r r1 rest
 
-side : {n : Name} {a : List Attribute} {k r r1 r2 : Children} → Shuffle (element n a k r) r1 r2 → OnLeft r1 r2 n a k r ⊎ OnRight r1 r2 n a k r
+pub side : {n : Name} {a : List Attribute} {k r r1 r2 : Children} → Shuffle (element n a k r) r1 r2 → OnLeft r1 r2 n a k r ⊎ OnRight r1 r2 n a k r
 side (element_to_first {one = y} s) = inl (record { rest = y; is = refl; shuffle = s })
 side (element_to_second {other = z} s) = inr (record { rest = z; is = refl; shuffle = s })
 

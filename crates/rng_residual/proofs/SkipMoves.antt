@@ -96,7 +96,7 @@ enter_skip_lively {g = g} n live x a = lively_stepped (skip_way g n) (skip_way_l
 
 -- ---- children and an element's name
 
-no_element : {X : Type 0} {n : Name} {c x r j : Children} {a : List Attribute} → InOrder c x (element n a j r) → c ≡ nil → X
+pub no_element : {X : Type 0} {n : Name} {c x r j : Children} {a : List Attribute} → InOrder c x (element n a j r) → c ≡ nil → X
 no_element then_second f = cc
 no_element (string_of_first q) f = cc
 no_element (element_of_first q) f = cc
@@ -224,7 +224,7 @@ skip_outer_out {g = g} {n = n} {s = s} (lively_inside {b = b} {l = l} {v = v} {o
 
 -- ---- of residuals
 
-not_tag : {X : Type 0} (n : Name) (s z : List Event) (x : Children) (a : List Attribute) → children_flat x (Enter n ∷ s) ≡ attributes_flat a (TagEnd ∷ z) → X
+pub not_tag : {X : Type 0} (n : Name) (s z : List Event) (x : Children) (a : List Attribute) → children_flat x (Enter n ∷ s) ≡ attributes_flat a (TagEnd ∷ z) → X
 not_tag n s z nil [] e = cc
 not_tag n s z nil (b ∷ a) e = cc
 not_tag n s z (string t x) [] e = cc
@@ -291,7 +291,7 @@ children_viable {g = g} {b = b} {l = l} {v = v} {o = o} {s = s} c d a h = go (is
     go true true true ex ey ez f = record { over = nil; written = none_written; taken = at_inside nil s refl (voidly ez refl) h }
     go true true false ex ey ez f = cc
 
-no_leave : {X : Type 0} (s : List Event) (x c : Children) → children_flat x (Leave ∷ s) ≡ children_flat c [] → X
+pub no_leave : {X : Type 0} (s : List Event) (x c : Children) → children_flat x (Leave ∷ s) ≡ children_flat c [] → X
 no_leave s nil nil e = cc
 no_leave s nil (string t c) e = cc
 no_leave s nil (element m a k c) e = cc
@@ -317,7 +317,7 @@ leave_outer_skip_out (lively_document c) h = elim h [ ]
 leave_outer_skip_out (lively_inside c d a h) (by_this (among_children t)) = children_viable c d a t
 leave_outer_skip_out (lively_inside c d a h) (by_later t) = elim t [ ]
 
-not_tag_leave : {X : Type 0} (s z : List Event) (x : Children) (a : List Attribute) → children_flat x (Leave ∷ s) ≡ attributes_flat a (TagEnd ∷ z) → X
+pub not_tag_leave : {X : Type 0} (s z : List Event) (x : Children) (a : List Attribute) → children_flat x (Leave ∷ s) ≡ attributes_flat a (TagEnd ∷ z) → X
 not_tag_leave s z nil [] e = cc
 not_tag_leave s z nil (b ∷ a) e = cc
 not_tag_leave s z (string t x) [] e = cc

@@ -4,5 +4,6 @@ pub mod Solid
 pub mod Merging
 pub mod Moves
 pub mod Required
+pub mod Needed
 pub mod Unmentioned
 pub mod Restricted

@@ -5,6 +5,7 @@ ghost use Rattle.rng_residual.specs.Merging.{MergedTakeTheSame};
 ghost use Rattle.rng_residual.specs.Moves.{FramesStand, KnownIsTold, KnownFramesBegin, MovesStand, FrontsAreViable, StandingGoesOn};
 ghost use Rattle.rng_residual.specs.Moves.{AnswersTellMoves, RestsAreTaken, TagsAreTold, MissingPartsGoOn};
 ghost use Rattle.rng_residual.specs.Openings.{OpensExactly};
+ghost use Rattle.rng_residual.specs.Needed.{SoleIsExact, NeededIsExact, NothingIsListed};
 ghost use Rattle.rng_residual.specs.Required.{OnlyIsExact, RequiredIsExact};
 ghost use Rattle.rng_residual.specs.Restricted.{RestrictedIsApart};
 ghost use Rattle.rng_residual.specs.Solid.{TestsAreSolid};
@@ -63,6 +64,15 @@ pub fn moves_stand()
 pub fn required_is_exact()
     ensures only { OnlyIsExact }
     ensures required { RequiredIsExact }
+{}
+
+/// The names that a residual needs where content is skipped are exactly those of which each content that can stand there has an
+/// element; where none can be skipped, no name is listed.
+#[tactic(auto, using(crate::proofs::NameLists::sole_is_exact))]
+pub fn needed_is_exact()
+    ensures sole { SoleIsExact }
+    ensures needed { NeededIsExact }
+    ensures nothing { NothingIsListed }
 {}
 
 /// An answer that stands behind a move is given exactly where the move can be made.

@@ -4,7 +4,7 @@ use Rattle.rng_kept.specs.Residuals.{among, in_tag, is_in_tag}
 use Rattle.rng_kept.specs.Required.{is_required}
 use Rattle.deriv_plain.specs.Ways.{outer_of, way_of, residual_of}
 use Rattle.rng_live.proofs.Needed.{possible_of}
-use Rattle.deriv_plain.proofs.Needed.{first_way}
+use Rattle.deriv_plain.proofs.FirstWay.{first_way}
 use Rattle.deriv_plain.proofs.required.possible_names.Goals as goal
 
 pub returns-in-InTag : goal.returns-in-InTag

@@ -4,7 +4,7 @@ use Rattle.nx_recover.proofs.event.take_leave.Goals as goal
 pub returns-in_default-clause-gives : goal.returns-in_default-clause-gives
 returns-in_default-clause-gives g c =
     let a = c.args.matcher.now in
-    leaves_none (g.M.Matcher.is_state a) (g.M.Matcher.means a) c.args.levels.now c.args.change.now c.requires c.in_default.ensures
+    leaves_none (g.M.Matcher.language a) (g.M.Matcher.is_state a) (g.M.Matcher.means a) c.args.levels.now c.args.change.now c.requires c.in_default.ensures
 
 pub end_element-requires-clause-element : goal.end_element-requires-clause-element
 end_element-requires-clause-element g c =

@@ -23,3 +23,6 @@ invariant_of-result-clause-fits c =
 pub invariant_of-result-clause-right : goal.invariant_of-result-clause-right
 invariant_of-result-clause-right c =
     ∣ none_noted (schema_language c.args.schema).definitions c.in_ok-states.states c.new-memory.result c.new-memory.ensures.answers ∣₁
+
+pub invariant_of-result-clause-names : goal.invariant_of-result-clause-names
+invariant_of-result-clause-names c = ∣ c.new-2.ensures (schema_language c.args.schema).definitions c.in_ok-states.states.patterns ∣₁

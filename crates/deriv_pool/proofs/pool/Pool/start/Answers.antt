@@ -6,6 +6,7 @@ use Rattle.deriv_pattern.specs.Leaves.{IsInOrder}
 use Rattle.deriv_pattern.proofs.Props.{in_order_alike}
 use Rattle.rng_live.specs.Schemas.{schema_language}
 use Rattle.deriv_pool.proofs.Remembering.{answers_on}
+use Rattle.deriv_pool.proofs.Kept.{names_on}
 use Rattle.deriv_pool.proofs.pool.Pool.start.Goals as goal
 
 pub imported-requires : goal.imported-requires
@@ -17,3 +18,8 @@ pub invariant_of-self-clause-right : goal.invariant_of-self-clause-right
 invariant_of-self-clause-right c =
     let m = c.args.self.now in
     answers_on (schema_language m.schema).definitions m.states c.imported.new.self m.memory c.imported.ensures.later m.right
+
+pub invariant_of-self-clause-names : goal.invariant_of-self-clause-names
+invariant_of-self-clause-names c =
+    let m = c.args.self.now in
+    names_on (schema_language m.schema).definitions m.states c.imported.new.self m.kept.entries.items c.imported.ensures.later m.names

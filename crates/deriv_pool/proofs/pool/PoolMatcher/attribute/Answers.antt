@@ -3,6 +3,8 @@ use Rattle.rng_core.specs.declared.grammar.Def.{Def}
 use Rattle.rng_core.specs.declared.grammar.Grammar.{Grammar}
 use Rattle.rng_core.specs.Meaning.{definition_of}
 use Rattle.deriv_pool.specs.Remembering.{AreAnswers}
+use Rattle.rng_live.specs.Schemas.{schema_language}
+use Rattle.deriv_pool.proofs.Kept.{names_on}
 use Rattle.deriv_pool.proofs.pool.PoolMatcher.attribute.Goals as goal
 
 pub recalled_attribute-requires-clause-right : goal.recalled_attribute-requires-clause-right
@@ -19,3 +21,8 @@ pub invariant_of-self-in-None-clause-right : goal.invariant_of-self-in-None-clau
 invariant_of-self-in-None-clause-right c =
     let is : c.as_slice-defs.result.now ≡ c.args.self.now.schema.grammar.defs = c.as_slice-defs.ensures ∙ ap (λ (g : Grammar). g.defs) c.grammar.ensures in
     subst (λ (ds : List Def). ∥ AreAnswers (map definition_of ds) c.read_attribute.new.states c.read_attribute.new.memory ∥₁) is c.read_attribute.ensures.right
+
+pub invariant_of-self-in-None-clause-names : goal.invariant_of-self-in-None-clause-names
+invariant_of-self-in-None-clause-names c =
+    let m = c.args.self.now in
+    names_on (schema_language m.schema).definitions m.states c.read_attribute.new.states m.kept.entries.items c.read_attribute.ensures.later m.names

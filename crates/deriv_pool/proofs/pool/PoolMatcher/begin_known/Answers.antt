@@ -7,6 +7,7 @@ use Rattle.rng_core.specs.declared.grammar.Def.{Def}
 use Rattle.rng_core.specs.declared.grammar.Grammar.{Grammar}
 use Rattle.rng_core.specs.Meaning.{definition_of}
 use Rattle.deriv_pool.proofs.Remembering.{answers_on}
+use Rattle.deriv_pool.proofs.Kept.{names_on}
 use Rattle.deriv_pool.proofs.pool.PoolMatcher.begin_known.Goals as goal
 
 pub begun_known-requires : goal.begun_known-requires
@@ -19,3 +20,8 @@ pub invariant_of-self-clause-right : goal.invariant_of-self-clause-right
 invariant_of-self-clause-right c =
     let m = c.args.self.now in
     answers_on (schema_language m.schema).definitions m.states c.begun_known.new.states m.memory c.begun_known.ensures.later m.right
+
+pub invariant_of-self-clause-names : goal.invariant_of-self-clause-names
+invariant_of-self-clause-names c =
+    let m = c.args.self.now in
+    names_on (schema_language m.schema).definitions m.states c.begun_known.new.states m.kept.entries.items c.begun_known.ensures.later m.names

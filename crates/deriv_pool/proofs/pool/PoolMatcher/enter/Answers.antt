@@ -6,6 +6,7 @@ use Rattle.rng_live.specs.Schemas.{schema_language}
 use Rattle.deriv_states.specs.Places.{AreContents}
 use Rattle.deriv_pool.proofs.Fits.{contents_of}
 use Rattle.deriv_pool.specs.Remembering.{AreAnswers}
+use Rattle.deriv_pool.proofs.Kept.{names_on}
 use Rattle.deriv_pool.proofs.pool.PoolMatcher.enter.Goals as goal
 
 pub recalled_enter-requires-clause-right : goal.recalled_enter-requires-clause-right
@@ -28,3 +29,8 @@ pub invariant_of-self-in-None-clause-right : goal.invariant_of-self-in-None-clau
 invariant_of-self-in-None-clause-right c =
     let is : c.as_slice-defs.result.now ≡ c.args.self.now.schema.grammar.defs = c.as_slice-defs.ensures ∙ ap (λ (g : Grammar). g.defs) c.grammar.ensures in
     subst (λ (ds : List Def). ∥ AreAnswers (map definition_of ds) c.entered.new.states c.entered.new.memory ∥₁) is c.entered.ensures.right
+
+pub invariant_of-self-in-None-clause-names : goal.invariant_of-self-in-None-clause-names
+invariant_of-self-in-None-clause-names c =
+    let m = c.args.self.now in
+    names_on (schema_language m.schema).definitions m.states c.entered.new.states m.kept.entries.items c.entered.ensures.later m.names

@@ -14,7 +14,8 @@ use Rattle.rng_kept.specs.Required.{other_at, has_only, needs}
 use Rattle.rng_residual.specs.Required.{OtherName}
 use Rattle.rng_residual.proofs.Mentioned.{covers-unmentioned, covers-other_namespace}
 use Rattle.rng_residual.proofs.SoleNames.{same_name_is, same_itself, only_is_exact}
-use Rattle.deriv_pattern.specs.Mentions.{names_in, names_of}
+use Rattle.rng_kept.specs.Needed.{class_names}
+use Rattle.deriv_pattern.specs.Mentions.{names_of}
 
 -- a namespace that a class mentions, whose other names it has, has another name in it
 other_in : (x c : Class) (n : Name) (ns : List ℕ) → class_mentions_ns x ns ≡ true → (is_namespace ns && covers_others_in c ns) ≡ true → other_at x c n ≡ true
@@ -49,17 +50,17 @@ only_mentioned c n h =
       | inr e ↦ absurd (false≢true (sym (not-true _ w.1) ∙ not_alone c n w.0 e))
     ]
 
-mentioned_in : (c : Class) (n : Name) → class_mentions c n ≡ true → Contains (names_in c) n
+mentioned_in : (c : Class) (n : Name) → class_mentions c n ≡ true → Contains (class_names c) n
 mentioned_in any_name n h = absurd (false≢true h)
 mentioned_in (ns_name ns) n h = absurd (false≢true h)
 mentioned_in (the_name m) n h = subst (λ k. Contains (k ∷ []) n) (same_name_is n m h) (Contains-push [] n)
 mentioned_in (either c d) n h = elim (or_cases (class_mentions c n) (class_mentions d n) h) [
-  | inl e ↦ Contains-append_right (names_in d) (names_in c) n (mentioned_in c n e)
-  | inr e ↦ Contains-append_left (names_in d) (names_in c) n (mentioned_in d n e)
+  | inl e ↦ Contains-append_right (class_names d) (class_names c) n (mentioned_in c n e)
+  | inr e ↦ Contains-append_left (class_names d) (class_names c) n (mentioned_in d n e)
 ]
 mentioned_in (without c d) n h = elim (or_cases (class_mentions c n) (class_mentions d n) h) [
-  | inl e ↦ Contains-append_right (names_in d) (names_in c) n (mentioned_in c n e)
-  | inr e ↦ Contains-append_left (names_in d) (names_in c) n (mentioned_in d n e)
+  | inl e ↦ Contains-append_right (class_names d) (class_names c) n (mentioned_in c n e)
+  | inr e ↦ Contains-append_left (class_names d) (class_names c) n (mentioned_in d n e)
 ]
 
 pub needed_mentioned : (p : Pattern) (n : Name) → needs n p ≡ true → Contains (names_of p) n
