@@ -40,6 +40,12 @@ source_places() {
   done
 }
 
+# All files and folders of what a program is made of, each ended by a null character.
+list_sources() (
+  cd "$top" || exit 1
+  source_places | xargs -d '\n' -I{} find {} -print0
+)
+
 # One sum over all that a program is made of: the names and the bytes of its code, definitions and proofs.
 sum_of_sources() (
   cd "$top" || exit 1
