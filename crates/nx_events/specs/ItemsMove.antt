@@ -100,7 +100,7 @@ once_moves d told such (f ∷ fs) =
     (once_moves d (told || such f.kind) such fs)
     ∙ sym (map-append (placed_fault d) (cond (told && such f.kind) [] (f ∷ [])) (once (told || such f.kind) such fs))
 
-characters_move : (d : ℕ) (reading : Reading) (at : ℕ) (bytes : List ℕ) → character_faults reading (d + at) bytes
+pub characters_move : (d : ℕ) (reading : Reading) (at : ℕ) (bytes : List ℕ) → character_faults reading (d + at) bytes
     ≡ map (placed_fault d) (character_faults reading at bytes)
 unfolding character_faults
 characters_move d reading at bytes =
@@ -110,12 +110,12 @@ characters_move d reading at bytes =
     ∙ ap (once false is_bad_char) (once_moves d false is_bad_text (flat_map (piece_faults reading) (pieces reading at bytes)))
     ∙ once_moves d false is_bad_char (once false is_bad_text (flat_map (piece_faults reading) (pieces reading at bytes)))
 
-as_items_move : (d : ℕ) (fs : List Fault) → faults_as_items (map (placed_fault d) fs) ≡ map (placed_item d) (faults_as_items fs)
+pub as_items_move : (d : ℕ) (fs : List Fault) → faults_as_items (map (placed_fault d) fs) ≡ map (placed_item d) (faults_as_items fs)
 as_items_move d [] = refl
 as_items_move d (f ∷ fs) = ap (λ (ys : List Item). items.Fault (placed_fault d f) ∷ ys) (as_items_move d fs)
 
 -- attributes
-abbrev moved_attribute : ℕ → Attribute → Attribute
+abbrev pub moved_attribute : ℕ → Attribute → Attribute
 moved_attribute d it = record { name = it.name; string = it.string; span = placed_span d it.span; value = placed_span d it.value }
 
 front_moves : (d at : ℕ) (bytes : List ℕ) → front_attribute (d + at) bytes ≡ map (moved_attribute d) (front_attribute at bytes)
@@ -136,7 +136,7 @@ front_moves d at bytes = by_test (begins_attribute bytes)
         ∙ ap (λ (s : Span). make (span_of (d + at) (d + (at + n))) s)
         (span_same (d + at + q + 1) (d + at + q + 1 + v) (d + (at + q + 1)) (d + (at + q + 1 + v)) (omega arith) (omega arith))
 
-attributes_move : (n d at : ℕ) (xs : List ℕ) → attributes_from n (d + at) xs ≡ map (moved_attribute d) (attributes_from n at xs)
+pub attributes_move : (n d at : ℕ) (xs : List ℕ) → attributes_from n (d + at) xs ≡ map (moved_attribute d) (attributes_from n at xs)
 unfolding attributes_from
 attributes_move n d at [] = refl
 attributes_move (suc n) d at (x ∷ xs) =
@@ -201,7 +201,7 @@ one_more_before : (d : ℕ) (before : List Attribute) (it : Attribute)
     → map (moved_attribute d) before ++ moved_attribute d it ∷ [] ≡ map (moved_attribute d) (before ++ it ∷ [])
 one_more_before d before it = sym (map-append (moved_attribute d) before (it ∷ []))
 
-declared_faults_move : (d : ℕ) (before xs : List Attribute)
+pub declared_faults_move : (d : ℕ) (before xs : List Attribute)
     → declaration_faults (map (moved_attribute d) before) (map (moved_attribute d) xs) ≡ map (placed_fault d) (declaration_faults before xs)
 unfolding declaration_faults
 declared_faults_move d before [] = refl
@@ -213,7 +213,7 @@ declared_faults_move d before (x ∷ xs) =
     (one_more_before d before x) ∙ declared_faults_move d (before ++ x ∷ []) xs)
     ∙ sym (map-append (placed_fault d) (faults_at before x) (declaration_faults (before ++ x ∷ []) xs))
 
-declared_pairs_stay : (d : ℕ) (before xs : List Attribute)
+pub declared_pairs_stay : (d : ℕ) (before xs : List Attribute)
     → bindings (map (moved_attribute d) before) (map (moved_attribute d) xs) ≡ bindings before xs
 unfolding bindings
 declared_pairs_stay d before [] = refl
@@ -228,7 +228,7 @@ own_bindings_stay : (d : ℕ) (token : Token) → own_bindings (placed_token d t
 own_bindings_stay d token = ap (bindings []) (tag_moves d token.from token.bytes) ∙ declared_pairs_stay d []
     (tag_attributes token.from token.bytes)
 
-attribute_items_move : (d : ℕ) (scope : List Binding) (kept : List Name) (xs : List Attribute)
+pub attribute_items_move : (d : ℕ) (scope : List Binding) (kept : List Name) (xs : List Attribute)
     → attribute_items scope kept (map (moved_attribute d) xs) ≡ map (placed_item d) (attribute_items scope kept xs)
 unfolding attribute_items resolved_if_attribute
 attribute_items_move d scope kept [] = refl
@@ -247,7 +247,7 @@ element_moves : (d : ℕ) (span : Span) (r : Resolved) → element_items (placed
 element_moves d span (Named name) = refl
 element_moves d span (Flawed flaw) = refl
 
-run_moves : (d at : ℕ) (run : Option Run) → run_back run ≤ at → run_items (d + at) run ≡ map (placed_item d) (run_items at run)
+pub run_moves : (d at : ℕ) (run : Option Run) → run_back run ≤ at → run_items (d + at) run ≡ map (placed_item d) (run_items at run)
 unfolding run_items
 run_moves d at None h = refl
 run_moves d at (Some run) h = by_test (length run.string == 0)

@@ -17,6 +17,7 @@ pub mod Elements
 pub mod Runs
 pub mod Items
 pub mod Among
+pub mod InForce
 pub mod BareRules
 -- the same in the standards' grammars
 pub mod Words

@@ -107,7 +107,7 @@ pub(crate) fn is_plain_name(name: &[u8]) -> bool
 }
 
 /// Whether the name is one without a colon.
-fn is_ncname(name: &[u8]) -> bool
+pub fn is_ncname(name: &[u8]) -> bool
     ensures { result ≡ is_ncname name.now }
 {
     if is_plain_name(name) {
@@ -138,16 +138,16 @@ pub(crate) fn prefix_of(name: &[u8]) -> &[u8]
 
 /// A qualified name, parted at its first colon.
 #[derive(Clone, Copy)]
-pub(crate) struct QName<'a> {
+pub struct QName<'a> {
     /// What stands before the colon, and nothing where there is none.
-    pub(crate) prefix: &'a [u8],
+    pub prefix: &'a [u8],
     /// What stands behind the colon, or all where there is none.
-    pub(crate) local: &'a [u8],
+    pub local: &'a [u8],
 }
 
 /// The name in its parts, where it has the form of a qualified name.
 #[tactic(auto, unfolding(crate::specs::Names::is_qname, crate::specs::Names::prefix_of, crate::specs::Names::local_of))]
-pub(crate) fn parted(name: &[u8]) -> Option<QName<'_>>
+pub fn parted(name: &[u8]) -> Option<QName<'_>>
     ensures { MatchOption result (is_qname name.now ≡ false) (λ parts. (is_qname name.now ≡ true)
         × (parts.prefix.now ≡ prefix_of name.now) × (parts.local.now ≡ local_of name.now)) }
 {

@@ -75,6 +75,14 @@ impl Printer {
         self.text(name.local.as_slice());
     }
 
+    /// Names, each with a semicolon behind it.
+    pub(crate) fn names(&mut self, names: &[Name]) {
+        for name in names {
+            self.name(name);
+            self.word(";");
+        }
+    }
+
     fn attribute(&mut self, name: &Name, value: &[u8]) {
         self.word("Att ");
         self.name(name);

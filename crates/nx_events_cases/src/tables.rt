@@ -312,3 +312,27 @@ pub(crate) const PREFIXES: [(&str, &str, &str); 69] = [
         "value {}abcdefghijklmnopq 0-3 Enter {}a;",
     ),
 ];
+
+/// The namespace declarations in force behind texts: of each the URI in braces, and the prefix.
+pub(crate) const SCOPES: [(&str, &str); 14] = [
+    ("", ""),
+    ("s<a>", ""),
+    ("s<a xmlns='u' x='1' xmlns:p='v'>", "{u};{v}p;"),
+    ("s<a xmlns:p='v' xmlns='u'>|tx", "{v}p;{u};"),
+    (
+        "s<p:a xmlns:p='v'>|s<b xmlns:p='w' xmlns=''>",
+        "{v}p;{w}p;{};",
+    ),
+    ("s<a xmlns:p='v'>|s<b xmlns:q='w'>|e</b>", "{v}p;"),
+    ("s<a xmlns:p='v'>|s<b xmlns:q='w'>|s<c>|e</b>", "{v}p;"),
+    ("s<a xmlns:p='v'>|m<b xmlns:q='w'/>", "{v}p;"),
+    ("s<a xmlns:p='&#118;&lt;'>", "{v<}p;"),
+    (
+        "s<a xmlns:xml='http://www.w3.org/XML/1998/namespace' xmlns:p='v'>",
+        "{v}p;",
+    ),
+    ("s<a xmlns:xmm='u'>|s<b xmlns:x='v'>", "{u}xmm;{v}x;"),
+    ("m<a xmlns='u'/>", ""),
+    ("s<a xmlns:p='v'>|e</a>", ""),
+    ("s<a xmlns:p='v'>|e</a>|s<b xmlns:q='w'>", "{w}q;"),
+];

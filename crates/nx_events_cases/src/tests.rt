@@ -1,6 +1,6 @@
 use crate::printer::Printer;
 use crate::reader::{items_of, prefix_behind, state_behind};
-use crate::tables::{EVENTS, FAULTS, OTHER, PREFIXES, SAME, STATES};
+use crate::tables::{EVENTS, FAULTS, OTHER, PREFIXES, SAME, SCOPES, STATES};
 use nx_base::fault::Faults;
 use nx_base::machine::Machine;
 use nx_base::sequence::{Bytes, TryCopy};
@@ -8,6 +8,7 @@ use nx_base::token::{Token, TokenKind};
 use nx_events::bare::Bare;
 use nx_events::equal::same;
 use nx_events::fold::items_of_tokens;
+use nx_events::in_force::scope;
 use nx_events::prefix::run_of;
 use nx_events::reader::{copy, depth, pending};
 use std::alloc::Global;
@@ -40,11 +41,19 @@ fn state_told(alloc: Global, parts: &str) -> Result<String, Fail> {
     printer.finish()
 }
 
-/// What is told of a text: its faults, its items, or the state behind its tokens.
+fn scope_told(alloc: Global, parts: &str) -> Result<String, Fail> {
+    let mut printer = Printer::new(alloc);
+    let state = state_behind(alloc, parts)?;
+    printer.names(scope(alloc, &state)?.as_slice());
+    printer.finish()
+}
+
+/// What is told of a text: its faults, its items, or the declarations in force or the state behind its tokens.
 fn told(alloc: Global, what: &str, parts: &str) -> Result<String, Fail> {
     match what {
         "faults" => faults_told(alloc, parts),
         "items" => items_told(alloc, parts),
+        "scopes" => scope_told(alloc, parts),
         _ => state_told(alloc, parts),
     }
 }
@@ -94,6 +103,13 @@ fn events(rt: HostRuntime) -> Result<(), Fail> {
 #[test]
 fn states(rt: HostRuntime) -> Result<(), Fail> {
     let wrong = differences(rt.alloc(), "states", &STATES)?;
+    assert_eq!(rt; wrong.as_str(), "");
+    Ok(())
+}
+
+#[test]
+fn scopes(rt: HostRuntime) -> Result<(), Fail> {
+    let wrong = differences(rt.alloc(), "scopes", &SCOPES)?;
     assert_eq!(rt; wrong.as_str(), "");
     Ok(())
 }

@@ -1,18 +1,18 @@
--- The tags of a Name without attributes are tokens, whatever follows them.
-use Rattle.std.proofs.Common.{◌≡◌, ℕ, suc, ◌+◌, ◌<◌, Bool, true, false, inl, inr, List, [], ◌∷◌, ◌++◌, length, drop, refl, sym, ◌∙◌, ap, subst, arith, length-append, append_assoc, codes}
+-- A tag is told by what follows its Name; and the tags of a Name without attributes are tokens, whatever follows them.
+use Rattle.std.proofs.Common.{◌≡◌, ℕ, ◌+◌, ◌<◌, Bool, true, false, inl, inr, List, [], ◌∷◌, ◌++◌, length, drop, refl, sym, ◌∙◌, ap, subst, arith, length-append, append_assoc, codes}
 use Rattle.std.specs.Prelude.{◌==◌, ◌&&◌}
 use Rattle.std.specs.List.{AllByRecursion}
 use Rattle.std.specs.Str.{IsUtf8, chars}
 use lib.Utf8.{encode, encodes, scalar, scalars}
 use Rattle.std.proofs.lemmas.Bool.{cases_Bool, and_parts, and_from, true≢false}
-use Rattle.std.proofs.lemmas.Str.{encode_ascii, encodes-chars, scalars-chars, chars_past_char, encode_same, IsUtf8-append, IsUtf8-nil}
+use Rattle.std.proofs.lemmas.Str.{encode_ascii, encodes-chars, scalars-chars, chars_past_char, encode_same, IsUtf8-append}
 use Rattle.nx_base.specs.Characters.{is_name_start, is_name_char}
-use Rattle.nx_base.specs.Tokens.{Cut, cut_as, begins_with, markup, order_mark, first_token, tag, tags}
+use Rattle.nx_base.specs.Tokens.{Cut, cut_as, begins_with, order_mark, first_token, tag}
 use Rattle.nx_base.specs.declared.token.TokenKind.{TokenKind}
 use Rattle.nx_base.specs.declared.token.TokenKind.TheVariants as kinds
 use Rattle.nx_base.specs.Form.{Spells, one, name_char, joined}
 use Rattle.nx_base.specs.Tags.{name_form}
-use Rattle.nx_scan.specs.Tag.{left_of, left_after, later}
+use Rattle.nx_scan.specs.Tag.{left_of, later}
 use Rattle.nx_scan.specs.declared.tag.TagState.{TagState}
 use Rattle.nx_scan.specs.declared.tag.TagState.TheVariants as seen
 use Rattle.nx_scan.proofs.Reading.{Reads, open-start, open-slash, name-name, name-other, value-close, end-start, end-name, end-other, end-close}
@@ -71,22 +71,34 @@ step_ascii read behind b more o reads possible low utf8 =
     ∙ step read behind b more o reads possible (subst (λ xs. IsUtf8 (xs ++ more)) (sym one) utf8)
     ∙ ap (λ xs. later (length xs) (tag (left_of behind) more)) one
 
--- the rest of a name, and `>`
-named : (read whole : TagState) (kind : TokenKind) → IsOpen read → ((c : ℕ) → is_name_char c ≡ true → Reads read c read) → Reads read 62 whole → IsWhole whole kind →
-    (cs : List ℕ) (more : List ℕ) → scalars cs ≡ true → AreNameChars cs → IsUtf8 more →
-    tag (left_of read) (encodes cs ++ 62 ∷ more) ≡ cut_as kind (length (encodes cs) + 1)
-named read whole kind o stays closes is_whole [] more u all utf8 =
-    step_ascii read whole 62 more o closes is_whole.possible (omega arith) (IsUtf8-append (62 ∷ []) more (one_utf8 62 (omega arith) refl) utf8)
-    ∙ ap (later 1) (is_whole.cut more) ∙ ap (cut_as kind) (let e : 1 + 0 ≡ 0 + 1 = omega arith in e)
-named read whole kind o stays closes is_whole (c ∷ cs) more u all utf8 =
+-- `>` behind a name
+closes : (read whole : TagState) (kind : TokenKind) → IsOpen read → Reads read 62 whole → IsWhole whole kind → (more : List ℕ) → IsUtf8 more →
+    tag (left_of read) (62 ∷ more) ≡ cut_as kind 1
+closes read whole kind o reads is_whole more utf8 =
+    step_ascii read whole 62 more o reads is_whole.possible (omega arith) (IsUtf8-append (62 ∷ []) more (one_utf8 62 (omega arith) refl) utf8)
+    ∙ ap (later 1) (is_whole.cut more)
+
+not_later : (c : Cut) → c ≡ later 0 c
+not_later c = ap (cut_as c.kind) (let e : c.len ≡ 0 + c.len = omega arith in e)
+
+later_twice : (j k n : ℕ) (c : Cut) → j + k ≡ n → later j (later k c) ≡ later n c
+later_twice j k n c e = ap (cut_as c.kind) (let sum : j + (k + c.len) ≡ n + c.len = omega (arith, e) in sum)
+
+begun_utf8 : (c : ℕ) (more : List ℕ) → scalar c ≡ true → IsUtf8 more → IsUtf8 (encode c ++ more)
+begun_utf8 c more ok utf8 = (c ∷ utf8.0, (and_from (scalar c) (scalars utf8.0) ok utf8.1.0, ap (λ xs. encode c ++ xs) utf8.1.1))
+
+-- the rest of a name is passed
+passed : (read : TagState) → IsOpen read → ((c : ℕ) → is_name_char c ≡ true → Reads read c read) → (cs more : List ℕ) → scalars cs ≡ true →
+    AreNameChars cs → IsUtf8 more → tag (left_of read) (encodes cs ++ more) ≡ later (length (encodes cs)) (tag (left_of read) more)
+passed read o stays [] more u all utf8 = not_later (tag (left_of read) more)
+passed read o stays (c ∷ cs) more u all utf8 =
     let parts = and_parts (scalar c) (scalars cs) u in
-    let rest_utf8 : IsUtf8 (encodes cs ++ 62 ∷ more) = IsUtf8-append (encodes cs) (62 ∷ more) (cs, (parts.1, refl)) (IsUtf8-append (62 ∷ []) more (one_utf8 62 (omega arith) refl) utf8) in
-    let first_utf8 : IsUtf8 (encode c ++ (encodes cs ++ 62 ∷ more)) =
-    (c ∷ rest_utf8.0, (and_from (scalar c) (scalars rest_utf8.0) parts.0 rest_utf8.1.0, ap (λ xs. encode c ++ xs) rest_utf8.1.1)) in
-    ap (tag (left_of read)) (append_assoc (encode c) (encodes cs) (62 ∷ more))
-    ∙ step read read c (encodes cs ++ 62 ∷ more) o (stays c all.0) o.possible first_utf8
-    ∙ ap (later (length (encode c))) (named read whole kind o stays closes is_whole cs more parts.1 all.1 utf8)
-    ∙ ap (cut_as kind) (let k = length-append (encode c) (encodes cs) in omega arith)
+    let rest_utf8 : IsUtf8 (encodes cs ++ more) = IsUtf8-append (encodes cs) more (cs, (parts.1, refl)) utf8 in
+    ap (tag (left_of read)) (append_assoc (encode c) (encodes cs) more)
+    ∙ step read read c (encodes cs ++ more) o (stays c all.0) o.possible (begun_utf8 c (encodes cs ++ more) parts.0 rest_utf8)
+    ∙ ap (later (length (encode c))) (passed read o stays cs more parts.1 all.1 utf8)
+    ∙ later_twice (length (encode c)) (length (encodes cs)) (length (encode c ++ encodes cs)) (tag (left_of read) more)
+    (sym (length-append (encode c) (encodes cs)))
 
 -- a name's first character, and its others
 record NameParts (name : List ℕ) : Type 0 where
@@ -122,21 +134,19 @@ parts_of name utf8 spelled =
       spelled = sym (encodes-chars name utf8) ∙ ap encodes t.4;
     }
 
--- a whole name in front of `>`
-whole_name : (before read whole : TagState) (kind : TokenKind) → IsOpen before → IsOpen read → ((c : ℕ) → is_name_start c ≡ true → Reads before c read) →
-    ((c : ℕ) → is_name_char c ≡ true → Reads read c read) → Reads read 62 whole → IsWhole whole kind →
-    (name more : List ℕ) → NameParts name → IsUtf8 more → tag (left_of before) (name ++ 62 ∷ more) ≡ cut_as kind (length name + 1)
-whole_name before read whole kind b o starts stays closes is_whole name more n utf8 =
-    let rest_utf8 : IsUtf8 (encodes n.others ++ 62 ∷ more) =
-    IsUtf8-append (encodes n.others) (62 ∷ more) (n.others, (n.scalars, refl)) (IsUtf8-append (62 ∷ []) more (one_utf8 62 (omega arith) refl) utf8) in
-    let first_utf8 : IsUtf8 (encode n.first ++ (encodes n.others ++ 62 ∷ more)) =
-    (n.first ∷ rest_utf8.0, (and_from (scalar n.first) (scalars rest_utf8.0) n.first_scalar rest_utf8.1.0, ap (λ xs. encode n.first ++ xs) rest_utf8.1.1)) in
+-- and so is a whole name
+whole_name : (before read : TagState) → IsOpen before → IsOpen read → ((c : ℕ) → is_name_start c ≡ true → Reads before c read) →
+    ((c : ℕ) → is_name_char c ≡ true → Reads read c read) → (name more : List ℕ) → NameParts name → IsUtf8 more →
+    tag (left_of before) (name ++ more) ≡ later (length name) (tag (left_of read) more)
+whole_name before read b o starts stays name more n utf8 =
+    let rest_utf8 : IsUtf8 (encodes n.others ++ more) = IsUtf8-append (encodes n.others) more (n.others, (n.scalars, refl)) utf8 in
     let len : length name ≡ length (encode n.first) + length (encodes n.others) = ap length n.spelled ∙ length-append (encode n.first) (encodes n.others) in
-    ap (λ xs. tag (left_of before) (xs ++ 62 ∷ more)) n.spelled
-    ∙ ap (tag (left_of before)) (append_assoc (encode n.first) (encodes n.others) (62 ∷ more))
-    ∙ step before read n.first (encodes n.others ++ 62 ∷ more) b (starts n.first n.starts) o.possible first_utf8
-    ∙ ap (later (length (encode n.first))) (named read whole kind o stays closes is_whole n.others more n.scalars n.goes_on utf8)
-    ∙ ap (cut_as kind) (omega arith)
+    ap (λ xs. tag (left_of before) (xs ++ more)) n.spelled
+    ∙ ap (tag (left_of before)) (append_assoc (encode n.first) (encodes n.others) more)
+    ∙ step before read n.first (encodes n.others ++ more) b (starts n.first n.starts) o.possible
+    (begun_utf8 n.first (encodes n.others ++ more) n.first_scalar rest_utf8)
+    ∙ ap (later (length (encode n.first))) (passed read o stays n.others more n.scalars n.goes_on utf8)
+    ∙ later_twice (length (encode n.first)) (length (encodes n.others)) (length name) (tag (left_of read) more) (sym len)
 
 -- no comment, CDATA section, document type or instruction begins with a name
 not_byte : (b c : ℕ) (more : List ℕ) → b < 128 → is_name_start c ≡ true → is_name_start b ≡ false → begins_with (b ∷ []) (encode c ++ more) ≡ false
@@ -178,35 +188,64 @@ is_tag s xs utf8 a b =
     marked : (tail : List ℕ) → begins_with (60 ∷ 33 ∷ tail) (60 ∷ xs) ≡ false
     marked tail = behind-less (33 ∷ tail) (60 ∷ xs) (less_here xs) ∙ begins_with-split 33 tail xs ∙ ap (λ t. t && begins_with tail (drop 1 xs)) a
 
--- the bytes of a tag are UTF-8
-less_utf8 : (xs : List ℕ) → IsUtf8 xs → IsUtf8 (60 ∷ xs)
-less_utf8 xs utf8 = IsUtf8-append (60 ∷ []) xs (one_utf8 60 (omega arith) refl) utf8
-
-closed_utf8 : (name more : List ℕ) → IsUtf8 name → IsUtf8 more → IsUtf8 (name ++ 62 ∷ more)
-closed_utf8 name more name_utf8 utf8 = IsUtf8-append name (62 ∷ more) name_utf8 (IsUtf8-append (62 ∷ []) more (one_utf8 62 (omega arith) refl) utf8)
-
 slash_no : (b : ℕ) (xs : List ℕ) → (47 == b) ≡ false → begins_with (b ∷ []) (47 ∷ xs) ≡ false
 unfolding begins_with
 slash_no b xs h = rw h refl
 
+-- what is read behind the name of a start tag or an empty-element tag, and behind that of an end tag
+pub behind_name : List ℕ → Cut
+behind_name more = tag (left_of seen.Name) more
+
+pub behind_end_name : List ℕ → Cut
+behind_end_name more = tag (left_of seen.EndName) more
+
 module _ (s : Bool) (name more : List ℕ) (name_utf8 : IsUtf8 name) (spelled_name : Spells name_form (chars name)) (utf8 : IsUtf8 more) where
-  pub start_is_token : first_token s (60 ∷ (name ++ 62 ∷ more)) ≡ cut_as kinds.Start (length name + 2)
-  start_is_token =
+  named_utf8 : IsUtf8 (name ++ more)
+  named_utf8 = IsUtf8-append name more name_utf8 utf8
+
+  slashed_utf8 : IsUtf8 (47 ∷ (name ++ more))
+  slashed_utf8 = IsUtf8-append (47 ∷ []) (name ++ more) (one_utf8 47 (omega arith) refl) named_utf8
+
+  -- a tag is told by what follows its name
+  pub start_goes_on : first_token s (60 ∷ (name ++ more)) ≡ later (1 + length name) (behind_name more)
+  unfolding behind_name
+  start_goes_on =
       let n = parts_of name name_utf8 spelled_name in
-      let spelled : name ++ 62 ∷ more ≡ encode n.first ++ (encodes n.others ++ 62 ∷ more) =
-      ap (λ xs. xs ++ 62 ∷ more) n.spelled ∙ append_assoc (encode n.first) (encodes n.others) (62 ∷ more) in
-      is_tag s (name ++ 62 ∷ more) (less_utf8 (name ++ 62 ∷ more) (closed_utf8 name more name_utf8 utf8))
-      (ap (begins_with (33 ∷ [])) spelled ∙ not_byte 33 n.first (encodes n.others ++ 62 ∷ more) (omega arith) n.starts no_33)
-      (ap (begins_with (63 ∷ [])) spelled ∙ not_byte 63 n.first (encodes n.others ++ 62 ∷ more) (omega arith) n.starts no_63)
-      ∙ ap (later 1) (whole_name seen.Open seen.Name seen.Start kinds.Start open_open name_open open-start name-name name_closes start-whole name more n utf8)
-      ∙ ap (cut_as kinds.Start) (let e : 1 + (length name + 1) ≡ length name + 2 = omega arith in e)
+      let spelled : name ++ more ≡ encode n.first ++ (encodes n.others ++ more) =
+      ap (λ xs. xs ++ more) n.spelled ∙ append_assoc (encode n.first) (encodes n.others) more in
+      is_tag s (name ++ more) (IsUtf8-append (60 ∷ []) (name ++ more) (one_utf8 60 (omega arith) refl) named_utf8)
+      (ap (begins_with (33 ∷ [])) spelled ∙ not_byte 33 n.first (encodes n.others ++ more) (omega arith) n.starts no_33)
+      (ap (begins_with (63 ∷ [])) spelled ∙ not_byte 63 n.first (encodes n.others ++ more) (omega arith) n.starts no_63)
+      ∙ ap (later 1) (whole_name seen.Open seen.Name open_open name_open open-start name-name name more n utf8)
+      ∙ later_twice 1 (length name) (1 + length name) (tag (left_of seen.Name) more) refl
+
+  pub end_goes_on : first_token s (60 ∷ 47 ∷ (name ++ more)) ≡ later (2 + length name) (behind_end_name more)
+  unfolding behind_end_name
+  end_goes_on =
+      is_tag s (47 ∷ (name ++ more)) (IsUtf8-append (60 ∷ []) (47 ∷ (name ++ more)) (one_utf8 60 (omega arith) refl) slashed_utf8)
+      (slash_no 33 (name ++ more) refl) (slash_no 63 (name ++ more) refl)
+      ∙ ap (later 1)
+      (step_ascii seen.Open seen.EndOpen 47 (name ++ more) open_open (open-slash 47 refl) end_open.possible (omega arith) slashed_utf8
+      ∙ ap (later 1)
+      (whole_name seen.EndOpen seen.EndName end_open end_name_open end-start end-name name more (parts_of name name_utf8 spelled_name) utf8))
+      ∙ ap (later 1) (later_twice 1 (length name) (1 + length name) (tag (left_of seen.EndName) more) refl)
+      ∙ later_twice 1 (1 + length name) (2 + length name) (tag (left_of seen.EndName) more) (omega arith)
+
+-- the tags of a name alone are tokens, whatever follows them
+module _ (s : Bool) (name more : List ℕ) (name_utf8 : IsUtf8 name) (spelled_name : Spells name_form (chars name)) (utf8 : IsUtf8 more) where
+  closed_utf8 : IsUtf8 (62 ∷ more)
+  closed_utf8 = IsUtf8-append (62 ∷ []) more (one_utf8 62 (omega arith) refl) utf8
+
+  pub start_is_token : first_token s (60 ∷ (name ++ 62 ∷ more)) ≡ cut_as kinds.Start (length name + 2)
+  unfolding behind_name
+  start_is_token =
+      start_goes_on s name (62 ∷ more) name_utf8 spelled_name closed_utf8
+      ∙ ap (later (1 + length name)) (closes seen.Name seen.Start kinds.Start name_open name_closes start-whole more utf8)
+      ∙ ap (cut_as kinds.Start) (let e : 1 + length name + 1 ≡ length name + 2 = omega arith in e)
 
   pub end_is_token : first_token s (60 ∷ 47 ∷ (name ++ 62 ∷ more)) ≡ cut_as kinds.End (length name + 3)
+  unfolding behind_end_name
   end_is_token =
-      let n = parts_of name name_utf8 spelled_name in
-      let rest_utf8 : IsUtf8 (47 ∷ (name ++ 62 ∷ more)) = IsUtf8-append (47 ∷ []) (name ++ 62 ∷ more) (one_utf8 47 (omega arith) refl) (closed_utf8 name more name_utf8 utf8) in
-      is_tag s (47 ∷ (name ++ 62 ∷ more)) (less_utf8 (47 ∷ (name ++ 62 ∷ more)) rest_utf8) (slash_no 33 (name ++ 62 ∷ more) refl) (slash_no 63 (name ++ 62 ∷ more) refl)
-      ∙ ap (later 1)
-      (step_ascii seen.Open seen.EndOpen 47 (name ++ 62 ∷ more) open_open (open-slash 47 refl) end_open.possible (omega arith) rest_utf8
-      ∙ ap (later 1) (whole_name seen.EndOpen seen.EndName seen.End kinds.End end_open end_name_open end-start end-name end_closes end-whole name more n utf8))
-      ∙ ap (cut_as kinds.End) (let e : 1 + (1 + (length name + 1)) ≡ length name + 3 = omega arith in e)
+      end_goes_on s name (62 ∷ more) name_utf8 spelled_name closed_utf8
+      ∙ ap (later (2 + length name)) (closes seen.EndName seen.End kinds.End end_name_open end_closes end-whole more utf8)
+      ∙ ap (cut_as kinds.End) (let e : 2 + length name + 1 ≡ length name + 3 = omega arith in e)

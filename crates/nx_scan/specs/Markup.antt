@@ -8,7 +8,7 @@ use Rattle.nx_base.specs.Tokens.{begins_with, cut_as, first_token, cut, end_of}
 use Rattle.nx_base.specs.declared.token.TokenKind.{TokenKind}
 use Rattle.nx_base.specs.declared.token.TokenKind.TheVariants as kinds
 
--- it has an end of its own, or is character data, which any markup ends
+-- it is a construct of XML, so that a `<` behind it leaves it: neither what is no construct (Bad), nor one that has no end
 abbrev pub IsEnded : TokenKind → Type 0
 IsEnded kinds.Bad = ⊥
 IsEnded kinds.Unclosed = ⊥
