@@ -29,6 +29,7 @@ use nx_base::memory::NoMemory;
 use nx_base::name::{Name, Names};
 use nx_base::sequence::Bytes;
 use rng_live::matcher::Matcher;
+use rng_live::shared_names::SharedNames;
 use std::alloc::Global;
 
 /// What comes of a name.
@@ -127,6 +128,15 @@ fn tell_names(told: &mut String, names: &[Name]) -> bool {
         }
     }
     !names.is_empty() || told.push_str("nothing").is_ok()
+}
+
+/// A list of names that are needed, with a blank between two.
+fn needed_told(alloc: Global, names: Result<SharedNames, NoMemory>) -> Result<String, NoMemory> {
+    let mut told = String::new(alloc);
+    match names {
+        Ok(names) if tell_names(&mut told, names.as_slice()) => Ok(told),
+        _ => Err(NoMemory),
+    }
 }
 
 /// A list of names, with a blank between two.
@@ -246,7 +256,7 @@ fn needed_up_to<M: Matcher>(
     matcher: &mut M,
     state: &M::State,
     name: Result<Name, NoMemory>,
-) -> Result<Names, NoMemory>
+) -> Result<SharedNames, NoMemory>
     requires { M.is_state matcher.old state.now }
 {
     match name {
@@ -265,7 +275,7 @@ fn needed_names<M: Matcher>(
     matcher: &mut M,
     state: &M::State,
     name: &str,
-) -> Result<Names, NoMemory>
+) -> Result<SharedNames, NoMemory>
     requires { M.is_state matcher.old state.now }
 {
     if name.is_empty() {
@@ -287,7 +297,7 @@ pub(crate) fn answer<M: Matcher>(
             return names_told(alloc, matcher.required(alloc, &state));
         }
         if let Some(name) = skip_of(event) {
-            return names_told(alloc, needed_names(alloc, matcher, &state, name));
+            return needed_told(alloc, needed_names(alloc, matcher, &state, name));
         }
         let Some(by) = move_at(number, event) else {
             return word_told(alloc, "no event");

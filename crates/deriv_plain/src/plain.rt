@@ -36,6 +36,7 @@ use rng_core::building::choice_of;
 use rng_core::grammar::{Def, Pat};
 use rng_live::matcher::Matcher;
 use rng_live::schema::Schema;
+use rng_live::shared_names::SharedNames;
 use std::alloc::Global;
 
 /// A matcher that follows events by derivatives of patterns.
@@ -281,7 +282,12 @@ impl Matcher for Plain {
         required_names(alloc, s.as_slice())
     }
 
-    fn needed(&mut self, alloc: Global, s: &Ways, name: Option<&Name>) -> Result<Names, NoMemory> {
+    fn needed(
+        &mut self,
+        alloc: Global,
+        s: &Ways,
+        name: Option<&Name>,
+    ) -> Result<SharedNames, NoMemory> {
         needed_names(
             alloc,
             self.schema.grammar().defs.as_slice(),

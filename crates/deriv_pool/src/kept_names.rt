@@ -6,8 +6,9 @@ ghost use Rattle.deriv_pool.specs.Kept.{AreKept, IsKept};
 
 use deriv_pattern::needed::same_name;
 use nx_base::memory::NoMemory;
-use nx_base::name::{Name, Names};
+use nx_base::name::Name;
 use nx_base::sequence::TryCopy;
+use rng_live::shared_names::SharedNames;
 use std::alloc::Global;
 
 /// Behind how many names no more nodes are kept: one or two megabytes of them.
@@ -16,12 +17,12 @@ const MOST: usize = 16_384;
 /// How many bits tell the kind of a question.
 const KIND_BITS: u32 = 12;
 
-/// What is needed at a node up to an element of a name, or, without one, up to the end; none where nothing can be skipped so.
+/// What is needed at a node up to an element of a name, or, without one, up to the end, in order; none where nothing can be skipped so.
 #[derive(Drop)]
 pub struct NeededThere {
     node: usize,
     skip: Option<Name>,
-    names: Option<Names>,
+    names: Option<SharedNames>,
 }
 
 /// Answers of this form, up to some `MOST` names, and a place for each kind of questions. Where one stands is a guess: whoever takes it
@@ -43,8 +44,8 @@ fn own_name(skip: Option<&Name>) -> Result<Option<Name>, NoMemory>
     }
 }
 
-/// A list of names, or none, for oneself.
-pub(crate) fn own_names(names: &Option<Names>) -> Result<Option<Names>, NoMemory>
+/// The same list of names, or none.
+pub(crate) fn own_names(names: &Option<SharedNames>) -> Result<Option<SharedNames>, NoMemory>
     ensures { IfOk result (λ copied. copied ≡ names.now) }
 {
     match names {
@@ -115,7 +116,7 @@ impl KeptNames {
     }
 
     /// What is needed at a node, if it is kept.
-    pub(crate) fn of(&self, p: usize, skip: Option<&Name>) -> Option<&Option<Names>>
+    pub(crate) fn of(&self, p: usize, skip: Option<&Name>) -> Option<&Option<SharedNames>>
         ensures { (g : List Definition) → (nodes : List Pattern) → AreKept g nodes self.now.entries.items
             → IfSome result (λ names. IsKept g nodes p (option_copied skip.entry) names.now) }
     {
@@ -152,18 +153,23 @@ impl KeptNames {
     }
 
     /// Counts the names of an answer that is to be kept.
-    fn count(&mut self, names: &Option<Names>)
+    fn count(&mut self, names: &Option<SharedNames>)
         ensures { self.new.entries ≡ self.old.entries }
     {
         let more = match names {
-            Some(names) => names.len(),
+            Some(names) => names.as_slice().len(),
             None => 0,
         };
         self.names = self.names.saturating_add(more).saturating_add(1);
     }
 
     /// Puts what is needed at a node behind the others.
-    fn put(&mut self, p: usize, skip: Option<Name>, names: Option<Names>) -> Result<(), NoMemory>
+    fn put(
+        &mut self,
+        p: usize,
+        skip: Option<Name>,
+        names: Option<SharedNames>,
+    ) -> Result<(), NoMemory>
         ensures { (g : List Definition) → (nodes : List Pattern) → AreKept g nodes self.old.entries.items
             → IsKept g nodes p skip names → AreKept g nodes self.new.entries.items }
     {
@@ -181,7 +187,7 @@ impl KeptNames {
         &mut self,
         p: usize,
         skip: Option<&Name>,
-        names: &Option<Names>,
+        names: &Option<SharedNames>,
     ) -> Result<(), NoMemory>
         ensures { (g : List Definition) → (nodes : List Pattern) → AreKept g nodes self.old.entries.items
             → IsKept g nodes p (option_copied skip.entry) names.now → AreKept g nodes self.new.entries.items }

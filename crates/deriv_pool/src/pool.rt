@@ -25,6 +25,7 @@ use nx_base::memory::NoMemory;
 use nx_base::name::{Name, Names};
 use rng_live::matcher::Matcher;
 use rng_live::schema::Schema;
+use rng_live::shared_names::SharedNames;
 use std::alloc::Global;
 
 /// A matcher whose states are numbers.
@@ -187,7 +188,7 @@ impl Matcher for Pool {
         alloc: Global,
         s: &PoolState,
         name: Option<&Name>,
-    ) -> Result<Names, NoMemory> {
+    ) -> Result<SharedNames, NoMemory> {
         let defs = self.schema.grammar().defs.as_slice();
         needed_names(alloc, &self.states, &mut self.kept, defs, name, s.number)
     }

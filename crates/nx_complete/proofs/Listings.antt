@@ -19,7 +19,7 @@ use Rattle.rng_restrict.specs.Standing as standing
 use Rattle.rng_kept.specs.Mentioned.{class_mentions, class_mentions_ns, IsAttributesOf, itself, of_one_or_more, of_first_choice, of_second_choice, of_first_of_group, of_second_of_group, of_first_of_interleave, of_second_of_interleave, IsClassOf, of_elements, of_attributes}
 use Rattle.rng_live.specs.Listed.{Mentions, MentionsNamespace, HasLiteral, AreMentioned, AreNamespaces, AreLiterals}
 use Rattle.rng_residual.proofs.SoleNames.{same_itself, same_name_is}
-use Rattle.nx_recover.proofs.RequiredNames.{names_total}
+use Rattle.rng_live.proofs.OrderedNames.{names_total}
 use Rattle.nx_complete.specs.Asking.{named}
 use Rattle.nx_complete.proofs.Elements.{In, at_head, in_tail, to_in, from_in, in_front, in_back, in_either, in_map, map_in}
 use Rattle.nx_complete.proofs.Order.{in_order, from_order, to_order, sorted_order, names_exact}

@@ -29,7 +29,7 @@ use Rattle.nx_recover.specs.Frames.{Frame}
 use Rattle.nx_recover.specs.Offered.{offer_kind, offer_key, offer_order, AreOffers, ElementOffered, EndOffered, AttributeOffered, ValueOffered, attributes_among}
 use Rattle.nx_recover.specs.Offers.{UpTo, state_before, items_before, bytes_before, Answers, AnswersBehind, AnswersInTag, inside, OffersIn, at_start, without_schema, by_prefix}
 use Rattle.nx_recover.specs.declared.levels.Open.{Open}
-use Rattle.nx_recover.proofs.RequiredNames.{names_total}
+use Rattle.rng_live.proofs.OrderedNames.{names_total}
 use Rattle.nx_recovery.proofs.Levels.{one_behind}
 use Rattle.nx_base.specs.Text.{IsPlace}
 use Rattle.nx_complete.specs.Uniqueness.{OffersAreOne}

@@ -1,13 +1,12 @@
 -- The attributes that a residual requires, as a list.
-use Rattle.std.specs.Prelude.{◌&&◌, List, [], ◌∷◌, ◌++◌}
+use Rattle.std.specs.Prelude.{◌&&◌, List, [], ◌++◌}
 use Rattle.std.specs.List.{filter, flat_map}
-use Rattle.std.specs.BTreeSet.{insert_key}
 use Rattle.nx_base.specs.declared.name.Name.{Name}
 use Rattle.rng_core.specs.Patterns.{Pattern, attribute, one_or_more, choice, group, interleave}
 use Rattle.rng_kept.specs.Needed.{class_names}
 use Rattle.rng_kept.specs.Required.{is_required}
 use Rattle.rng_kept.specs.Residuals.{Way, among, in_tag, Residual, is_in_tag}
-use Rattle.rng_live.specs.Order.{name_order}
+use Rattle.rng_live.specs.Order.{in_order}
 
 -- the names that the classes of the attributes in a pattern mention: no other one is required
 abbrev pub pattern_names : Pattern → List Name
@@ -21,11 +20,6 @@ pattern_names _ = []
 abbrev pub way_names : Way → List Name
 way_names (among o) = []
 way_names (in_tag p o) = pattern_names p
-
--- in order, each once
-abbrev pub in_order : List Name → List Name
-in_order [] = []
-in_order (n ∷ ns) = insert_key name_order (in_order ns) n
 
 -- those that are required where a start tag is open
 unfoldable pub required_names : Residual → List Name

@@ -1,33 +1,14 @@
 //! Names in the details of faults.
 
-ghost use Rattle.std.specs.Prelude.{◌≡◌, ◌++◌, IfOk, OnOk, codes, take};
-ghost use Rattle.nx_base.specs.PrintedNames.{name_text};
-ghost use Rattle.nx_recover.specs.Details.{further_text, names_text, needed_text, needs_text};
+ghost use Rattle.std.specs.Prelude.{◌≡◌, ◌++◌, IfOk, OnOk};
+ghost use Rattle.nx_recover.specs.Details.{names_text, needed_text, needs_text};
 
 use nx_base::memory::NoMemory;
 use nx_base::name::Name;
 use nx_base::printed_name::push_name;
 use nx_base::sequence::{Bytes, Sequence};
+use rng_live::shared_names::{SharedNames, push_names};
 use std::alloc::Global;
-
-// Adds a name behind a space.
-fn push_further(text: &mut Vec<u8>, name: &Name) -> Result<(), NoMemory>
-    ensures { OnOk result (text.new.items ≡ text.old.items ++ (codes " " ++ name_text name.now)) }
-{
-    text.push(b' ')?;
-    push_name(text, name)?;
-    Ok(())
-}
-
-// Adds names, each behind a space.
-fn push_others(text: &mut Vec<u8>, names: &[Name]) -> Result<(), NoMemory>
-    ensures { OnOk result (text.new.items ≡ text.old.items ++ further_text names.now) }
-{
-    for name in names {
-        push_further(text, name)?;
-    }
-    Ok(())
-}
 
 /// Names, separated by a space.
 pub(crate) fn names_text(alloc: Global, names: &[Name]) -> Result<Bytes, NoMemory>
@@ -38,27 +19,42 @@ pub(crate) fn names_text(alloc: Global, names: &[Name]) -> Result<Bytes, NoMemor
     };
     let mut text = Vec::new(alloc);
     push_name(&mut text, first)?;
-    push_others(&mut text, others)?;
+    push_names(&mut text, others)?;
     Ok(Sequence::from_vec(text))
 }
 
 // Adds what is needed, if anything is, behind its word.
-fn push_needed(text: &mut Vec<u8>, needed: &[Name]) -> Result<(), NoMemory>
+fn push_needed(text: &mut Vec<u8>, needed: &SharedNames) -> Result<(), NoMemory>
     ensures { OnOk result (text.new.items ≡ text.old.items ++ needed_text needed.now) }
 {
-    if needed.is_empty() {
+    if needed.as_slice().is_empty() {
         return Ok(());
     }
     text.extend_from_slice(b" needs")?;
-    push_others(text, needed)?;
+    text.extend_from_slice(needed.text())?;
     Ok(())
 }
 
+// How many bytes a name and what is needed print, so that they are written into memory that is taken once. No clause speaks of room.
+fn room_of(name: &Name, needed: &[u8]) -> usize {
+    let namespace = if name.ns.is_empty() { 0 } else { 2 };
+    let word = if needed.is_empty() { 0 } else { 6 };
+    name.ns
+        .len()
+        .saturating_add(name.local.len())
+        .saturating_add(needed.len())
+        .saturating_add(namespace + word)
+}
+
 /// A name, and what is needed.
-pub(crate) fn needs_text(alloc: Global, name: &Name, needed: &[Name]) -> Result<Bytes, NoMemory>
+pub(crate) fn needs_text(
+    alloc: Global,
+    name: &Name,
+    needed: &SharedNames,
+) -> Result<Bytes, NoMemory>
     ensures { IfOk result (λ text. text ≡ needs_text name.now needed.now) }
 {
-    let mut text = Vec::new(alloc);
+    let mut text = Vec::with_capacity(alloc, room_of(name, needed.text()))?;
     push_name(&mut text, name)?;
     push_needed(&mut text, needed)?;
     Ok(Sequence::from_vec(text))

@@ -145,7 +145,7 @@ fn lacking<M: Matcher>(
         (needs_text about.now (needed_names (M.language matcher.old) (option_copied skip.entry) (M.means matcher.old here.now)))) }
 {
     let names = matcher.needed(alloc, here, skip)?;
-    let detail = needs_text(alloc, about, names.as_slice())?;
+    let detail = needs_text(alloc, about, &names)?;
     Ok(Some(Flaw { kind, detail }))
 }
 

@@ -25,9 +25,9 @@ use Rattle.nx_events.specs.declared.item.Item.TheVariants as items
 use Rattle.nx_events.proofs.Texts.{ascii_one}
 use Rattle.rng_core.specs.Patterns.{Language}
 use Rattle.rng_core.specs.Validity.{Viable}
-use Rattle.rng_kept.specs.KeptLists.{Kept, IsRequired, IsNeeded, HasChild, this_element, behind_element, behind_string, skip_end, skip_move}
+use Rattle.rng_kept.specs.KeptLists.{Kept, IsRequired, IsNeeded, HasChild, this_element, behind_element, behind_string, skip_move}
 use Rattle.rng_kept.specs.Live.{AreLive}
-use Rattle.rng_kept.specs.Moves.{Adds, adds_attributes, adds_skipped, adds_content, missing_attributes, missing_content, skip_to}
+use Rattle.rng_kept.specs.Moves.{Adds, adds_attributes, adds_skipped, adds_content, missing_attributes}
 use Rattle.rng_kept.specs.Residuals.{Residual}
 use Rattle.rng_kept.specs.Standing.{first_residual}
 use Rattle.rng_residual.proofs.Missing.{missing_parts_go_on}

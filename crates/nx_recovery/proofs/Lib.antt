@@ -7,6 +7,7 @@ pub mod Folding
 pub mod Along
 pub mod Following
 pub mod Levels
+pub mod ItemFaults
 pub mod Viability
 pub mod Validity
 pub mod Details

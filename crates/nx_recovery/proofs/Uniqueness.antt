@@ -8,7 +8,7 @@ use Rattle.rng_core.specs.Patterns.{Language}
 use Rattle.nx_events.specs.declared.flaw.Flaw.{Flaw}
 use Rattle.nx_events.specs.declared.item.Event.{Event}
 use Rattle.nx_events.specs.declared.item.Item.{Item}
-use Rattle.nx_recover.proofs.RequiredNames.{to_among, from_among, one_list}
+use Rattle.rng_live.proofs.OrderedNames.{to_among, from_among, one_list}
 use Rattle.nx_recover.specs.Details.{names_text, needs_text}
 use Rattle.nx_recover.specs.Frames.{Frame, AreRequiredNames, AreNeededNames}
 use Rattle.nx_recover.specs.Outcomes as table

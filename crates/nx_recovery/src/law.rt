@@ -3,6 +3,7 @@
 ghost use Rattle.nx_recovery.specs.Details.{FaultsAreText};
 ghost use Rattle.nx_recovery.specs.Existence.{EveryTextHasFaults, RecoverGivesFaults};
 ghost use Rattle.nx_recovery.specs.Levels.{EndsAreOfElements, LevelsAreOne, LevelsAreTold, StatesTellLevels};
+ghost use Rattle.nx_recovery.specs.ItemFaults.{SameEventsHaveItemFaults};
 ghost use Rattle.nx_recovery.specs.SameEvents.{SameEventsLeadOnAlike};
 ghost use Rattle.nx_recovery.specs.Uniqueness.{RecoveryIsOne};
 ghost use Rattle.nx_recovery.specs.Validity.{NoFaultsHaveValidEvents, NoFaultsIsValid};
@@ -62,4 +63,10 @@ pub fn faults_are_text()
 #[tactic(auto, using(crate::proofs::SameEvents::same_events_lead_on_alike))]
 pub fn same_events_lead_on_alike()
     ensures { SameEventsLeadOnAlike }
+{}
+
+/// Where no fault of a text is against the schema, each is one of its characters, markup, nesting and namespaces; and so is each fault of
+/// any text with the same events.
+pub fn same_events_have_item_faults()
+    ensures { SameEventsHaveItemFaults }
 {}

@@ -29,3 +29,4 @@ mod Knowing
 mod InOrder
 mod Findings
 pub mod Needed
+pub mod OrderedNames

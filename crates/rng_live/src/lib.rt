@@ -33,6 +33,7 @@ pub mod matcher;
 mod naming;
 pub mod prune;
 pub mod schema;
+pub mod shared_names;
 pub mod sorting;
 mod takes;
 mod waiting;

@@ -17,6 +17,7 @@ ghost use Rattle.rng_live.specs.Order.{name_order, SortsOnce};
 ghost use Rattle.rng_live.specs.Schemas.{schema_language};
 
 use crate::schema::Schema;
+use crate::shared_names::SharedNames;
 use nx_base::memory::NoMemory;
 use nx_base::name::{Name, Names};
 use std::alloc::Global;
@@ -183,7 +184,7 @@ pub trait Matcher: Drop {
         alloc: Global,
         s: &Self::State,
         name: Option<&Name>,
-    ) -> Result<Names, NoMemory>
+    ) -> Result<SharedNames, NoMemory>
         requires { is_state self.old s.now }
         ensures later { later self.old self.new }
         ensures gives { IfOk result (SortsOnce name_order
