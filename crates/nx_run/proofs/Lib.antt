@@ -5,4 +5,5 @@ pub mod InsertedTexts
 pub mod Lines
 pub mod Playing
 pub mod Printing
+pub mod Turning
 pub mod Validity

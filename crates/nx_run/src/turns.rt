@@ -1,7 +1,7 @@
 //! What is played, one turn behind another.
 
 ghost use Rattle.std.specs.Prelude.{◌≡◌, option_map, IfOk};
-ghost use Rattle.nx_script.specs.Commands.{HasUtf8Texts};
+ghost use Rattle.nx_script.specs.Commands.{HasFitTexts};
 ghost use Rattle.nx_run.specs.Turns.{turn_of, turns_of, first_number, ReadsTurn, turns_left, next_number, TakesTurn};
 
 use nx_base::sequence::Bytes;
@@ -24,7 +24,7 @@ impl<'a> Turn<'a> {
     /// The command that is carried out, or `BadCommand` exactly where a line is none.
     pub fn command(self, alloc: Global) -> Result<Command, ScriptFault>
         ensures read { ReadsTurn (turn_of self.entry) result }
-        ensures utf8 { IfOk result HasUtf8Texts }
+        ensures utf8 { IfOk result HasFitTexts }
     {
         match self {
             Turn::Schema(uri) => {

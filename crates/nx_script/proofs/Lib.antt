@@ -2,7 +2,9 @@ pub mod Blanks
 pub mod Cutting
 pub mod Numbers
 pub mod Printed
+pub mod QNames
 pub mod Reader
 pub mod Texts
 pub mod Words
 pub mod Writing
+pub mod Plain

@@ -8,14 +8,15 @@ use Rattle.std.proofs.lemmas.Bool.{eqb-true, eq-eqb, and_parts, or_parts, le-ltb
 use Rattle.std.proofs.lemmas.Slice.Eq.{bytes_eq-Decides}
 use Rattle.nx_base.specs.declared.way.Way.{Way}
 use Rattle.nx_script.specs.declared.command.Command.{Command}
-use Rattle.nx_script.specs.declared.command.Command.TheVariants.{Nothing, OpenFile, Save, Insert, Delete, Print, Errors, Slice, Stats, SchemaFile, SchemaNone, SchemaAuto, Complete, Goto, Move, Next, Previous, Position, View, Close, Make}
+use Rattle.nx_script.specs.declared.command.Command.TheVariants.{Nothing, OpenFile, Save, Insert, Delete, Print, Errors, Slice, Stats, SchemaFile, SchemaNone, SchemaAuto, Complete, Goto, Move, Next, Previous, Position, View, Close, Make, Finish, Split, Pair, Rename}
 use Rattle.nx_script.specs.declared.read.ScriptFault.{ScriptFault}
 use Rattle.nx_script.specs.declared.read.ScriptFault.TheVariants.{BadCommand, NoMemory}
-use Rattle.nx_script.specs.Grammar.{IsBlanks, IsNothingLine, IsOpenLine, IsSaveLine, IsInsertLine, IsDeleteLine, IsPrintLine, IsErrorsLine, IsSliceLine, IsStatsLine, IsOfWords, IsSchemaFileLine, IsSchemaNoneLine, IsSchemaAutoLine, IsCompleteLine, IsGotoLine, IsMoveLine, IsNextLine, IsPreviousLine, IsPositionLine, IsViewLine, IsCloseLine, IsMakeLine, IsOfNumber, way_word, IsLine, ReadsLine}
-use Rattle.nx_script.specs.Commands.{HasUtf8Texts}
-use Rattle.nx_script.specs.Reading.{Finds, ◌>>=◌, is_blank, after_blanks, number_at, text_at, word_at, way_at, ended, numbered, ended_or, open_of, save_of, insert_of, delete_of, print_of, errors_of, slice_of, stats_of, schema_file_of, schema_of, complete_of, goto_of, move_of, next_of, previous_of, position_of, view_of, close_of, most_seed, most_pieces, make_of, command_of, command_at, line_command}
+use Rattle.nx_script.specs.Grammar.{IsBlanks, IsNothingLine, IsOpenLine, IsSaveLine, IsInsertLine, IsDeleteLine, IsPrintLine, IsErrorsLine, IsSliceLine, IsStatsLine, IsOfWords, IsSchemaFileLine, IsSchemaNoneLine, IsSchemaAutoLine, IsCompleteLine, IsGotoLine, IsMoveLine, IsNextLine, IsPreviousLine, IsPositionLine, IsViewLine, IsCloseLine, IsMakeLine, IsFinishLine, IsSplitLine, IsPairLine, IsRenameLine, IsOfNumber, IsOfName, way_word, IsLine, ReadsLine}
+use Rattle.nx_script.specs.Commands.{HasFitTexts}
+use Rattle.nx_script.specs.Reading.{Finds, ◌>>=◌, is_blank, after_blanks, number_at, text_at, name_at, word_at, way_at, ended, numbered, ended_or, open_of, save_of, insert_of, delete_of, print_of, errors_of, slice_of, stats_of, schema_file_of, schema_of, complete_of, goto_of, move_of, next_of, previous_of, position_of, view_of, close_of, most_seed, most_pieces, make_of, finish_of, split_of, named, pair_of, rename_of, command_of, command_at, line_command}
 use Rattle.nx_script.proofs.Blanks.{chosen, found_step, Pass-from_test, FirstFails, prefix_len_is, front_passes, IsBlanks-pass, pass-IsBlanks, test-IsBlank, after_blanks_is, after_blanks_leaves, Ends, tail_ends}
 use Rattle.nx_script.proofs.Numbers.{number_at_is, number_at_takes}
+use Rattle.nx_script.proofs.QNames.{name_at_is, name_at_takes}
 use Rattle.nx_script.proofs.Texts.{text_at_is, text_at_takes, word_utf8}
 use Rattle.nx_script.proofs.Words.{word_at_is, word_at_takes, word_at_text, word_at_other, way_at_is, way_at_takes}
 
@@ -191,6 +192,30 @@ make_is line seed pieces (first, second, m, n, few, short, (blanks, rest, e, b, 
     ∙ rw (e1, number_at_is gap first more seed g m (tail_ends (second ∷ []) more (gap2, end, e2, g2, last)), e2, number_at_is gap2 second end pieces g2 n (tail_ends [] end last))
     (within_limits seed pieces most_seed most_pieces (ended (Make seed pieces) end) few short ∙ ended_is (Make seed pieces) end last)
 
+finish_is : (line : List ℕ) (at : ℕ) → IsFinishLine at line → line_command line ≡ Some (Finish at)
+unfolding command_of finish_of
+finish_is line at h = numbered_is Finish line (codes "finish") at refl (λ rest. refl) h
+
+split_is : (line : List ℕ) (at : ℕ) → IsSplitLine at line → line_command line ≡ Some (Split at)
+unfolding command_of split_of
+split_is line at h = numbered_is Split line (codes "split") at refl (λ rest. refl) h
+
+-- a command of a number and a name
+named_is : (command : ℕ → List ℕ → Command) (line verb : List ℕ) (at : ℕ) (name : List ℕ) → is_verb verb ≡ true
+    → ((rest : List ℕ) → command_of verb rest ≡ named command rest) → IsOfName verb at name line → line_command line ≡ Some (command at name)
+named_is command line verb at name plain its (number, text, n, t, q, (blanks, rest, e, b, (gap, more, e1, g, (gap2, end, e2, g2, last)))) =
+    verb_read line verb rest blanks plain e b (tail_ends (number ∷ text ∷ []) rest (gap, more, e1, g, (gap2, end, e2, g2, last)))
+    ∙ its rest
+    ∙ rw (e1, number_at_is gap number more at g n (tail_ends (text ∷ []) more (gap2, end, e2, g2, last)), e2, name_at_is gap2 text end name g2 t q) (ended_is (command at name) end last)
+
+pair_is : (line : List ℕ) (at : ℕ) (name : List ℕ) → IsPairLine at name line → line_command line ≡ Some (Pair at name)
+unfolding command_of pair_of
+pair_is line at name h = named_is Pair line (codes "pair") at name refl (λ rest. refl) h
+
+rename_is : (line : List ℕ) (at : ℕ) (name : List ℕ) → IsRenameLine at name line → line_command line ≡ Some (Rename at name)
+unfolding command_of rename_of
+rename_is line at name h = named_is Rename line (codes "rename") at name refl (λ rest. refl) h
+
 pub line_is : (line : List ℕ) (command : Command) → IsLine line command → line_command line ≡ Some command
 line_is line Nothing h = nothing_is line h
 line_is line (OpenFile uri) h = open_is line uri h
@@ -213,6 +238,10 @@ line_is line Position h = position_is line h
 line_is line (View index) h = view_is line index h
 line_is line (Close index) h = close_is line index h
 line_is line (Make seed pieces) h = make_is line seed pieces h
+line_is line (Finish at) h = finish_is line at h
+line_is line (Split at) h = split_is line at h
+line_is line (Pair at name) h = pair_is line at name h
+line_is line (Rename at name) h = rename_is line at name h
 
 -- ---- what is read is the line's command
 
@@ -376,6 +405,37 @@ make_takes line blanks rest c e b h =
     let end = ended_takes (Make seed.0.0 pieces.0.0) pieces.0.1 c within.2 in
     subst (IsLine line) end.0 (first.1, second.1, first.4, second.4, within.0, within.1, (blanks, rest, e, b, (first.0, seed.0.1, first.2, first.3, (second.0, pieces.0.1, second.2, second.3, end.1))))
 
+finish_takes : (line blanks rest : List ℕ) (c : Command) → line ≡ blanks ++ codes "finish" ++ rest → IsBlanks blanks → finish_of rest ≡ Some c → IsLine line c
+unfolding finish_of
+finish_takes line blanks rest c e b h = let found = numbered_takes Finish line blanks (codes "finish") rest c e b h in subst (IsLine line) found.1 found.2
+
+split_takes : (line blanks rest : List ℕ) (c : Command) → line ≡ blanks ++ codes "split" ++ rest → IsBlanks blanks → split_of rest ≡ Some c → IsLine line c
+unfolding split_of
+split_takes line blanks rest c e b h = let found = numbered_takes Split line blanks (codes "split") rest c e b h in subst (IsLine line) found.1 found.2
+
+-- a command of a number and a name
+named_takes : (command : ℕ → List ℕ → Command) (line blanks verb rest : List ℕ) (c : Command) → line ≡ blanks ++ verb ++ rest → IsBlanks blanks
+    → named command rest ≡ Some c → (at : ℕ) × (name : List ℕ) × (command at name ≡ c) × IsOfName verb at name line
+named_takes command line blanks verb rest c e b h =
+    let at = found_step (number_at rest) (λ x. name_at x.1 >>= λ y. ended (command x.0 y.0) y.1) c h in
+    let name = found_step (name_at at.0.1) (λ y. ended (command at.0.0 y.0) y.1) c at.2 in
+    let number = number_at_takes rest at.0.1 at.0.0 at.1 in
+    let text = name_at_takes at.0.1 name.0.0 name.0.1 name.1 in
+    let end = ended_takes (command at.0.0 name.0.0) name.0.1 c name.2 in (
+      at.0.0,
+      name.0.0,
+      end.0,
+      (number.1, text.1, number.4, text.4, text.5, (blanks, rest, e, b, (number.0, at.0.1, number.2, number.3, (text.0, name.0.1, text.2, text.3, end.1)))),
+    )
+
+pair_takes : (line blanks rest : List ℕ) (c : Command) → line ≡ blanks ++ codes "pair" ++ rest → IsBlanks blanks → pair_of rest ≡ Some c → IsLine line c
+unfolding pair_of
+pair_takes line blanks rest c e b h = let found = named_takes Pair line blanks (codes "pair") rest c e b h in subst (IsLine line) found.2 found.3
+
+rename_takes : (line blanks rest : List ℕ) (c : Command) → line ≡ blanks ++ codes "rename" ++ rest → IsBlanks blanks → rename_of rest ≡ Some c → IsLine line c
+unfolding rename_of
+rename_takes line blanks rest c e b h = let found = named_takes Rename line blanks (codes "rename") rest c e b h in subst (IsLine line) found.2 found.3
+
 -- the word is this name, or the others are tried
 by_name : (line blanks word rest name : List ℕ) (found others : Option Command) → line ≡ blanks ++ word ++ rest
     → (line ≡ blanks ++ name ++ rest → Takes line found) → Takes line others → Takes line (cond (bytes_eq word name) found others)
@@ -409,7 +469,11 @@ verb_takes line blanks word rest e b =
     (by_name line blanks word rest (codes "view") (view_of rest) _ e (λ k c h. view_takes line blanks rest c k b h)
     (by_name line blanks word rest (codes "close") (close_of rest) _ e (λ k c h. close_takes line blanks rest c k b h)
     (by_name line blanks word rest (codes "make") (make_of rest) _ e (λ k c h. make_takes line blanks rest c k b h)
-    (by_no_name line))))))))))))))))))
+    (by_name line blanks word rest (codes "finish") (finish_of rest) _ e (λ k c h. finish_takes line blanks rest c k b h)
+    (by_name line blanks word rest (codes "split") (split_of rest) _ e (λ k c h. split_takes line blanks rest c k b h)
+    (by_name line blanks word rest (codes "pair") (pair_of rest) _ e (λ k c h. pair_takes line blanks rest c k b h)
+    (by_name line blanks word rest (codes "rename") (rename_of rest) _ e (λ k c h. rename_takes line blanks rest c k b h)
+    (by_no_name line))))))))))))))))))))))
 
 command_takes : (line blanks bytes : List ℕ) (c : Command) → line ≡ blanks ++ bytes → IsBlanks blanks → command_at bytes ≡ Some c → IsLine line c
 unfolding command_at
@@ -438,44 +502,48 @@ reads line (Err NoMemory) e = tt
 pub one_command : (line : List ℕ) (first second : Command) → IsLine line first → IsLine line second → first ≡ second
 one_command line first second h k = same_Some first second (sym (line_is line first h) ∙ line_is line second k)
 
--- ---- the texts of a command are UTF-8
+-- ---- the texts of a command are UTF-8, and its names QNames
 
 -- a word of the rest of a line, in the whole line
 in_line : (line front rest gap word end : List ℕ) → line ≡ front ++ rest → rest ≡ gap ++ word ++ end → line ≡ front ++ gap ++ word ++ end
 in_line line front rest gap word end e k = e ∙ ap (λ r. front ++ r) k ∙ simp append_assoc
 
-texts_utf8 : (line : List ℕ) (command : Command) → IsUtf8 line → IsLine line command → HasUtf8Texts command
-texts_utf8 line Nothing utf8 h = tt
-texts_utf8 line (OpenFile uri) utf8 (text, t, (blanks, rest, e, b, (gap, end, e1, g, last))) =
+texts_fit : (line : List ℕ) (command : Command) → IsUtf8 line → IsLine line command → HasFitTexts command
+texts_fit line Nothing utf8 h = tt
+texts_fit line (OpenFile uri) utf8 (text, t, (blanks, rest, e, b, (gap, end, e1, g, last))) =
     let front = blanks ++ codes "open" in
     word_utf8 (front ++ gap) text end uri t (subst IsUtf8 (in_line line front rest gap text end e e1) utf8)
-texts_utf8 line (Save uri) utf8 (text, t, (blanks, rest, e, b, (gap, end, e1, g, last))) =
+texts_fit line (Save uri) utf8 (text, t, (blanks, rest, e, b, (gap, end, e1, g, last))) =
     let front = blanks ++ codes "save" in
     word_utf8 (front ++ gap) text end uri t (subst IsUtf8 (in_line line front rest gap text end e e1) utf8)
-texts_utf8 line (Insert at added) utf8 (number, text, n, t, (blanks, rest, e, b, (gap, more, e1, g, (gap2, end, e2, g2, last)))) =
+texts_fit line (Insert at added) utf8 (number, text, n, t, (blanks, rest, e, b, (gap, more, e1, g, (gap2, end, e2, g2, last)))) =
     let front = blanks ++ codes "insert" in
     let first = in_line line front rest gap number more e e1 in
     word_utf8 (front ++ gap ++ number ++ gap2) text end added t (subst IsUtf8 (in_line line (front ++ gap ++ number) more gap2 text end first e2) utf8)
-texts_utf8 line (Delete from to) utf8 h = tt
-texts_utf8 line Print utf8 h = tt
-texts_utf8 line Errors utf8 h = tt
-texts_utf8 line (Slice count) utf8 h = tt
-texts_utf8 line Stats utf8 h = tt
-texts_utf8 line (SchemaFile uri) utf8 (text, t, (blanks, rest, e, b, (gap, end, e1, g, last))) =
+texts_fit line (Delete from to) utf8 h = tt
+texts_fit line Print utf8 h = tt
+texts_fit line Errors utf8 h = tt
+texts_fit line (Slice count) utf8 h = tt
+texts_fit line Stats utf8 h = tt
+texts_fit line (SchemaFile uri) utf8 (text, t, (blanks, rest, e, b, (gap, end, e1, g, last))) =
     let front = blanks ++ codes "schema" in
     word_utf8 (front ++ gap) text end uri t (subst IsUtf8 (in_line line front rest gap text end e e1) utf8)
-texts_utf8 line SchemaNone utf8 h = tt
-texts_utf8 line SchemaAuto utf8 h = tt
-texts_utf8 line (Complete at) utf8 h = tt
-texts_utf8 line (Goto at) utf8 h = tt
-texts_utf8 line (Move way) utf8 h = tt
-texts_utf8 line Next utf8 h = tt
-texts_utf8 line Previous utf8 h = tt
-texts_utf8 line Position utf8 h = tt
-texts_utf8 line (View index) utf8 h = tt
-texts_utf8 line (Close index) utf8 h = tt
-texts_utf8 line (Make seed pieces) utf8 h = tt
+texts_fit line SchemaNone utf8 h = tt
+texts_fit line SchemaAuto utf8 h = tt
+texts_fit line (Complete at) utf8 h = tt
+texts_fit line (Goto at) utf8 h = tt
+texts_fit line (Move way) utf8 h = tt
+texts_fit line Next utf8 h = tt
+texts_fit line Previous utf8 h = tt
+texts_fit line Position utf8 h = tt
+texts_fit line (View index) utf8 h = tt
+texts_fit line (Close index) utf8 h = tt
+texts_fit line (Make seed pieces) utf8 h = tt
+texts_fit line (Finish at) utf8 h = tt
+texts_fit line (Split at) utf8 h = tt
+texts_fit line (Pair at name) utf8 (number, text, n, t, q, words) = q
+texts_fit line (Rename at name) utf8 (number, text, n, t, q, words) = q
 
-pub answer_utf8 : (line : List ℕ) (answer : Result Command ScriptFault) → IsUtf8 line → ReadsLine line answer → IfOk answer HasUtf8Texts
-answer_utf8 line (Ok command) utf8 h = texts_utf8 line command utf8 h
-answer_utf8 line (Err fault) utf8 h = tt
+pub answer_fits : (line : List ℕ) (answer : Result Command ScriptFault) → IsUtf8 line → ReadsLine line answer → IfOk answer HasFitTexts
+answer_fits line (Ok command) utf8 h = texts_fit line command utf8 h
+answer_fits line (Err fault) utf8 h = tt

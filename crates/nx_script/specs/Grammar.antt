@@ -8,7 +8,8 @@ use Rattle.nx_base.specs.declared.way.Way.TheVariants as ways
 use Rattle.nx_script.specs.declared.command.Command.{Command}
 use Rattle.nx_script.specs.declared.command.Command.TheVariants.{Nothing, OpenFile, Save, Insert, Delete, Print, Errors, Slice, Stats}
 use Rattle.nx_script.specs.declared.command.Command.TheVariants.{SchemaFile, SchemaNone, SchemaAuto, Complete, Goto, Move, Next, Previous}
-use Rattle.nx_script.specs.declared.command.Command.TheVariants.{Position, View, Close, Make}
+use Rattle.nx_script.specs.declared.command.Command.TheVariants.{Position, View, Close, Make, Finish, Split, Pair, Rename}
+use Rattle.nx_script.specs.QualifiedNames.{IsQName}
 use Rattle.nx_script.specs.declared.read.ScriptFault.{ScriptFault}
 use Rattle.nx_script.specs.declared.read.ScriptFault.TheVariants.{BadCommand, NoMemory}
 
@@ -185,6 +186,27 @@ abbrev pub IsMakeLine : ℕ → ℕ → List ℕ → Type 0
 IsMakeLine seed pieces line = (first second : List ℕ) × IsNumber first seed × IsNumber second pieces
     × (seed ≤ 2147483647) × (pieces ≤ 200000) × IsOfWords (codes "make") (first ∷ second ∷ []) line
 
+-- `finish N`
+abbrev pub IsFinishLine : ℕ → List ℕ → Type 0
+IsFinishLine at line = IsOfNumber (codes "finish") at line
+
+-- `split N`
+abbrev pub IsSplitLine : ℕ → List ℕ → Type 0
+IsSplitLine at line = IsOfNumber (codes "split") at line
+
+-- the line is this word, a number and a name between quotes
+abbrev pub IsOfName : List ℕ → ℕ → List ℕ → List ℕ → Type 0
+IsOfName word at name line = (number text : List ℕ) × IsNumber number at × IsText text name × IsQName name
+    × IsOfWords word (number ∷ text ∷ []) line
+
+-- `pair N "QNAME"`
+abbrev pub IsPairLine : ℕ → List ℕ → List ℕ → Type 0
+IsPairLine at name line = IsOfName (codes "pair") at name line
+
+-- `rename N "QNAME"`
+abbrev pub IsRenameLine : ℕ → List ℕ → List ℕ → Type 0
+IsRenameLine at name line = IsOfName (codes "rename") at name line
+
 -- the line is this command
 abbrev pub IsLine : List ℕ → Command → Type 0
 IsLine line Nothing = IsNothingLine line
@@ -208,6 +230,10 @@ IsLine line Position = IsPositionLine line
 IsLine line (View index) = IsViewLine index line
 IsLine line (Close index) = IsCloseLine index line
 IsLine line (Make seed pieces) = IsMakeLine seed pieces line
+IsLine line (Finish at) = IsFinishLine at line
+IsLine line (Split at) = IsSplitLine at line
+IsLine line (Pair at name) = IsPairLine at name line
+IsLine line (Rename at name) = IsRenameLine at name line
 
 -- no line is two commands
 abbrev pub LinesAreOneCommand : Type 0

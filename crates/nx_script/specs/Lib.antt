@@ -7,5 +7,6 @@ pub mod Kinds
 pub mod Lines
 pub mod OfferLines
 pub mod Printing
+pub mod QualifiedNames
 pub mod Reading
 pub mod Replies

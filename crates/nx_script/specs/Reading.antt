@@ -1,20 +1,21 @@
 -- What reading finds at the front of a list of bytes, part by part. What a line is, `Grammar` says; reading
 -- finds the command of a line exactly where the line is that command.
-use Rattle.std.specs.Prelude.{◌≡◌, ℕ, zero, suc, Bool, ◌||◌, ◌==◌, nat_lt, if◌then◌else◌, List, [], ◌∷◌, ◌++◌, length, take, drop, codes}
+use Rattle.std.specs.Prelude.{◌≡◌, ℕ, zero, suc, Bool, ◌||◌, ◌&&◌, ◌==◌, nat_lt, if◌then◌else◌, List, [], ◌∷◌, ◌++◌, length, take, drop, codes}
 use Rattle.std.specs.Prelude.{encode_utf8, Option, Some, None, option_map, option_and_then, Result, Ok, Err}
-use Rattle.std.specs.List.{prefix_len, position_or_len}
+use Rattle.std.specs.List.{prefix_len, position_or_len, before_first, after_first}
 use Rattle.std.specs.Option.{option_or}
 use lib.Utf8.{scalar}
 use Rattle.std.specs.Char.{is_ascii_digit, is_digit}
-use Rattle.std.specs.Str.{bytes_eq}
+use Rattle.std.specs.Str.{chars, bytes_eq, is_utf8}
 use Rattle.std.specs.Str.Parse.{digits_value}
+use Rattle.nx_base.specs.Characters.{is_nc_name}
 use Rattle.nx_base.specs.declared.way.Way.{Way}
 use Rattle.nx_base.specs.declared.way.Way.TheVariants.{Forward, Backward, Up, BackUp, Down}
 use Rattle.nx_script.specs.Grammar.{way_word}
 use Rattle.nx_script.specs.declared.command.Command.{Command}
 use Rattle.nx_script.specs.declared.command.Command.TheVariants.{Nothing, OpenFile, Save, Insert, Delete, Print, Errors, Slice, Stats}
 use Rattle.nx_script.specs.declared.command.Command.TheVariants.{SchemaFile, SchemaNone, SchemaAuto, Complete, Goto, Move, Next, Previous}
-use Rattle.nx_script.specs.declared.command.Command.TheVariants.{Position, View, Close, Make}
+use Rattle.nx_script.specs.declared.command.Command.TheVariants.{Position, View, Close, Make, Finish, Split, Pair, Rename}
 use Rattle.nx_script.specs.declared.read.ScriptFault.{ScriptFault}
 use Rattle.nx_script.specs.declared.read.ScriptFault.TheVariants.{BadCommand, NoMemory}
 
@@ -127,6 +128,25 @@ text_at bytes = do
   gone ← after_gap bytes
   inside ← after_quote gone
   pieces_at inside
+
+abbrev pub is_colon : ℕ → Bool
+is_colon byte = byte == 58
+
+-- UTF-8 is a QName: an NCName stands on both sides of its first colon, or it is one without any
+unfoldable pub is_qualified : List ℕ → Bool
+is_qualified name =
+    if nat_lt (position_or_len is_colon name) (length name)
+    then is_nc_name (chars (before_first is_colon name)) && is_nc_name (chars (after_first is_colon name))
+    else is_nc_name (chars name)
+
+unfoldable pub is_qname : List ℕ → Bool
+is_qname name = is_utf8 name && is_qualified name
+
+-- the QName between quotes behind a gap, and what follows it
+unfoldable pub name_at : List ℕ → Option (List ℕ × List ℕ)
+name_at bytes = do
+  name ← text_at bytes
+  if is_qname name.0 then Some (name.0, name.1) else None
 
 -- what follows this word, where it stands behind a gap
 unfoldable pub word_at : List ℕ → List ℕ → Option (List ℕ)
@@ -245,6 +265,25 @@ make_of bytes = do
   pieces ← number_at seed.1
   if nat_lt most_seed seed.0 || nat_lt most_pieces pieces.0 then None else ended (Make seed.0 pieces.0) pieces.1
 
+unfoldable pub finish_of : List ℕ → Option Command
+finish_of bytes = numbered Finish bytes
+
+unfoldable pub split_of : List ℕ → Option Command
+split_of bytes = numbered Split bytes
+
+-- the command of a number and a name that follow
+abbrev pub named : (ℕ → List ℕ → Command) → List ℕ → Option Command
+named command bytes = do
+  at ← number_at bytes
+  name ← name_at at.1
+  ended (command at.0 name.0) name.1
+
+unfoldable pub pair_of : List ℕ → Option Command
+pair_of bytes = named Pair bytes
+
+unfoldable pub rename_of : List ℕ → Option Command
+rename_of bytes = named Rename bytes
+
 -- the command of this word
 unfoldable pub command_of : List ℕ → List ℕ → Option Command
 command_of word bytes =
@@ -266,7 +305,11 @@ command_of word bytes =
     else (if bytes_eq word (codes "view") then view_of bytes
     else (if bytes_eq word (codes "close") then close_of bytes
     else (if bytes_eq word (codes "make") then make_of bytes
-    else None)))))))))))))))))
+    else (if bytes_eq word (codes "finish") then finish_of bytes
+    else (if bytes_eq word (codes "split") then split_of bytes
+    else (if bytes_eq word (codes "pair") then pair_of bytes
+    else (if bytes_eq word (codes "rename") then rename_of bytes
+    else None)))))))))))))))))))))
 
 -- the command of the line whose blanks at the front are left out
 unfoldable pub command_at : List ℕ → Option Command

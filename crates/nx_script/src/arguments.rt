@@ -5,9 +5,10 @@ ghost use Rattle.std.specs.List.{prefix_len};
 ghost use Rattle.std.specs.Char.{is_ascii_digit};
 ghost use Rattle.std.specs.Str.{bytes_eq};
 ghost use Rattle.std.specs.Str.Parse.{AllDigits, digits_value};
-ghost use Rattle.nx_script.specs.Reading.{Finds, is_blank, after_gap, digits_at, number_at, text_at, word_at, along_at, way_at, ended};
+ghost use Rattle.nx_script.specs.Reading.{Finds, is_blank, after_gap, digits_at, number_at, text_at, name_at, word_at, along_at, way_at, ended};
 
 use crate::command::Command;
+use crate::qualified_name::is_qname;
 use crate::quoted::{after_quote, pieces};
 use crate::read::ScriptFault;
 use crate::way_word::way_word;
@@ -60,6 +61,19 @@ impl<'a> Arguments<'a> {
         let (text, rest) = pieces(alloc, after_quote(after_gap(self.rest)?)?)?;
         self.rest = rest;
         Ok(Bytes::from_vec(text))
+    }
+
+    /// A QName between quotes.
+    #[tactic(auto, unfolding(crate::specs::Reading::name_at))]
+    pub(crate) fn name(&mut self, alloc: Global) -> Result<Bytes, ScriptFault>
+        ensures { Finds (λ name. (name, self.new)) result (name_at self.old) }
+    {
+        let name = self.text(alloc)?;
+        if is_qname(name.as_slice()) {
+            Ok(name)
+        } else {
+            Err(ScriptFault::BadCommand)
+        }
     }
 
     /// What is left behind this word, where it stands there; nothing is taken.

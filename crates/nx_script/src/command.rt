@@ -50,4 +50,12 @@ pub enum Command {
     /// `make N N`: edits a large document that is made from the two numbers, from now on. The first is at most
     /// 2,147,483,647, the second, its number of pieces, at most 200,000.
     Make(u64, u64),
+    /// `finish N`: ends the innermost element that is open at the byte offset.
+    Finish(u64),
+    /// `split N`: ends it there, and begins another of its name.
+    Split(u64),
+    /// `pair N "QNAME"`: puts an element of this written name in at the byte offset, without content.
+    Pair(u64, Bytes),
+    /// `rename N "QNAME"`: gives the element whose tag begins at the byte offset this written name.
+    Rename(u64, Bytes),
 }

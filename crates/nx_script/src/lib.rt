@@ -10,6 +10,7 @@ mod kind_name;
 pub mod law;
 pub mod line;
 mod offer_line;
+mod qualified_name;
 mod quoted;
 pub mod read;
 pub mod reply;

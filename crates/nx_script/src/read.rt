@@ -3,9 +3,9 @@
 ghost use Rattle.std.specs.Prelude.{◌≡◌, ◌≤◌, length, IfOk};
 ghost use Rattle.std.specs.List.{position_or_len};
 ghost use Rattle.nx_script.specs.Grammar.{LinesAreOneCommand, ReadsLine};
-ghost use Rattle.nx_script.specs.Commands.{HasUtf8Texts};
+ghost use Rattle.nx_script.specs.Commands.{HasFitTexts};
 ghost use Rattle.nx_script.specs.Reading.{Finds, is_blank, open_of, save_of, insert_of, delete_of, slice_of, schema_file_of, schema_of, complete_of};
-ghost use Rattle.nx_script.specs.Reading.{goto_of, move_of, view_of, close_of, make_of};
+ghost use Rattle.nx_script.specs.Reading.{goto_of, move_of, view_of, close_of, make_of, finish_of, split_of, pair_of, rename_of};
 ghost use Rattle.nx_script.specs.Reading.{command_of, line_command};
 ghost use Rattle.nx_script.specs.Reading.{after_blanks};
 ghost use Rattle.nx_script.specs.declared.read.ScriptFault.TheVariants.{NoMemory};
@@ -47,7 +47,7 @@ impl From<AllocError> for ScriptFault {
 /// Reads a line, without what ends it: its command, or `BadCommand` exactly where the line is none.
 pub fn read_line(alloc: Global, line: &str) -> Result<Command, ScriptFault>
     ensures read { ReadsLine line.now result }
-    ensures utf8 { IfOk result HasUtf8Texts }
+    ensures texts { IfOk result HasFitTexts }
 {
     whole_line(alloc, line)
 }
@@ -112,6 +112,10 @@ fn command(alloc: Global, word: &str, arguments: Arguments<'_>) -> Result<Comman
         "view" => view(arguments),
         "close" => close(arguments),
         "make" => make(arguments),
+        "finish" => finish(arguments),
+        "split" => split(arguments),
+        "pair" => pair(alloc, arguments),
+        "rename" => rename(alloc, arguments),
         _ => Err(ScriptFault::BadCommand),
     }
 }
@@ -242,4 +246,42 @@ fn make(mut arguments: Arguments<'_>) -> Result<Command, ScriptFault>
         return Err(ScriptFault::BadCommand);
     }
     arguments.end(Command::Make(seed, pieces))
+}
+
+/// `finish N`, from what follows the word.
+#[tactic(auto, unfolding(crate::specs::Reading::finish_of))]
+fn finish(mut arguments: Arguments<'_>) -> Result<Command, ScriptFault>
+    ensures { Finds (λ command. command) result (finish_of arguments.entry) }
+{
+    let at = arguments.number()?;
+    arguments.end(Command::Finish(at))
+}
+
+/// `split N`, from what follows the word.
+#[tactic(auto, unfolding(crate::specs::Reading::split_of))]
+fn split(mut arguments: Arguments<'_>) -> Result<Command, ScriptFault>
+    ensures { Finds (λ command. command) result (split_of arguments.entry) }
+{
+    let at = arguments.number()?;
+    arguments.end(Command::Split(at))
+}
+
+/// `pair N "QNAME"`, from what follows the word.
+#[tactic(auto, unfolding(crate::specs::Reading::pair_of))]
+fn pair(alloc: Global, mut arguments: Arguments<'_>) -> Result<Command, ScriptFault>
+    ensures { Finds (λ command. command) result (pair_of arguments.entry) }
+{
+    let at = arguments.number()?;
+    let name = arguments.name(alloc)?;
+    arguments.end(Command::Pair(at, name))
+}
+
+/// `rename N "QNAME"`, from what follows the word.
+#[tactic(auto, unfolding(crate::specs::Reading::rename_of))]
+fn rename(alloc: Global, mut arguments: Arguments<'_>) -> Result<Command, ScriptFault>
+    ensures { Finds (λ command. command) result (rename_of arguments.entry) }
+{
+    let at = arguments.number()?;
+    let name = arguments.name(alloc)?;
+    arguments.end(Command::Rename(at, name))
 }

@@ -28,9 +28,9 @@ fn quoted(alloc: Global, word: &str, text: &Bytes) -> Result<String, Fail> {
 }
 
 /// A word, a number and a text.
-fn inserted(alloc: Global, at: u64, added: &Bytes) -> Result<String, Fail> {
-    let added = std::str::from_utf8(added.as_slice())?;
-    Ok(format!(in alloc; "insert {at} {added}")?)
+fn quoted_at(alloc: Global, word: &str, at: u64, text: &Bytes) -> Result<String, Fail> {
+    let text = std::str::from_utf8(text.as_slice())?;
+    Ok(format!(in alloc; "{word} {at} {text}")?)
 }
 
 /// The name of a way.
@@ -50,7 +50,7 @@ fn named(alloc: Global, command: &Command) -> Result<String, Fail> {
         Command::Nothing => word(alloc, "nothing"),
         Command::OpenFile(uri) => quoted(alloc, "open", uri),
         Command::Save(uri) => quoted(alloc, "save", uri),
-        Command::Insert(at, added) => inserted(alloc, *at, added),
+        Command::Insert(at, added) => quoted_at(alloc, "insert", *at, added),
         Command::Delete(from, to) => numbered_twice(alloc, "delete", *from, *to),
         Command::Print => word(alloc, "print"),
         Command::Errors => word(alloc, "errors"),
@@ -68,6 +68,10 @@ fn named(alloc: Global, command: &Command) -> Result<String, Fail> {
         Command::View(index) => numbered(alloc, "view", *index),
         Command::Close(index) => numbered(alloc, "close", *index),
         Command::Make(seed, pieces) => numbered_twice(alloc, "make", *seed, *pieces),
+        Command::Finish(at) => numbered(alloc, "finish", *at),
+        Command::Split(at) => numbered(alloc, "split", *at),
+        Command::Pair(at, name) => quoted_at(alloc, "pair", *at, name),
+        Command::Rename(at, name) => quoted_at(alloc, "rename", *at, name),
     }
 }
 
@@ -81,7 +85,7 @@ fn told(alloc: Global, line: &str) -> Result<String, Fail> {
 }
 
 /// Lines, and what `told` makes of them.
-const LINES: [(&str, &str); 116] = [
+const LINES: [(&str, &str); 137] = [
     ("", "nothing"),
     (" \t ", "nothing"),
     ("#", "nothing"),
@@ -201,6 +205,27 @@ const LINES: [(&str, &str); 116] = [
     ("make 0 0", "make 0 0"),
     ("make 7", "bad"),
     ("make 7 1 1", "bad"),
+    ("finish 20", "finish 20"),
+    ("finish", "bad"),
+    ("finish 1 2", "bad"),
+    ("split 7", "split 7"),
+    ("split -1", "bad"),
+    ("pair 3 \"x\"", "pair 3 x"),
+    ("\tpair \t 3\t\"p:q\" ", "pair 3 p:q"),
+    ("pair 3 x", "bad"),
+    ("pair 3 \"\"", "bad"),
+    ("pair 3 \"a:b:c\"", "bad"),
+    ("pair 3 \":a\"", "bad"),
+    ("pair 3 \"a:\"", "bad"),
+    ("pair 3 \"1a\"", "bad"),
+    ("pair 3 \"a:1\"", "bad"),
+    ("pair 3 \"a b\"", "bad"),
+    ("pair \"x\"", "bad"),
+    ("rename 0 \"\\u{e9}-.1\"", "rename 0 é-.1"),
+    ("rename 0 \"_:\\u{4e00}\\u{b7}\"", "rename 0 _:一·"),
+    ("rename 3 \"q\" 1", "bad"),
+    ("rename 3", "bad"),
+    ("renames 3 \"q\"", "bad"),
 ];
 
 #[test]

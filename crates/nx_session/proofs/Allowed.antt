@@ -16,7 +16,7 @@ use Rattle.nx_script.specs.Grammar.{IsLine, LinesAreOneCommand}
 use Rattle.nx_script.specs.declared.command.Command.{Command}
 use Rattle.nx_script.specs.declared.command.Command.TheVariants.{Nothing, OpenFile, Save, Insert, Delete, Print, Errors, Slice, Stats}
 use Rattle.nx_script.specs.declared.command.Command.TheVariants.{SchemaFile, SchemaNone, SchemaAuto, Complete, Goto, Move, Next, Previous}
-use Rattle.nx_script.specs.declared.command.Command.TheVariants.{Position, View, Close, Make}
+use Rattle.nx_script.specs.declared.command.Command.TheVariants.{Position, View, Close, Make, Finish, Split, Pair, Rename}
 use Rattle.nx_script.specs.declared.reply.Reply.{Reply}
 use Rattle.nx_script.specs.declared.reply.Reply.TheVariants.{Silent, Refused}
 use Rattle.nx_script.specs.declared.reply.Refusal.{Refusal}
@@ -28,11 +28,15 @@ use Rattle.nx_session.specs.Editor.{EditorState, FilesState, World, work_folder}
 use Rattle.nx_session.specs.Locating.{RulesAre, HasBadRules, LacksRules, LocatesFor, IsUnlocated, IsRefusedAuto, SchemaAutoStep}
 use Rattle.nx_session.specs.Moving.{GotoStep, NextStep, PreviousStep, PositionStep, MoveStep}
 use Rattle.nx_session.specs.Schemas.{IsUnusable, GivesNoSchema, Defines, IsRefusedFor, IsRefusedSchema, SchemaFileStep, HoldStep}
+use Rattle.nx_session.specs.Tagging.{TagStep}
 use Rattle.nx_session.specs.Validating.{ErrorsStep, SliceStep, StatsStep}
 use Rattle.nx_session.specs.Viewing.{ViewStep, CloseStep}
 use Rattle.nx_session.specs.Step.{Step, LineStep}
 use Rattle.nx_session.specs.Premises.{LeadsToText, DenotesUri, CanBeUsed, DefineSchema, LeadsToSchema, LeadsToRules, AreFollowed, HasView, Allows, TakesMemory}
 use Rattle.nx_session.specs.Done.{IsDone, NoneFails}
+use Rattle.nx_tags.specs.Answers.{place_of}
+use Rattle.nx_tags.specs.declared.command.TagCommand.{TagCommand}
+use Rattle.nx_tags.specs.declared.command.TagCommand.TheVariants as tags
 use Rattle.nx_text.specs.Editing.{IsRange, Blames}
 use Rattle.nx_views.specs.States.{ViewState}
 use Rattle.rng_core.specs.declared.grammar.Grammar.{Grammar}
@@ -81,6 +85,12 @@ move_wants way old new cause h = absurd h
 make_wants : (seed pieces : ℕ) (old new : EditorState) (cause : Refusal) → MakeStep seed pieces old (Refused cause) new → cause ≡ NoMemory
 make_wants seed pieces old new NoMemory h = refl
 make_wants seed pieces old new cause h = absurd h
+
+tag_wants : (command : TagCommand) (old new : EditorState) (before behind : List ViewState) (cause : Refusal) → IsPlace old.text (place_of command)
+    → TagStep command old before (Refused cause) new behind → cause ≡ NoMemory
+tag_wants command old new before behind (BadPosition wrong len) place h = absurd (h.0 place)
+tag_wants command old new before behind NoMemory place h = refl
+tag_wants command old new before behind cause place h = absurd h
 
 -- ---- commands that read the text
 
@@ -267,6 +277,10 @@ module _ (passed : ComposedArePassed) (unbroken : SimplifiedIsNotBroken) where
     wants old new (View index) cause ok none h = (tt, view_wants index old.views new.views cause ok h.0)
     wants old new (Close index) cause ok none h = absurd (close_wants index old.views new.views cause ok h.0)
     wants old new (Make seed pieces) cause ok none h = (tt, make_wants seed pieces old.editor new.editor cause h.0)
+    wants old new (Finish at) cause ok none h = (tt, tag_wants (tags.Finish at) old.editor new.editor old.views new.views cause ok h.0)
+    wants old new (Split at) cause ok none h = (tt, tag_wants (tags.Split at) old.editor new.editor old.views new.views cause ok h.0)
+    wants old new (Pair at name) cause ok none h = (tt, tag_wants (tags.Pair at name) old.editor new.editor old.views new.views cause ok h.0)
+    wants old new (Rename at name) cause ok none h = (tt, tag_wants (tags.Rename at name) old.editor new.editor old.views new.views cause ok h.0)
 
     pub commands_done : (old new : World) (given : Command) (reply : Reply) → Allows old given → NoneFails old.files new.files → Step old given reply new
         → IsDone reply ⊎ (TakesMemory given × (reply ≡ Refused NoMemory))

@@ -8,7 +8,7 @@ use Rattle.nx_locate.specs.Locates.{Locates}
 use Rattle.nx_script.specs.declared.command.Command.{Command}
 use Rattle.nx_script.specs.declared.command.Command.TheVariants.{Nothing, OpenFile, Save, Insert, Delete, Print, Errors, Slice, Stats}
 use Rattle.nx_script.specs.declared.command.Command.TheVariants.{SchemaFile, SchemaNone, SchemaAuto, Complete, Goto, Move, Next, Previous}
-use Rattle.nx_script.specs.declared.command.Command.TheVariants.{Position, View, Close, Make}
+use Rattle.nx_script.specs.declared.command.Command.TheVariants.{Position, View, Close, Make, Finish, Split, Pair, Rename}
 use Rattle.nx_script.specs.declared.reply.Reply.{Reply}
 use Rattle.nx_script.specs.declared.reply.Reply.TheVariants.{Silent, Located, Refused}
 use Rattle.nx_script.specs.declared.reply.Refusal.{Refusal}
@@ -110,3 +110,7 @@ step_counted old new Position reply h = same_files old.files new.files h.1
 step_counted old new (View index) reply h = same_files old.files new.files h.2
 step_counted old new (Close index) reply h = same_files old.files new.files h.2
 step_counted old new (Make seed pieces) reply h = same_files old.files new.files h.1
+step_counted old new (Finish at) reply h = same_files old.files new.files h.1
+step_counted old new (Split at) reply h = same_files old.files new.files h.1
+step_counted old new (Pair at name) reply h = same_files old.files new.files h.1
+step_counted old new (Rename at name) reply h = same_files old.files new.files h.1

@@ -1,15 +1,16 @@
 -- Editors of which the text is UTF-8 and the schema live, as all are to which commands lead from a new one.
-use Rattle.std.proofs.Common.{◌≡◌, ℕ, zero, suc, ◌%◌, ◌/◌, Bool, true, false, cond, eqb, List, [], ◌++◌, codes, Option, Some, None, IsUtf8, refl, sym, subst, inl, inr}
+use Rattle.std.proofs.Common.{◌≡◌, ℕ, zero, suc, ◌%◌, ◌/◌, Bool, true, false, cond, eqb, List, [], ◌∷◌, ◌++◌, codes, Option, Some, None, IsUtf8, refl, sym, ap, subst, inl, inr}
 use Rattle.std.specs.Prelude.{IfSome}
 use Rattle.std.specs.Fmt.{decimal}
 use Rattle.std.proofs.lemmas.Str.{IsUtf8-append, IsUtf8-nil}
-use Rattle.nx_base.specs.Text.{EditedIsUtf8}
+use Rattle.nx_base.specs.Text.{edited, EditedIsUtf8}
+use Rattle.nx_base.specs.declared.change.Change.{Change}
 use Rattle.nx_base.specs.declared.way.Way.{Way}
 use Rattle.nx_script.proofs.Printed.{decimal_text, word_text}
 use Rattle.nx_script.specs.declared.command.Command.{Command}
 use Rattle.nx_script.specs.declared.command.Command.TheVariants.{Nothing, OpenFile, Save, Insert, Delete, Print, Errors, Slice, Stats}
 use Rattle.nx_script.specs.declared.command.Command.TheVariants.{SchemaFile, SchemaNone, SchemaAuto, Complete, Goto, Move, Next, Previous}
-use Rattle.nx_script.specs.declared.command.Command.TheVariants.{Position, View, Close, Make}
+use Rattle.nx_script.specs.declared.command.Command.TheVariants.{Position, View, Close, Make, Finish, Split, Pair, Rename}
 use Rattle.nx_script.specs.declared.reply.Reply.{Reply}
 use Rattle.nx_script.specs.declared.reply.Reply.TheVariants.{Silent, Printed, Frontier, Taken, Located, Offered, Caret, Stay, Refused}
 use Rattle.nx_script.specs.declared.reply.Reply.TheVariants as reply
@@ -23,7 +24,13 @@ use Rattle.nx_session.specs.Locating.{SchemaAutoStep}
 use Rattle.nx_session.specs.Moving.{GotoStep, NextStep, PreviousStep, PositionStep, MoveStep}
 use Rattle.nx_session.specs.Schemas.{HoldsFile, SchemaFileStep, HoldStep}
 use Rattle.nx_session.specs.Step.{NothingStep, Step}
+use Rattle.nx_session.specs.Tagging.{AreMade, TagStep}
 use Rattle.nx_session.specs.Validating.{ReadsOn, ErrorsStep, SliceStep, StatsStep}
+use Rattle.nx_session.proofs.Changing.{others_stay}
+use Rattle.nx_tags.specs.declared.command.TagCommand.{TagCommand}
+use Rattle.nx_tags.specs.declared.command.TagCommand.TheVariants as tags
+use Rattle.nx_text.specs.Changing.{AreChanges}
+use Rattle.nx_views.specs.States.{ViewState}
 use Rattle.rng_kept.specs.Live.{IsLive}
 
 -- the text is UTF-8, and the schema that it is held against, if it is, is live
@@ -91,6 +98,22 @@ module _ (edited_utf8 : EditedIsUtf8) where
       (record { utf8 = edited_utf8 old.text [] from to fit.utf8 IsUtf8-nil h.0.start h.0.end; live = fit.live })
   delete_fit from to old new (Refused (BadPosition wrong len)) fit h = same_fit old new h.2 fit
   delete_fit from to old new answer fit h = absurd h
+
+  made_fit : (changes : List Change) (old new : EditorState) → AreChanges old.text changes → IsFit old → AreMade changes old new → IsFit new
+  made_fit [] old new are fit h = same_fit old new h fit
+  made_fit (change ∷ others) old new are fit (between, edit, rest) =
+      let text : between.text ≡ edited old.text change.from change.to change.text = ap (λ (e : EditorState). e.text) edit.editor in
+      let then_fit = same_fit (edited_editor old change.from change.to change.text between.frontier) between edit.editor
+      (record { utf8 = edited_utf8 old.text change.text change.from change.to fit.utf8 are.1 are.0.start are.0.end; live = fit.live }) in
+      made_fit others between new (subst (λ t. AreChanges t others) (sym text) (others_stay old.text change others fit.utf8 are)) then_fit rest
+
+  tag_fit : (command : TagCommand) (old new : EditorState) (before behind : List ViewState) (answer : Reply) → IsFit old
+      → TagStep command old before answer new behind → IsFit new
+  tag_fit command old new before behind Silent fit (place, changes, answers, are, made, moved) = made_fit changes old new are fit made
+  tag_fit command old new before behind Stay fit h = same_fit old new h.2 fit
+  tag_fit command old new before behind (Refused (BadPosition wrong len)) fit h = same_fit old new h.3 fit
+  tag_fit command old new before behind (Refused NoMemory) fit h = same_fit old new h.1 fit
+  tag_fit command old new before behind answer fit h = absurd h
 
 print_fit : (old new : EditorState) (answer : Reply) → IsFit old → PrintStep old answer new → IsFit new
 print_fit old new (Printed text) fit h = same_fit old new h.1 fit
@@ -227,3 +250,7 @@ step_fit edited_utf8 old new Position answer texts fit h = position_fit old.edit
 step_fit edited_utf8 old new (View index) answer texts fit h = same_fit old.editor new.editor h.1 fit
 step_fit edited_utf8 old new (Close index) answer texts fit h = same_fit old.editor new.editor h.1 fit
 step_fit edited_utf8 old new (Make seed pieces) answer texts fit h = make_fit seed pieces old.editor new.editor answer fit h.0
+step_fit edited_utf8 old new (Finish at) answer texts fit h = tag_fit edited_utf8 (tags.Finish at) old.editor new.editor old.views new.views answer fit h.0
+step_fit edited_utf8 old new (Split at) answer texts fit h = tag_fit edited_utf8 (tags.Split at) old.editor new.editor old.views new.views answer fit h.0
+step_fit edited_utf8 old new (Pair at name) answer texts fit h = tag_fit edited_utf8 (tags.Pair at name) old.editor new.editor old.views new.views answer fit h.0
+step_fit edited_utf8 old new (Rename at name) answer texts fit h = tag_fit edited_utf8 (tags.Rename at name) old.editor new.editor old.views new.views answer fit h.0

@@ -21,7 +21,7 @@ use Rattle.nx_marks.proofs.Rules.{less-or}
 use Rattle.nx_marks.proofs.Taking.{chain-tail}
 use Rattle.nx_recover.specs.RecoverRules.{Recovered}
 use Rattle.nx_recovery.proofs.SameEvents.{same_events_lead_on_alike}
-use Rattle.nx_script.specs.Commands.{HasUtf8Texts}
+use Rattle.nx_script.specs.Commands.{HasFitTexts}
 use Rattle.nx_script.specs.declared.command.Command.{Command}
 use Rattle.nx_script.specs.declared.command.Command.TheVariants as command
 use Rattle.nx_script.specs.declared.reply.Reply.TheVariants as reply
@@ -233,7 +233,7 @@ put_alike read edited a b from to text added f u s h =
     let A : List ℕ → Type 0 = λ l. IsPut read edited from to l in
     subst A (sym s) (subst T (sym u) (subst F (sym f) h))
 
-is_put : (read edited : SessionState) (given : Command) (from to : ℕ) (added : List ℕ) → IsInsertOrDelete given from to added → HasUtf8Texts given → Applies read given reply.Silent edited → IsPut read edited from to added
+is_put : (read edited : SessionState) (given : Command) (from to : ℕ) (added : List ℕ) → IsInsertOrDelete given from to added → HasFitTexts given → Applies read given reply.Silent edited → IsPut read edited from to added
 is_put read edited (command.Insert at text) from to added puts utf8 d =
     put_alike read edited at at from to text added puts.0 puts.1 puts.2
     (record { utf8 = utf8; start = d.step.0.0; end = d.step.0.0; ordered = omega arith; changed = d.step.0.1; told = d.marks })

@@ -11,9 +11,13 @@ pub mod Marks
 pub mod Moving
 pub mod Premises
 pub mod Step
+pub mod TagFaults
+pub mod Tagging
 pub mod Validating
 pub mod Validity
 pub mod Reading
 pub mod Rereading
 pub mod Schemas
 pub mod Viewing
+-- ---- what private contracts cite
+pub mod Telling

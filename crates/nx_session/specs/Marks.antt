@@ -1,8 +1,9 @@
 -- What a command does to the marks, which a session keeps from one command to the next.
-use Rattle.std.specs.Prelude.{◌≡◌, ℕ, ◌-◌, ◌<◌, ◌≤◌, List, [], length, IsUtf8}
+use Rattle.std.specs.Prelude.{◌≡◌, ℕ, ◌-◌, ◌<◌, ◌≤◌, List, [], length, Some, IsUtf8}
 use Rattle.nx_base.specs.Rules.{Lexeme}
 use Rattle.nx_base.specs.Running.{CutsTo, after_all}
 use Rattle.nx_base.specs.Text.{IsPlace}
+use Rattle.nx_base.specs.declared.change.Change.{Change}
 use Rattle.nx_base.specs.declared.edit.Edit.{Edit}
 use Rattle.nx_base.specs.declared.fault.Fault.{Fault}
 use Rattle.nx_marks.specs.Bound.{WillJoin, WillReach}
@@ -16,14 +17,18 @@ use Rattle.nx_marks.specs.Starting.{started}
 use Rattle.nx_script.specs.declared.command.Command.{Command}
 use Rattle.nx_script.specs.declared.command.Command.TheVariants.{Nothing, OpenFile, Save, Insert, Delete, Print, Errors, Slice, Stats}
 use Rattle.nx_script.specs.declared.command.Command.TheVariants.{SchemaFile, SchemaNone, SchemaAuto, Complete, Goto, Move, Next, Previous}
-use Rattle.nx_script.specs.declared.command.Command.TheVariants.{Position, View, Close, Make}
+use Rattle.nx_script.specs.declared.command.Command.TheVariants.{Position, View, Close, Make, Finish, Split, Pair, Rename}
 use Rattle.nx_script.specs.declared.reply.Reply.{Reply}
 use Rattle.nx_script.specs.declared.reply.Reply.TheVariants.{Silent, Refused}
 use Rattle.nx_script.specs.declared.reply.Reply.TheVariants as reply
 use Rattle.nx_session.specs.Editing.{IsEdited}
 use Rattle.nx_session.specs.Editor.{SessionState, edit_of}
 use Rattle.nx_session.specs.Reading.{rules_for}
+use Rattle.nx_session.specs.Tagging.{told_by}
 use Rattle.nx_session.specs.Viewing.{whole_edit}
+use Rattle.nx_tags.specs.Answers.{Answers}
+use Rattle.nx_tags.specs.declared.command.TagCommand.{TagCommand}
+use Rattle.nx_tags.specs.declared.command.TagCommand.TheVariants as tags
 
 -- the text is UTF-8, the marks are right for it and the schema, and it is read as far as they tell
 pub record MarksAreRight (now : SessionState) : Type 0 where
@@ -38,6 +43,12 @@ SameMarks old new = new.marks ≡ old.marks
 abbrev pub EditsMarks : Edit → SessionState → Reply → SessionState → Type 0
 EditsMarks edit old (Refused cause) new = SameMarks old new
 EditsMarks edit old reply new = new.marks ≡ edit_kept edit.from edit.to edit.added old.marks
+
+-- the changes of a command on tags are told to the marks, where it is done
+abbrev pub ChangesMarks : TagCommand → SessionState → Reply → SessionState → Type 0
+ChangesMarks command old Silent new =
+    (changes : List Change) × Answers old.editor.text command (Some changes) × (new.marks ≡ told_by changes old.marks)
+ChangesMarks command old reply new = SameMarks old new
 
 -- reading goes on from the marks: those up to the frontier stay, those aside go as far as it is read, each to stand there or since
 -- tokens don't lead to it, and none is saved where none is due
@@ -89,6 +100,10 @@ MarksStep old Position reply new = SameMarks old new
 MarksStep old (View index) reply new = SameMarks old new
 MarksStep old (Close index) reply new = SameMarks old new
 MarksStep old (Make seed pieces) reply new = EditsMarks (whole_edit old.editor new.editor) old reply new
+MarksStep old (Finish at) reply new = ChangesMarks (tags.Finish at) old reply new
+MarksStep old (Split at) reply new = ChangesMarks (tags.Split at) old reply new
+MarksStep old (Pair at name) reply new = ChangesMarks (tags.Pair at name) old reply new
+MarksStep old (Rename at name) reply new = ChangesMarks (tags.Rename at name) old reply new
 
 -- the text is read to its end, as it is behind an `errors` that isn't refused, and so nothing is aside; one edit, which ends before the
 -- text's end, is told; then all is read. So many tokens of the new text lead from the last mark before the edit, or from the start, to

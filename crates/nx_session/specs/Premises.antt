@@ -9,7 +9,7 @@ use Rattle.nx_locate.specs.RulesFiles as rules_files
 use Rattle.nx_script.specs.declared.command.Command.{Command}
 use Rattle.nx_script.specs.declared.command.Command.TheVariants.{Nothing, OpenFile, Save, Insert, Delete, Print, Errors, Slice, Stats}
 use Rattle.nx_script.specs.declared.command.Command.TheVariants.{SchemaFile, SchemaNone, SchemaAuto, Complete, Goto, Move, Next, Previous}
-use Rattle.nx_script.specs.declared.command.Command.TheVariants.{Position, View, Close, Make}
+use Rattle.nx_script.specs.declared.command.Command.TheVariants.{Position, View, Close, Make, Finish, Split, Pair, Rename}
 use Rattle.nx_session.specs.Editor.{EditorState, World, work_folder}
 use Rattle.nx_text.specs.Editing.{IsRange}
 use Rattle.nx_views.specs.States.{ViewState}
@@ -110,6 +110,10 @@ Allows old Position = Unit {0}
 Allows old (View index) = HasView old.views index
 Allows old (Close index) = HasView old.views index
 Allows old (Make seed pieces) = Unit {0}
+Allows old (Finish at) = IsPlace old.editor.text at
+Allows old (Split at) = IsPlace old.editor.text at
+Allows old (Pair at name) = IsPlace old.editor.text at
+Allows old (Rename at name) = IsPlace old.editor.text at
 
 -- whether the command takes memory
 abbrev pub TakesMemory : Command → Type 0
@@ -134,3 +138,7 @@ TakesMemory Position = ⊥
 TakesMemory (View index) = Unit {0}
 TakesMemory (Close index) = ⊥
 TakesMemory (Make seed pieces) = Unit {0}
+TakesMemory (Finish at) = Unit {0}
+TakesMemory (Split at) = Unit {0}
+TakesMemory (Pair at name) = Unit {0}
+TakesMemory (Rename at name) = Unit {0}

@@ -8,7 +8,7 @@ use Rattle.nx_marks.specs.Editing.{place_after}
 use Rattle.nx_marks.specs.Keeping.{next_of}
 use Rattle.nx_marks.specs.Meant.{itself}
 use Rattle.nx_recovery.specs.SameEvents.{SameEventsBehind}
-use Rattle.nx_script.specs.Commands.{HasUtf8Texts}
+use Rattle.nx_script.specs.Commands.{HasFitTexts}
 use Rattle.nx_script.specs.declared.command.Command.{Command}
 use Rattle.nx_script.specs.declared.command.Command.TheVariants as command
 use Rattle.nx_script.specs.declared.reply.Reply.{Reply}
@@ -44,7 +44,7 @@ pub record EditBetweenErrors (read edited again : SessionState) (from to : ℕ) 
   pub reads : Applies first command.Errors (reply.Errors faults) read
   pub given : Command
   pub is_edit : IsInsertOrDelete given from to added
-  pub utf8 : HasUtf8Texts given
+  pub utf8 : HasFitTexts given
   pub edits : Applies read given reply.Silent edited
   pub faults_again : List Fault
   pub rereads : Applies edited command.Errors (reply.Errors faults_again) again

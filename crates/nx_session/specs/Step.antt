@@ -4,7 +4,7 @@ use Rattle.nx_script.specs.Grammar.{IsLine}
 use Rattle.nx_script.specs.declared.command.Command.{Command}
 use Rattle.nx_script.specs.declared.command.Command.TheVariants.{Nothing, OpenFile, Save, Insert, Delete, Print, Errors, Slice, Stats}
 use Rattle.nx_script.specs.declared.command.Command.TheVariants.{SchemaFile, SchemaNone, SchemaAuto, Complete, Goto, Move, Next, Previous}
-use Rattle.nx_script.specs.declared.command.Command.TheVariants.{Position, View, Close, Make}
+use Rattle.nx_script.specs.declared.command.Command.TheVariants.{Position, View, Close, Make, Finish, Split, Pair, Rename}
 use Rattle.nx_script.specs.declared.reply.Reply.{Reply}
 use Rattle.nx_script.specs.declared.reply.Reply.TheVariants.{Silent, Refused}
 use Rattle.nx_script.specs.declared.reply.Refusal.{Refusal}
@@ -17,8 +17,10 @@ use Rattle.nx_session.specs.Documents.{OpenStep, SaveStep, MakeStep}
 use Rattle.nx_session.specs.Locating.{SchemaAutoStep}
 use Rattle.nx_session.specs.Moving.{GotoStep, NextStep, PreviousStep, PositionStep, MoveStep}
 use Rattle.nx_session.specs.Schemas.{SchemaFileStep, HoldStep}
+use Rattle.nx_session.specs.Tagging.{TagStep}
 use Rattle.nx_session.specs.Validating.{ErrorsStep, SliceStep, StatsStep}
 use Rattle.nx_session.specs.Viewing.{MovesViews, whole_edit, ShowsViews, ViewStep, CloseStep}
+use Rattle.nx_tags.specs.declared.command.TagCommand.TheVariants as tags
 use Rattle.nx_views.specs.States.{ViewState}
 
 -- a line that is passed over
@@ -60,6 +62,11 @@ OnTokens step old reply new =
 abbrev pub OnTags : (EditorState → Reply → EditorState → Type 0) → World → Reply → World → Type 0
 OnTags step old reply new = step old.editor reply new.editor × (new.files ≡ old.files) × (new.views ≡ old.views)
 
+-- a step of a command on the editor and the views for which tokens are cut, however many
+abbrev pub OnTagsAndViews : (EditorState → List ViewState → Reply → EditorState → List ViewState → Type 0) → World → Reply → World →
+    Type 0
+OnTagsAndViews step old reply new = step old.editor old.views reply new.editor new.views × (new.files ≡ old.files)
+
 -- a step of a command that cuts tokens, and shows the faults that it finds
 abbrev pub OnFaults : (EditorState → ℕ → Reply → EditorState → ℕ → Type 0) → World → Reply → World → Type 0
 OnFaults step old reply new =
@@ -93,6 +100,10 @@ Step old Position reply new = OnEditor PositionStep old reply new
 Step old (View index) reply new = OnViews (ViewStep index) old reply new
 Step old (Close index) reply new = OnViews (CloseStep index) old reply new
 Step old (Make seed pieces) reply new = OnText (MakeStep seed pieces) (whole_edit old.editor new.editor) old reply new
+Step old (Finish at) reply new = OnTagsAndViews (TagStep (tags.Finish at)) old reply new
+Step old (Split at) reply new = OnTagsAndViews (TagStep (tags.Split at)) old reply new
+Step old (Pair at name) reply new = OnTagsAndViews (TagStep (tags.Pair at name)) old reply new
+Step old (Rename at name) reply new = OnTagsAndViews (TagStep (tags.Rename at name)) old reply new
 
 -- the text, the caret, the document's URI, the schema and the rules are as before
 pub record SameDocument (old new : EditorState) : Type 0 where

@@ -5,10 +5,14 @@ ghost use Rattle.nx_session.specs.Faults.{TextsGiveText};
 ghost use Rattle.nx_session.specs.Marks.{OneEditTakesFew};
 ghost use Rattle.nx_session.specs.Rereading.{RereadingSameEventsTakesFew, RereadingTakesFew};
 ghost use Rattle.nx_session.specs.Step.{RefusalsLeaveTheDocument};
+ghost use Rattle.nx_session.specs.TagFaults.{TagsTouchFewFaults};
 ghost use Rattle.nx_session.specs.Validity.{NoErrorsIsValid};
 
 use nx_host::uri::joins_is_decided;
+use nx_recovery::law::{recovery_is_one, same_events_have_item_faults};
+use nx_scan::border::tokens_join;
 use nx_script::read::lines_are_one_command;
+use nx_tags::law::{renaming_gives, renaming_keeps_events};
 use rng_simplify::law::{composed_are_passed, simplified_is_not_broken};
 
 /// A refused command leaves the text, the caret, the document's URI and the schema.
@@ -44,6 +48,18 @@ pub fn allowed_lines_are_done()
 pub fn no_errors_is_valid()
     ensures { NoErrorsIsValid }
 {}
+
+/// Where the faults of a text are all of elements that aren't closed, a `finish` at its end that is done leaves one fewer; and where it has
+/// none, a `rename` to a name that resolves to the same leaves none.
+pub fn tags_touch_few_faults()
+    ensures { TagsTouchFewFaults }
+{
+    tokens_join();
+    same_events_have_item_faults();
+    recovery_is_one();
+    renaming_gives();
+    renaming_keeps_events();
+}
 
 /// No command lowers the count of the files' faults.
 pub fn faults_are_counted()

@@ -2,13 +2,14 @@
 
 ghost use Rattle.std.specs.Prelude.{◌≡◌, codes, length, map, is_some, IfOk, None};
 ghost use Rattle.nx_marks.specs.Starting.{started};
-ghost use Rattle.nx_script.specs.Commands.{HasUtf8Texts};
+ghost use Rattle.nx_script.specs.Commands.{HasFitTexts};
 ghost use Rattle.nx_script.specs.Replies.{reply_of, ReplyIsText};
 ghost use Rattle.nx_session.specs.Editor.{new_editor, files_state, world};
 ghost use Rattle.nx_session.specs.Held.{IsWellHeld};
 ghost use Rattle.nx_session.specs.Marks.{MarksAreRight, MarksStep};
 ghost use Rattle.nx_session.specs.Reading.{rules_for};
 ghost use Rattle.nx_session.specs.Step.{Step};
+ghost use Rattle.nx_session.specs.TagFaults.{TakesOneFault, KeepsNoFaults};
 ghost use Rattle.nx_session.specs.Viewing.{ViewsAreText};
 
 mod asking;
@@ -18,10 +19,13 @@ mod locating;
 mod moving;
 mod reading;
 mod schemas;
+mod tagging;
+mod telling;
 mod validating;
 mod viewing;
 
 use crate::document_uri::DocumentUri;
+use crate::law::tags_touch_few_faults;
 use deriv_pool::pool::Pool;
 use nx_base::memory::NoMemory;
 use nx_base::sequence::Bytes;
@@ -161,16 +165,20 @@ impl Session {
         views: &mut Vec<Box<dyn View>>,
         steps: &mut Steps<L>,
     ) -> Reply
-        requires { HasUtf8Texts command.now }
+        requires { HasFitTexts command.now }
         ensures step { Step (world self.old.editor (files_state (F.told files.old) (F.faults files.old))
             (map (λ b. state b) views.old.items) steps.old) command.now result
             (world self.new.editor (files_state (F.told files.new) (F.faults files.new)) (map (λ b. state b) views.new.items) steps.new) }
         ensures marks { MarksStep self.old command.now result self.new }
         ensures right { MarksAreRight self.new }
         ensures held { IsWellHeld self.new }
+        ensures finish { TakesOneFault self.old.editor command.now result self.new.editor }
+        ensures rename { KeepsNoFaults self.old.editor command.now result self.new.editor }
         ensures text { ViewsAreText (map (λ b. state b) views.old.items) → ReplyIsText result }
         ensures views { ViewsAreText (map (λ b. state b) views.old.items) → ViewsAreText (map (λ b. state b) views.new.items) }
     {
+        tags_touch_few_faults();
+        self.reads_right();
         let answer = self.answer(command, files, views, steps);
         self.reads_right();
         match answer {
@@ -196,7 +204,7 @@ impl Session {
         views: &mut Vec<Box<dyn View>>,
         steps: &mut Steps<L>,
     ) -> Result<Reply, Refusal>
-        requires { HasUtf8Texts command.now }
+        requires { HasFitTexts command.now }
         ensures step { Step (world self.old.editor (files_state (F.told files.old) (F.faults files.old))
             (map (λ b. state b) views.old.items) steps.old) command.now
             (reply_of result) (world self.new.editor (files_state (F.told files.new) (F.faults files.new))
@@ -227,6 +235,10 @@ impl Session {
             Command::View(index) => self.show_view(*index, views),
             Command::Close(index) => self.close_view(*index, views),
             Command::Make(seed, pieces) => self.make(*seed, *pieces, views),
+            Command::Finish(at) => self.finish(*at, views, steps),
+            Command::Split(at) => self.split(*at, views, steps),
+            Command::Pair(at, name) => self.pair(*at, name, views, steps),
+            Command::Rename(at, name) => self.rename(*at, name, views, steps),
         }
     }
 }

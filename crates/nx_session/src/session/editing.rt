@@ -21,7 +21,7 @@ use nx_views::shift::shift_all;
 use nx_views::view::View;
 
 /// Where a caret goes with an edit: with the text, but it stays where text is put in at it.
-fn moved_caret(caret: usize, edit: &Edit) -> usize
+pub(super) fn moved_caret(caret: usize, edit: &Edit) -> usize
     ensures { result ≡ caret_after edit.now caret }
 {
     if caret == edit.from {

@@ -14,11 +14,15 @@ ghost use Rattle.nx_recover.specs.Faults.{AreFaultsOf};
 ghost use Rattle.nx_script.specs.Replies.{OffersAreText};
 ghost use Rattle.nx_session.specs.Asking.{AreOffersAt};
 ghost use Rattle.nx_session.specs.Reading.{grammar_of, followed, meant, rules_for, IsWellKept};
+ghost use Rattle.nx_session.specs.Telling.{FitsThen};
+ghost use Rattle.nx_tags.specs.Answers.{Answers, PutsInQName, place_of};
+ghost use Rattle.nx_text.specs.Changing.{AreChanges};
 ghost use Rattle.rng_core.specs.Meaning.{language_of};
 ghost use Rattle.rng_core.specs.Soundness.{IsSound};
 ghost use Rattle.rng_kept.specs.Live.{IsLive};
 
 use deriv_pool::pool::Pool;
+use nx_base::change::Changes;
 use nx_base::fault::Faults;
 use nx_base::memory::NoMemory;
 use nx_base::offer::Offers;
@@ -31,6 +35,7 @@ use nx_marks::law::{
 };
 use nx_marks::marks::Marks;
 use nx_recover::recover::Recover;
+use nx_tags::{TagCommand, changes_from};
 use nx_text::text::Text;
 use std::alloc::Global;
 use std::sync::ledger::Ledger;
@@ -135,6 +140,27 @@ pub(super) fn found(
     let len = text.len();
     let faults = marks.faults(machine, len)?;
     Ok(faults)
+}
+
+/// What a command on tags changes. Reading goes on from the last mark in front of its place, or at the start.
+pub(super) fn tag_changes<L: Ledger>(
+    alloc: Global,
+    machine: &Recover<Pool>,
+    marks: &Marks<Recover<Pool>>,
+    text: &Text,
+    command: &TagCommand,
+    steps: &mut Steps<L>,
+) -> Result<Option<Changes>, NoMemory>
+    requires well { IsWellKept text.now machine.now.matcher marks.now.kept }
+    requires place { IsPlace text.now (place_of command.now) }
+    requires name { PutsInQName command.now }
+    ensures answer { IfOk result (Answers text.now command.now) }
+    ensures changes { IfOk result (λ found. IfSome found (AreChanges text.now)) }
+    ensures fit { IfOk result (λ found. IfSome found (FitsThen text.now)) }
+{
+    let _len = text.len();
+    let (from, state) = marks.mark_before(machine, command.place().saturating_sub(1))?;
+    changes_from(alloc, text, from, &state.events, command, steps)
 }
 
 /// What may stand at a place of the text. Reading goes on from the last mark in front of it, or at the start.

@@ -1,6 +1,9 @@
-use Rattle.std.proofs.Common.{◌≡◌, ◌++◌, take}
+use Rattle.std.proofs.Common.{◌≡◌, ◌++◌, length}
 use Rattle.nx_script.specs.Escapes.{printed_text}
 use Rattle.nx_script.proofs.escape.push_text.Given as goal
 
 abbrev pub invariant-loop-byte : goal.invariant-loop-byte
-invariant-loop-byte l = l.out.items ≡ l.fn.out.items ++ printed_text (take l.byte-index l.text)
+invariant-loop-byte l = l.out.items ++ printed_text l.left ≡ l.fn.out.items ++ printed_text l.text
+
+abbrev pub decreases-loop-byte : goal.decreases-loop-byte
+decreases-loop-byte l = length l.left
