@@ -1,6 +1,6 @@
 //! Schemas that break a restriction of ISO/IEC 19757-2, section 10, and schemas that come near to it.
 
-use crate::tests::{is_as_told, run_words};
+use crate::playing::{is_as_told, run_words};
 use nx_base::memory::NoMemory;
 use nx_host::memory_files::SureFiles;
 use nx_host::memory_out::SureOut;

@@ -1,6 +1,7 @@
 //! What is told behind an edit is what is told of the edited text in a new session.
 
-use crate::tests::{files_with, run_words};
+use crate::documents::files_with;
+use crate::playing::run_words;
 use nx_host::memory_out::SureOut;
 use nx_run::status::Status;
 use std::alloc::Global;
@@ -56,5 +57,72 @@ fn an_edit_anywhere_is_told_as_anew(rt: HostRuntime) {
     assert!(rt; FORTY.len() == 167);
     for at in 0..168usize {
         assert!(rt; tells_as_anew(rt.alloc(), at), "{at}");
+    }
+}
+
+/// A document as a user has it.
+const DOCUMENT: &str =
+    "<?xml version=\"1.0\" encoding=\"UTF-8\"?>\n<?xml-stylesheet type='text/css' href='s.css'?>\n<!-- c -->\n<doc id='a'>\n  \
+<title>A &amp; B</title>\n  <para>x &#233; <![CDATA[<y>]]></para>\n</doc>\n";
+
+/// A part of the document as a text of a script.
+fn escaped(alloc: Global, from: usize, to: usize) -> Option<String> {
+    let part = DOCUMENT.get(from..to)?;
+    let quotes = part.replace(alloc, "\"", "\\\"").ok()?;
+    quotes.replace(alloc, "\n", "\\n").ok()
+}
+
+/// The document's first bytes are put in in two parts, and read in between.
+fn in_two_parts(alloc: Global, at: usize, len: usize) -> Option<String> {
+    let front = escaped(alloc, 0, at)?;
+    let back = escaped(alloc, at, len)?;
+    format!(in alloc;
+        "schema \"s1.rnc\"\ninsert 0 \"{front}\"\nerrors\ninsert {at} \"{back}\"\nerrors\n"
+    ).ok()
+}
+
+/// They are put in at once.
+fn at_once(alloc: Global, len: usize) -> Option<String> {
+    let whole = escaped(alloc, 0, len)?;
+    format!(in alloc; "schema \"s1.rnc\"\ninsert 0 \"{whole}\"\nerrors\n").ok()
+}
+
+/// Whether what is printed of the two parts ends with that list.
+fn ends_with_list(alloc: Global, at: usize, len: usize, list: &[u8]) -> bool {
+    let Some(script) = in_two_parts(alloc, at, len) else {
+        return false;
+    };
+    match printed(alloc, script.as_str()) {
+        Some(out) => out.bytes().ends_with(list),
+        None => false,
+    }
+}
+
+/// Whether the list is the same wherever those bytes are cut.
+fn all_cuts_end_with(alloc: Global, len: usize, list: &[u8]) -> bool {
+    for at in 0..=len {
+        if !ends_with_list(alloc, at, len, list) {
+            return false;
+        }
+    }
+    list.starts_with(b"errors: ")
+}
+
+fn tells_fronts_alike(alloc: Global, len: usize) -> bool {
+    let Some(script) = at_once(alloc, len) else {
+        return false;
+    };
+    match printed(alloc, script.as_str()) {
+        Some(out) => all_cuts_end_with(alloc, len, out.bytes()),
+        None => false,
+    }
+}
+
+/// A list begins with a line of its own, so an output that ends with one has it last.
+#[test]
+fn a_front_in_two_parts_is_told_as_one(rt: HostRuntime) {
+    assert!(rt; DOCUMENT.len() == 185);
+    for len in 0..186usize {
+        assert!(rt; tells_fronts_alike(rt.alloc(), len), "{len}");
     }
 }

@@ -2,7 +2,8 @@
 
 ghost use Rattle.std.specs.Prelude.{◌≡◌, ◌<◌};
 
-use crate::tests::{files_with, is_as_told, words_of};
+use crate::documents::files_with;
+use crate::playing::{is_as_told, words_of};
 use nx_base::sequence::Bytes;
 use nx_base::steps::Steps;
 use nx_host::memory_files::SureFiles;

@@ -2,7 +2,6 @@
 
 ghost use Rattle.std.specs.Prelude.{◌≡◌, ◌<◌};
 
-use crate::let_go;
 use nx_base::memory::NoMemory;
 use nx_base::steps::Steps;
 use nx_host::memory_files::SureFiles;
@@ -17,7 +16,7 @@ use std::sync::ledger::{Blank, Ledger};
 use std::test::Fail;
 
 /// Lines, how long the text is behind each, where the caret is, and whether a schema is held.
-const LINES: [(&str, usize, usize, bool); 31] = [
+const LINES: [(&str, usize, usize, bool); 40] = [
     ("insert 0 \"é<b>\"", 5, 0, false),
     ("slice 1", 5, 0, false),
     ("goto 3", 5, 3, false),
@@ -48,7 +47,16 @@ const LINES: [(&str, usize, usize, bool); 31] = [
     ("schema \"d.xml\"", 5, 1, true),
     ("make 7 1", 76, 0, true),
     ("schema none", 76, 0, false),
-    ("# nothing", 76, 0, false),
+    ("open \"d.xml\"", 5, 0, false),
+    ("insert 0 \"<a>é</a>\"", 14, 0, false),
+    ("goto 5", 14, 5, false),
+    ("finish 4", 14, 5, false),
+    ("pair 5 \"p:q\"", 25, 5, false),
+    ("rename 0 \"bcd\"", 29, 7, false),
+    ("split 7", 29, 7, false),
+    ("finish 7", 35, 7, false),
+    ("pair 0 \"x\"", 35, 7, false),
+    ("# nothing", 35, 7, false),
 ];
 
 /// Carries one line out; its reply is looked at by whole runs.
@@ -118,6 +126,9 @@ fn plays_in<R: Abort, L: Ledger>(
     all_behind(rt, alloc, session, &mut files, &mut views, steps);
     Ok(())
 }
+
+/// Lets a session go. That is dear to prove, for all that it holds, so it is done here alone.
+fn let_go(_session: Session) {}
 
 fn plays<R: Abort, L: Ledger>(rt: &R, alloc: Global, blank: Blank) -> Result<(), NoMemory>
     requires name { blank.name ≡ L.name }

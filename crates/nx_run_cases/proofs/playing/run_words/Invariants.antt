@@ -1,4 +1,4 @@
-use Rattle.nx_run_cases.proofs.tests.run_words.Given as goal
+use Rattle.nx_run_cases.proofs.playing.run_words.Given as goal
 
 abbrev pub ghosts-run_counting : goal.ghosts-run_counting
 ghosts-run_counting g a = record { name = a.blank.name; parts = a.blank.parts }
