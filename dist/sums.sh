@@ -30,25 +30,27 @@ add_crate() {
 }
 
 # The folders of what a program is made of, and the list of crates, from the repository's folder.
-source_places() {
-  local crate part
+source_places() (
+  cd "$top" >/dev/null || exit 1
   echo crates.txt
   for crate in "${crates[@]}"; do
     for part in src specs proofs; do
-      [[ ! -d $top/crates/$crate/$part ]] || echo "crates/$crate/$part"
+      [[ ! -d crates/$crate/$part ]] || echo "crates/$crate/$part"
     done
   done
-}
+)
 
 # All files and folders of what a program is made of, each ended by a null character.
 list_sources() (
-  cd "$top" || exit 1
+  cd "$top" >/dev/null || exit 1
+  top=.
   source_places | xargs -d '\n' -I{} find {} -print0
 )
 
 # One sum over all that a program is made of: the names and the bytes of its code, definitions and proofs.
 sum_of_sources() (
-  cd "$top" || exit 1
+  cd "$top" >/dev/null || exit 1
+  top=.
   source_places | xargs -d '\n' -I{} find {} -type f \( -name '*.rt' -o -name '*.antt' -o -name crates.txt \) |
     LC_ALL=C sort | xargs -d '\n' sha256sum | sha256sum | cut -d' ' -f1
 )
