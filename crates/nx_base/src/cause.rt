@@ -12,12 +12,16 @@ pub enum Cause {
     BadCharacter,
     /// Tokens that are in no reading of the grammar (Annex C.2).
     Syntax,
-    /// 201 brackets that are open at once.
+    /// 201 brackets, or elements of the XML syntax, that are open at once.
     TooDeep,
     /// A prefix that nothing declares (Annex C.3).
     UndeclaredPrefix,
     /// A prefix that is declared twice, or that may not be declared so (Annex C.3).
     Twice,
+    /// A file in the XML syntax that is no well-formed document (3).
+    BadMarkup,
+    /// Elements that are in no reading of the XML syntax (3, Annex A).
+    BadForm,
     /// An included file that is no grammar (7.8).
     NotGrammar,
     /// A file that refers to itself through a chain (7.7, 7.8).

@@ -17,6 +17,8 @@ pub(crate) fn cause_name(why: Cause) -> &'static str
         Cause::TooDeep => "TooDeep",
         Cause::UndeclaredPrefix => "UndeclaredPrefix",
         Cause::Twice => "Twice",
+        Cause::BadMarkup => "BadMarkup",
+        Cause::BadForm => "BadForm",
         Cause::NotGrammar => "NotGrammar",
         Cause::IncludeLoop => "IncludeLoop",
         Cause::NoDefinition => "NoDefinition",
