@@ -1,8 +1,8 @@
 //! Three views that keep the list that they show.
 
-ghost use Rattle.std.specs.Prelude.{◌≡◌, ◌↔◌, ◌+◌, ◌-◌, ◌≤◌, false, insert, length, OnOk, IsErrOf};
+ghost use Rattle.std.specs.Prelude.{◌≡◌, ◌↔◌, ◌+◌, ◌-◌, ◌≤◌, ◌++◌, false, insert, take, drop, length, OnOk, IsErrOf};
 ghost use Rattle.nx_views.specs.Panes.{fault_pane, limited_pane, refusing_pane, new_pane, new_limited_pane, BearsNone};
-ghost use Rattle.nx_views.specs.States.{AfterPuts};
+ghost use Rattle.nx_views.specs.States.{AfterPuts, closed, moved_view, showing};
 
 use crate::view::{View, ViewFault};
 use nx_base::edit::Edit;
@@ -172,7 +172,10 @@ impl View for RefusingPane {
         self.pane.is_live()
     }
 
-    fn close(&mut self) {
+    fn close(&mut self)
+        ensures state { refusing_pane self.new ≡ closed (refusing_pane self.old) }
+        ensures counts { self.new.refused ≡ self.old.refused }
+    {
         self.pane.close();
     }
 
@@ -194,11 +197,19 @@ impl View for RefusingPane {
         self.pane.put(i, fault)
     }
 
-    fn cut(&mut self, from: usize, to: usize) {
+    fn cut(&mut self, from: usize, to: usize)
+        requires ordered { from ≤ to }
+        requires within { to ≤ length (refusing_pane self.old).list }
+        ensures state { refusing_pane self.new ≡ showing (take from (refusing_pane self.old).list ++ drop to (refusing_pane self.old).list) (refusing_pane self.old) }
+        ensures counts { self.new.refused ≡ self.old.refused }
+    {
         self.pane.cut(from, to);
     }
 
-    fn shift(&mut self, edit: &Edit) {
+    fn shift(&mut self, edit: &Edit)
+        ensures state { refusing_pane self.new ≡ moved_view edit.now (refusing_pane self.old) }
+        ensures counts { self.new.refused ≡ self.old.refused }
+    {
         self.pane.shift(edit);
     }
 }
