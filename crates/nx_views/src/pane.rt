@@ -200,7 +200,8 @@ impl View for RefusingPane {
     fn cut(&mut self, from: usize, to: usize)
         requires ordered { from ≤ to }
         requires within { to ≤ length (refusing_pane self.old).list }
-        ensures state { refusing_pane self.new ≡ showing (take from (refusing_pane self.old).list ++ drop to (refusing_pane self.old).list) (refusing_pane self.old) }
+        ensures state { refusing_pane self.new
+            ≡ showing (take from (refusing_pane self.old).list ++ drop to (refusing_pane self.old).list) (refusing_pane self.old) }
         ensures counts { self.new.refused ≡ self.old.refused }
     {
         self.pane.cut(from, to);
