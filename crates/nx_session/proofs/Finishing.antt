@@ -27,20 +27,20 @@ use Rattle.nx_events.specs.declared.state.EventState.{EventState}
 use Rattle.nx_events.specs.declared.state.OpenElement.{OpenElement}
 use Rattle.nx_recover.specs.Behind.{items_through}
 use Rattle.nx_scan.specs.Borders.{TokensJoin}
-use Rattle.nx_tags.proofs.Around.{not_cut_before, parted-kept, ending-in}
+use Rattle.nx_tags.proofs.Around.{not_cut_before, cut_at-kept, ending-in}
 use Rattle.nx_tags.proofs.Insertions.{finishing, name_is}
 use Rattle.nx_tags.proofs.TagItems.{LastOf, last_open, ended}
-use Rattle.nx_tags.specs.Answers.{innermost_at}
+use Rattle.nx_tags.specs.Answers.{innermost_name_at}
 use Rattle.nx_tags.specs.Changing.{end_tag}
 use Rattle.nx_tags.specs.Free.{IsFree}
 use Rattle.nx_tags.specs.Given.{end_token}
-use Rattle.nx_tags.specs.Parts.{parted, ending_by, beginning_at, in_front, at_back, state_at}
+use Rattle.nx_tags.specs.Parts.{cut_at, ending_by, beginning_at, in_front, beyond, state_at}
 
 -- ---- all tokens lie in front of the end
 
 record LieBefore (len at : ℕ) (tokens : List Token) : Type 0 where
   within : at ≤ len
-  kept : parted len tokens ≡ tokens
+  kept : cut_at len tokens ≡ tokens
   all : ending_by len tokens ≡ tokens
   none : beginning_at len tokens ≡ []
 
@@ -56,7 +56,7 @@ lie_before len at (t ∷ tokens) lie some =
     let begins : t.from < len = omega arith in
     record {
       within = omega arith;
-      kept = parted-kept len t tokens (not_cut_before len t ends) ∙ ap (λ ts. t ∷ ts) rest.kept;
+      kept = cut_at-kept len t tokens (not_cut_before len t ends) ∙ ap (λ ts. t ∷ ts) rest.kept;
       all = ending-in len t tokens ends ∙ ap (λ ts. t ∷ ts) rest.all;
       none = rw (lt-leb len t.from begins) rest.none;
     }
@@ -152,7 +152,7 @@ module _ (join : TokensJoin) (text : List ℕ) (utf8 : IsUtf8 text) (place : IsP
   len = length text
 
   abbrev after : List ℕ
-  after = edited text len len (end_tag (innermost_at text len))
+  after = edited text len len (end_tag (innermost_name_at text len))
 
   before : LieBefore len 0 (tokens_of text)
   before = let all = join text utf8 in lie_before len 0 (tokens_of text) all.1 all.2
@@ -160,17 +160,17 @@ module _ (join : TokensJoin) (text : List ℕ) (utf8 : IsUtf8 text) (place : IsP
   front_is : in_front text len ≡ tokens_of text
   front_is = ap (ending_by len) before.kept ∙ before.all
 
-  back_is : at_back text len ≡ []
+  back_is : beyond text len ≡ []
   back_is = ap (beginning_at len) before.kept ∙ before.none
 
   abbrev tag : Token
-  tag = end_token len (innermost_at text len)
+  tag = end_token len (innermost_name_at text len)
 
   tokens_are : tokens_of after ≡ tokens_of text ++ tag ∷ []
   tokens_are =
       (finishing text len utf8 place free).tokens
-      ∙ ap (λ ts. ts ++ (tag ∷ map (placed_token (length (end_tag (innermost_at text len)))) (at_back text len))) front_is
-      ∙ ap (λ ts. tokens_of text ++ (tag ∷ map (placed_token (length (end_tag (innermost_at text len)))) ts)) back_is
+      ∙ ap (λ ts. ts ++ (tag ∷ map (placed_token (length (end_tag (innermost_name_at text len)))) (beyond text len))) front_is
+      ∙ ap (λ ts. tokens_of text ++ (tag ∷ map (placed_token (length (end_tag (innermost_name_at text len)))) ts)) back_is
 
   abbrev state : EventState
   state = state_after first_state (tokens_of text)
@@ -212,7 +212,7 @@ module _ (join : TokensJoin) (text : List ℕ) (utf8 : IsUtf8 text) (place : IsP
 
   behind_is : behind ≡ record state { elements = last.outer; scope = behind.scope; came = true; run = None }
   behind_is =
-      let is = ended state len (innermost_at text len) (name_is text len utf8 place free) last.outer last.innermost elements_are (sym last.name) in
+      let is = ended state len (innermost_name_at text len) (name_is text len utf8 place free) last.outer last.innermost elements_are (sym last.name) in
       is ∙ ap (λ scope. record state { elements = last.outer; scope = scope; came = true; run = None }) (sym (ap (λ (s : EventState). s.scope) is))
 
   old_end : items_at_end state len ≡ at_the_end (run_items len state.run) span (token_span tag) span_after last.innermost (reverse last.outer) (is_before state)

@@ -27,7 +27,7 @@ use Rattle.nx_session.proofs.QNames.{tag_name}
 use Rattle.nx_script.specs.declared.command.Command.TheVariants.{Finish, Rename}
 use Rattle.nx_script.specs.declared.reply.Reply.TheVariants.{Silent}
 use Rattle.nx_tags.proofs.QNames.{qname_is_name}
-use Rattle.nx_tags.specs.Answers.{Renames, innermost_at}
+use Rattle.nx_tags.specs.Answers.{Renames, innermost_name_at}
 use Rattle.nx_tags.specs.Changing.{inserting, end_tag}
 use Rattle.nx_tags.specs.Free.{IsFree}
 use Rattle.nx_tags.specs.Renamed.{IsRenamed, resolved_in, RenamingGives, RenamingKeepsEvents}
@@ -68,14 +68,14 @@ unclosed_own (fault ∷ faults) h = ((λ against. subst IsAgainstSchema h.0 agai
 one_fewer : TokensJoin → SameEventsHaveItemFaults → RecoveryIsOne → (schema : Option Language) (text : List ℕ) (at : ℕ) (faults left : List Fault)
     → IsUtf8 text → IsPlace text at
     → IsFree text at → at ≡ length text → AreFaultsOf schema text faults → AreOfUnclosedElements faults
-    → AreFaultsOf schema (edited text at at (end_tag (innermost_at text at))) left → length left + 1 ≡ length faults
+    → AreFaultsOf schema (edited text at at (end_tag (innermost_name_at text at))) left → length left + 1 ≡ length faults
 one_fewer join own one schema text at faults left utf8 place free end are unclosed then_are =
     let P : ℕ → Type 0 = λ n. IsPlace text n in
     let F : ℕ → Type 0 = λ n. IsFree text n in
-    let A : ℕ → Type 0 = λ n. AreFaultsOf schema (edited text n n (end_tag (innermost_at text n))) left in
-    let takes : TakesOne text (edited text (length text) (length text) (end_tag (innermost_at text (length text)))) =
+    let A : ℕ → Type 0 = λ n. AreFaultsOf schema (edited text n n (end_tag (innermost_name_at text n))) left in
+    let takes : TakesOne text (edited text (length text) (length text) (end_tag (innermost_name_at text (length text)))) =
     takes_one join text utf8 (subst P end place) (subst F end free) in
-    let after : List ℕ = edited text (length text) (length text) (end_tag (innermost_at text (length text))) in
+    let after : List ℕ = edited text (length text) (length text) (end_tag (innermost_name_at text (length text))) in
     let both = own schema text after faults are (unclosed_own faults unclosed) takes.events in
     let same = one schema after left (faults_among (items_of_text after)) (subst A end then_are) both.1 in
     let fewer = takes.fewer in
@@ -85,7 +85,7 @@ one_fewer join own one schema text at faults left utf8 place free end are unclos
 
 pub finish_takes_one : TokensJoin → SameEventsHaveItemFaults → RecoveryIsOne → (old new : EditorState) (at : ℕ) (changes : List Change)
     → IsUtf8 old.text → IsPlace old.text at
-    → IsFree old.text at → changes ≡ inserting at (end_tag (innermost_at old.text at)) ∷ [] → AreMade changes old new → TakesOneFault old (Finish at) Silent new
+    → IsFree old.text at → changes ≡ inserting at (end_tag (innermost_name_at old.text at)) ∷ [] → AreMade changes old new → TakesOneFault old (Finish at) Silent new
 finish_takes_one join own one old new at changes utf8 place free is made = λ faults left end are unclosed then_are.
     let A : List Change → Type 0 = λ cs. AreFaultsOf (schema_of old) (changed old.text cs) left in
     one_fewer join own one (schema_of old) old.text at faults left utf8 place free end are unclosed (subst A is (told_here old new changes left made then_are))

@@ -1,4 +1,4 @@
--- Whether the innermost element may be parted, and an answer by its changes.
+-- Whether the innermost element may be split, and an answer by its changes.
 use Rattle.std.proofs.Common.{◌≡◌, ◌≢◌, ℕ, suc, ◌+◌, ◌-◌, ◌<◌, ◌≤◌, Bool, true, false, inl, inr, Option, Some, None, List, [], ◌∷◌, ◌++◌, length}
 use Rattle.std.proofs.Common.{refl, sym, ◌∙◌, ap, subst, arith, length-append}
 use Rattle.std.specs.Prelude.{◌↔◌, not, IsTrue, IfOk, Result, Ok, Err}
@@ -16,7 +16,7 @@ use Rattle.nx_events.specs.declared.tag.Attribute.{Attribute}
 use Rattle.nx_events.proofs.OpenTags.{leaves_one}
 use Rattle.nx_tags.specs.Answers.{IfDone, Renames, IfRenamed}
 use Rattle.nx_tags.specs.Changing.{inserting}
-use Rattle.nx_tags.specs.Elements.{MayBeParted}
+use Rattle.nx_tags.specs.Elements.{MayBeSplit}
 use Rattle.nx_tags.specs.Free.{IsFree}
 use Rattle.nx_tags.specs.Parts.{in_front, state_at}
 use Rattle.nx_tags.specs.Reading.{IsInnermostTag}
@@ -24,7 +24,7 @@ use Rattle.nx_tags.proofs.Around.{front_lies}
 use Rattle.nx_tags.proofs.Insertions.{text_alone}
 use Rattle.nx_tags.proofs.Opened.{counted}
 
--- ---- whether the innermost element may be parted
+-- ---- whether the innermost element may be split
 
 last_same : (xs ys : List Token) (x y : Token) → xs ++ x ∷ [] ≡ ys ++ y ∷ [] → x ≡ y
 last_same [] [] x y e = cc
@@ -40,22 +40,22 @@ declares tag = list_any (λ (it : Attribute). is_declaration it.name) (tag_attri
 module _ (text : List ℕ) (at : ℕ) (utf8 : IsUtf8 text) (place : IsPlace text at) (free : IsFree text at) where
   pub depth_is : (tags run : List Token) → Leaves (in_front text at) tags run → length (state_at text at).elements ≡ length tags
   depth_is tags run leaves =
-      counted (in_front text at) tags run at (front_lies text at utf8 place (text_alone (state_at text at) at (tokens_of text) free.parted)) leaves
+      counted (in_front text at) tags run at (front_lies text at utf8 place (text_alone (state_at text at) at (tokens_of text) free.cut_well)) leaves
 
-  pub too_few : length (state_at text at).elements < 2 → MayBeParted text at → ⊥
+  pub too_few : length (state_at text at).elements < 2 → MayBeSplit text at → ⊥
   too_few few may =
       let depth = depth_is (may.outer ++ may.tag ∷ []) may.run may.opened in
       let len = length-append may.outer (may.tag ∷ []) in
       let around = may.around in
       omega arith
 
-  pub may_part : (tag : Token) → IsInnermostTag text at tag → 2 ≤ length (state_at text at).elements → declares tag ≡ false → MayBeParted text at
+  pub may_part : (tag : Token) → IsInnermostTag text at tag → 2 ≤ length (state_at text at).elements → declares tag ≡ false → MayBeSplit text at
   may_part tag is enough none =
       let depth = depth_is (is.outer ++ tag ∷ []) is.run is.leaves in
       let len = length-append is.outer (tag ∷ []) in
       record { free = free; outer = is.outer; tag = tag; run = is.run; opened = is.leaves; around = omega arith; declares_nothing = none }
 
-  pub may_not : (tag : Token) → IsInnermostTag text at tag → declares tag ≡ true → MayBeParted text at → ⊥
+  pub may_not : (tag : Token) → IsInnermostTag text at tag → declares tag ≡ true → MayBeSplit text at → ⊥
   may_not tag is some may =
       let both = leaves_one (in_front text at) (is.outer ++ tag ∷ []) is.run (may.outer ++ may.tag ∷ []) may.run is.leaves may.opened in
       let same : may.tag ≡ tag = last_same may.outer is.outer may.tag tag both.0 in
@@ -63,7 +63,7 @@ module _ (text : List ℕ) (at : ℕ) (utf8 : IsUtf8 text) (place : IsPlace text
       cc
 
   pub parts_if : (tag : Token) → IsInnermostTag text at tag → 2 ≤ length (state_at text at).elements → (found : Bool) → found ≡ declares tag →
-      IsTrue (not found) ↔ MayBeParted text at
+      IsTrue (not found) ↔ MayBeSplit text at
   parts_if tag is enough true e = (λ t. absurd (true≢false (sym t)), λ may. absurd (may_not tag is (sym e) may))
   parts_if tag is enough false e = (λ t. may_part tag is enough (sym e), λ may. refl)
 

@@ -18,7 +18,7 @@ use Rattle.nx_scan.proofs.Every.{cut-fits, cut-length, cut-is_token}
 use Rattle.nx_scan.proofs.Joined.{tokens-go_on, depends-on_rest}
 use Rattle.nx_scan.proofs.Staying.{cut-stays}
 use Rattle.nx_scan.proofs.Themselves.{cut-same, place-same}
-use Rattle.nx_tags.specs.Parts.{cuts, front_half, back_half, parted, ending_by, beginning_at}
+use Rattle.nx_tags.specs.Parts.{cuts, front_half, back_half, cut_at, ending_by, beginning_at}
 use Rattle.nx_tags.specs.Reading.{EndsWell}
 use Rattle.nx_tags.proofs.TextTokens.{front_of_text, back_of_text}
 
@@ -37,11 +37,11 @@ not_cut_behind at t h = ap (λ b. b && nat_lt at (end_of t)) (le-ltb t.from at h
 pub is_cut : (at : ℕ) (t : Token) → t.from < at → at < end_of t → cuts at t ≡ true
 is_cut at t h k = rw (lt-ltb t.from at h, lt-ltb at (end_of t) k) refl
 
-pub parted-kept : (at : ℕ) (t : Token) (ts : List Token) → cuts at t ≡ false → parted at (t ∷ ts) ≡ t ∷ parted at ts
-parted-kept at t ts h = rw h refl
+pub cut_at-kept : (at : ℕ) (t : Token) (ts : List Token) → cuts at t ≡ false → cut_at at (t ∷ ts) ≡ t ∷ cut_at at ts
+cut_at-kept at t ts h = rw h refl
 
-pub parted-cut : (at : ℕ) (t : Token) (ts : List Token) → cuts at t ≡ true → parted at (t ∷ ts) ≡ front_half at t ∷ back_half at t ∷ parted at ts
-parted-cut at t ts h = rw h refl
+pub cut_at-cut : (at : ℕ) (t : Token) (ts : List Token) → cuts at t ≡ true → cut_at at (t ∷ ts) ≡ front_half at t ∷ back_half at t ∷ cut_at at ts
+cut_at-cut at t ts h = rw h refl
 
 pub ending-in : (at : ℕ) (t : Token) (ts : List Token) → end_of t ≤ at → ending_by at (t ∷ ts) ≡ t ∷ ending_by at ts
 ending-in at t ts h = rw (le-leb (end_of t) at h) refl
@@ -63,7 +63,7 @@ tokens-none text at h = ap (λ n. tokens_within n text at) (let e : length text 
 
 -- behind a place all tokens begin there or later
 pub record Behind (at : ℕ) (ts : List Token) : Type 0 where
-  pub kept : parted at ts ≡ ts
+  pub kept : cut_at at ts ≡ ts
   pub none : ending_by at ts ≡ []
   pub all : beginning_at at ts ≡ ts
 
@@ -72,7 +72,7 @@ none_behind at = record { kept = refl; none = refl; all = refl }
 
 one_behind : (at : ℕ) (t : Token) (ts : List Token) → at ≤ t.from → at < end_of t → Behind at ts → Behind at (t ∷ ts)
 one_behind at t ts h k b = record {
-  kept = parted-kept at t ts (not_cut_behind at t h) ∙ ap (λ xs. t ∷ xs) b.kept;
+  kept = cut_at-kept at t ts (not_cut_behind at t h) ∙ ap (λ xs. t ∷ xs) b.kept;
   none = ending-out at t ts k ∙ b.none;
   all = beginning-in at t ts h ∙ ap (λ xs. t ∷ xs) b.all;
 }
@@ -98,7 +98,7 @@ token_is a b k f e =
     ap (λ x. record { kind = x; from = a.from; bytes = a.bytes }) k ∙ ap (λ x. record { kind = b.kind; from = x; bytes = a.bytes }) f
     ∙ ap (λ x. record { kind = b.kind; from = b.from; bytes = x }) e
 
--- a token of character data that is parted
+-- a token of character data that is cut
 module _ (text : List ℕ) (at p : ℕ) (utf8 : IsUtf8 text) (place : IsPlace text p) (there : IsPlace text at) (within : p < length text)
     (first : p < at) (cut_there : at < end_of (cut text p)) (is : (cut text p).kind ≡ kinds.Text) where
   bs : List ℕ
@@ -164,8 +164,8 @@ module _ (text : List ℕ) (at p : ℕ) (utf8 : IsUtf8 text) (place : IsPlace te
 
 -- the tokens in front of the place are the same, and those behind it are those of the text from there on
 pub record Around (text other : List ℕ) (at p : ℕ) : Type 0 where
-  pub front : tokens_from other p ≡ ending_by at (parted at (tokens_from text p)) ++ tokens_from other at
-  pub back : beginning_at at (parted at (tokens_from text p)) ≡ tokens_from text at
+  pub front : tokens_from other p ≡ ending_by at (cut_at at (tokens_from text p)) ++ tokens_from other at
+  pub back : beginning_at at (cut_at at (tokens_from text p)) ≡ tokens_from text at
 
 abbrev pub PartsText : ℕ → List Token → Type 0
 PartsText at ts = AllByRecursion (λ (token : Token). cuts at token ≡ true → token.kind ≡ kinds.Text) ts
@@ -214,14 +214,14 @@ module _ (text other : List ℕ) (at : ℕ) (utf8 : IsUtf8 text) (other_utf8 : I
         let ts = tokens_from text (end_of t) in
         let all : tokens_from text p ≡ t ∷ ts = tokens-go_on text p utf8 place within in
         let from = (cut-is_token text p utf8 place within).from in
-        let parts : parted at (tokens_from text p) ≡ t ∷ parted at ts = ap (parted at) all ∙ parted-kept at t ts (not_cut_before at t le) in
+        let parts : cut_at at (tokens_from text p) ≡ t ∷ cut_at at ts = ap (cut_at at) all ∙ cut_at-kept at t ts (not_cut_before at t le) in
         let here : tokens_from other p ≡ t ∷ tokens_from other (end_of t) =
         tokens-go_on other p other_utf8 other_place other_within ∙ ap (λ x. x ∷ tokens_from other (end_of x)) (token_stays le ended) in
         record {
           front =
               here ∙ ap (λ xs. t ∷ xs) next.front
-              ∙ sym (ap (λ xs. ending_by at xs ++ tokens_from other at) parts ∙ ap (λ xs. xs ++ tokens_from other at) (ending-in at t (parted at ts) le));
-          back = ap (beginning_at at) parts ∙ beginning-out at t (parted at ts) (omega arith) ∙ next.back;
+              ∙ sym (ap (λ xs. ending_by at xs ++ tokens_from other at) parts ∙ ap (λ xs. xs ++ tokens_from other at) (ending-in at t (cut_at at ts) le));
+          back = ap (beginning_at at) parts ∙ beginning-out at t (cut_at at ts) (omega arith) ∙ next.back;
         }
 
     -- character data that the place cuts
@@ -237,8 +237,8 @@ module _ (text other : List ℕ) (at : ℕ) (utf8 : IsUtf8 text) (other_utf8 : I
         let bh = back_half at t in
         let fh_end = front_end text at p utf8 place there within before lt is in
         let bh_end = back_end text at p utf8 place there within before lt is in
-        let parts : parted at (tokens_from text p) ≡ fh ∷ bh ∷ parted at ts =
-        ap (parted at) all ∙ parted-cut at t ts (is_cut at t (omega arith) lt) in
+        let parts : cut_at at (tokens_from text p) ≡ fh ∷ bh ∷ cut_at at ts =
+        ap (cut_at at) all ∙ cut_at-cut at t ts (is_cut at t (omega arith) lt) in
         let b = behind_place (length text - end_of t) text at (end_of t) utf8 token.border (omega arith) (omega arith) in
         let front_len : length (take at text) ≡ at = length-take-le at text there.0 in
         let stays : cut other p ≡ fh =
@@ -253,12 +253,12 @@ module _ (text other : List ℕ) (at : ℕ) (utf8 : IsUtf8 text) (other_utf8 : I
         let here : tokens_from other p ≡ fh ∷ tokens_from other at =
         tokens-go_on other p other_utf8 other_place other_within ∙ ap (λ x. x ∷ tokens_from other (end_of x)) stays
         ∙ ap (λ n. fh ∷ tokens_from other n) fh_end in
-        let ends : ending_by at (fh ∷ bh ∷ parted at ts) ≡ fh ∷ [] =
-        ending-in at fh (bh ∷ parted at ts) (omega arith)
-        ∙ ap (λ xs. fh ∷ xs) (ending-out at bh (parted at ts) (omega arith) ∙ ap (ending_by at) b.kept ∙ b.none) in
-        let begins : beginning_at at (fh ∷ bh ∷ parted at ts) ≡ bh ∷ ts =
-        beginning-out at fh (bh ∷ parted at ts) (omega arith)
-        ∙ beginning-in at bh (parted at ts) (omega arith) ∙ ap (λ xs. bh ∷ xs) (ap (beginning_at at) b.kept ∙ b.all) in
+        let ends : ending_by at (fh ∷ bh ∷ cut_at at ts) ≡ fh ∷ [] =
+        ending-in at fh (bh ∷ cut_at at ts) (omega arith)
+        ∙ ap (λ xs. fh ∷ xs) (ending-out at bh (cut_at at ts) (omega arith) ∙ ap (ending_by at) b.kept ∙ b.none) in
+        let begins : beginning_at at (fh ∷ bh ∷ cut_at at ts) ≡ bh ∷ ts =
+        beginning-out at fh (bh ∷ cut_at at ts) (omega arith)
+        ∙ beginning-in at bh (cut_at at ts) (omega arith) ∙ ap (λ xs. bh ∷ xs) (ap (beginning_at at) b.kept ∙ b.all) in
         let left : at < length text = (let fits = token.border.0 in omega arith) in
         let rest : tokens_from text at ≡ bh ∷ ts =
         tokens-go_on text at utf8 there left
@@ -292,11 +292,11 @@ module _ (text other : List ℕ) (at : ℕ) (utf8 : IsUtf8 text) (other_utf8 : I
 
 -- ---- the tokens in front of the place lie from the start to it
 
-lies_at : (text : List ℕ) (at p : ℕ) → IsUtf8 text → IsPlace text at → p ≡ at → AreTokensFrom at p (ending_by at (parted at (tokens_from text p)))
+lies_at : (text : List ℕ) (at p : ℕ) → IsUtf8 text → IsPlace text at → p ≡ at → AreTokensFrom at p (ending_by at (cut_at at (tokens_from text p)))
 unfolding AreTokensFrom
 lies_at text at p utf8 there e =
     let b = behind_place (length text - at) text at at utf8 there (omega arith) (omega arith) in
-    subst (λ q. AreTokensFrom at q (ending_by at (parted at (tokens_from text q)))) (sym e)
+    subst (λ q. AreTokensFrom at q (ending_by at (cut_at at (tokens_from text q)))) (sym e)
     (subst (λ ts. AreTokensFrom at at ts) (sym (ap (ending_by at) b.kept ∙ b.none)) refl)
 
 one_lies : (at p : ℕ) (t : Token) (ts : List Token) → t.from ≡ p → AreTokensFrom at (end_of t) ts → AreTokensFrom at p (t ∷ ts)
@@ -308,7 +308,7 @@ unfolding AreTokensFrom
 last_lies at p t from end = (from, ap (λ n. n + length t.bytes) (sym from) ∙ end)
 
 lies : (n : ℕ) (text : List ℕ) (at p : ℕ) → IsUtf8 text → IsPlace text at → IsPlace text p → p ≤ at → at - p ≤ n → PartsText at (tokens_from text p) →
-    AreTokensFrom at p (ending_by at (parted at (tokens_from text p)))
+    AreTokensFrom at p (ending_by at (cut_at at (tokens_from text p)))
 lies zero text at p utf8 there place le fuel alone = lies_at text at p utf8 there (omega arith)
 lies (suc n) text at p utf8 there place le fuel alone =
     elim (cases_lt p at) [
@@ -330,21 +330,21 @@ lies (suc n) text at p utf8 there place le fuel alone =
                 let fh_end = front_end text at p utf8 place there within before lt is in
                 let bh_end = back_end text at p utf8 place there within before lt is in
                 let b = behind_place (length text - end_of t) text at (end_of t) utf8 token.border (omega arith) (omega arith) in
-                let ends : ending_by at (parted at (tokens_from text p)) ≡ fh ∷ [] =
-                ap (ending_by at) (ap (parted at) all ∙ parted-cut at t ts (is_cut at t (omega arith) lt))
-                ∙ ending-in at fh (bh ∷ parted at ts) (omega arith)
-                ∙ ap (λ xs. fh ∷ xs) (ending-out at bh (parted at ts) (omega arith) ∙ ap (ending_by at) b.kept ∙ b.none) in
+                let ends : ending_by at (cut_at at (tokens_from text p)) ≡ fh ∷ [] =
+                ap (ending_by at) (ap (cut_at at) all ∙ cut_at-cut at t ts (is_cut at t (omega arith) lt))
+                ∙ ending-in at fh (bh ∷ cut_at at ts) (omega arith)
+                ∙ ap (λ xs. fh ∷ xs) (ending-out at bh (cut_at at ts) (omega arith) ∙ ap (ending_by at) b.kept ∙ b.none) in
                 subst (λ xs. AreTokensFrom at p xs) (sym ends) (last_lies at p fh from fh_end))
             | inr past ↦
-                (let ends : ending_by at (parted at (tokens_from text p)) ≡ t ∷ ending_by at (parted at ts) =
-                ap (ending_by at) (ap (parted at) all ∙ parted-kept at t ts (not_cut_before at t past)) ∙ ending-in at t (parted at ts) past in
+                (let ends : ending_by at (cut_at at (tokens_from text p)) ≡ t ∷ ending_by at (cut_at at ts) =
+                ap (ending_by at) (ap (cut_at at) all ∙ cut_at-kept at t ts (not_cut_before at t past)) ∙ ending-in at t (cut_at at ts) past in
                 subst (λ xs. AreTokensFrom at p xs) (sym ends)
-                (one_lies at p t (ending_by at (parted at ts)) from (lies n text at (end_of t) utf8 there token.border past (omega arith) alone_here.1)))
+                (one_lies at p t (ending_by at (cut_at at ts)) from (lies n text at (end_of t) utf8 there token.border past (omega arith) alone_here.1)))
           ])
       | inr past ↦ lies_at text at p utf8 there (omega arith)
     ]
 
-pub front_lies : (text : List ℕ) (at : ℕ) → IsUtf8 text → IsPlace text at → PartsText at (tokens_of text) → AreTokensOf at (ending_by at (parted at (tokens_of text)))
+pub front_lies : (text : List ℕ) (at : ℕ) → IsUtf8 text → IsPlace text at → PartsText at (tokens_of text) → AreTokensOf at (ending_by at (cut_at at (tokens_of text)))
 front_lies text at utf8 there alone = lies at text at 0 utf8 there (IsCharBoundary-start text utf8) (omega arith) (omega arith) alone
 
 -- ---- behind the place

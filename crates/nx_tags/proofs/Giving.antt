@@ -8,7 +8,7 @@ use Rattle.nx_base.specs.declared.change.Change.{Change}
 use Rattle.nx_text.specs.Changing.{AreChanges}
 use Rattle.nx_tags.specs.declared.command.TagCommand.{TagCommand}
 use Rattle.nx_tags.specs.declared.command.TagCommand.TheVariants.{Finish, Split, Pair, Rename}
-use Rattle.nx_tags.specs.Answers.{Answers, PutsInQName, place_of, innermost_at}
+use Rattle.nx_tags.specs.Answers.{Answers, PutsInQName, place_of, innermost_name_at}
 use Rattle.nx_tags.specs.Changing.{inserting, start_tag, end_tag}
 use Rattle.nx_tags.specs.Given.{Gives, GivesItsItems}
 use Rattle.nx_tags.proofs.Insertions.{finishing, pairing, splitting, name_is}
@@ -38,10 +38,10 @@ module _ (text : List ℕ) (utf8 : IsUtf8 text) where
   are_changes_of command place name None h = tt
   are_changes_of (Finish at) place name (Some changes) h =
       subst (λ cs. AreChanges text cs) (sym h.1)
-      (inserted at (end_tag (innermost_at text at)) place (end_tag_utf8 (innermost_at text at) (name_is text at utf8 place h.0)))
+      (inserted at (end_tag (innermost_name_at text at)) place (end_tag_utf8 (innermost_name_at text at) (name_is text at utf8 place h.0)))
   are_changes_of (Split at) place name (Some changes) h =
       let is = name_is text at utf8 place h.0.free in
-      let written = innermost_at text at in
+      let written = innermost_name_at text at in
       subst (λ cs. AreChanges text cs) (sym h.1)
       (inserted at (end_tag written ++ start_tag written) place
       (IsUtf8-append (end_tag written) (start_tag written) (end_tag_utf8 written is) (start_tag_utf8 written is)))

@@ -23,12 +23,12 @@ use Rattle.nx_events.specs.declared.scope.Binding.{Binding}
 use Rattle.nx_events.specs.declared.tag.Attribute.{Attribute}
 use Rattle.nx_events.specs.declared.state.EventState.{EventState}
 use Rattle.nx_events.specs.declared.state.OpenElement.{OpenElement}
-use Rattle.nx_tags.specs.Answers.{innermost_at}
+use Rattle.nx_tags.specs.Answers.{innermost_name_at}
 use Rattle.nx_tags.specs.Changing.{start_tag, end_tag}
 use Rattle.nx_events.proofs.StatesKnown.{states_are_known, flat_append, elements_append, elements_len}
-use Rattle.nx_tags.specs.Elements.{MayBeParted}
-use Rattle.nx_tags.specs.Free.{IsFree, IsPartedWell}
-use Rattle.nx_tags.specs.Given.{start_token, end_token, PutsIn, IsFinished, IsPaired, IsParted}
+use Rattle.nx_tags.specs.Elements.{MayBeSplit}
+use Rattle.nx_tags.specs.Free.{IsFree, IsCutWell}
+use Rattle.nx_tags.specs.Given.{start_token, end_token, PutsIn, IsFinished, IsPaired, IsSplit}
 use Rattle.nx_tags.specs.Parts.{cuts, ending_by, in_front, state_at}
 use Rattle.nx_tags.proofs.Around.{Around, PartsText, behind_place, stands_there, after_utf8, after_back, after_place, front_lies, around_insertion, behind_insertion}
 use Rattle.nx_tags.proofs.NameTags.{start_is_token, end_is_token, start_tag_utf8, end_tag_utf8}
@@ -38,7 +38,7 @@ use Rattle.nx_tags.proofs.TagItems.{LastOf, last_open, innermost_last, ending, e
 -- ---- what a free place is free of
 
 pub text_alone : (state : EventState) (at : ℕ) (tokens : List Token) →
-    AllByRecursion (λ (token : Token). cuts at token ≡ true → IsPartedWell state at token) tokens → PartsText at tokens
+    AllByRecursion (λ (token : Token). cuts at token ≡ true → IsCutWell state at token) tokens → PartsText at tokens
 text_alone state at [] h = tt
 text_alone state at (t ∷ ts) h = (λ e. (h.0 e).kind, text_alone state at ts h.1)
 
@@ -76,7 +76,7 @@ module _ (text rest : List ℕ) (at : ℕ) (utf8 : IsUtf8 text) (added_utf8 : Is
   some_before = not_at_start text at utf8 free.opened
 
   all_around : Around text (edited text at at (60 ∷ rest)) at 0
-  all_around = around_insertion text rest at utf8 added_utf8 place some_before free.ended (text_alone (state_at text at) at (tokens_of text) free.parted)
+  all_around = around_insertion text rest at utf8 added_utf8 place some_before free.ended (text_alone (state_at text at) at (tokens_of text) free.cut_well)
 
   puts_in : (tags : List Token) → IsPlace (edited text at at (60 ∷ rest)) (length (60 ∷ rest) + at) →
       tokens_from (edited text at at (60 ∷ rest)) at ≡ tags ++ tokens_from (edited text at at (60 ∷ rest)) (length (60 ∷ rest) + at) →
@@ -91,14 +91,14 @@ module _ (text : List ℕ) (at : ℕ) (utf8 : IsUtf8 text) (place : IsPlace text
   last : LastOf (state_at text at).elements
   last = last_open (state_at text at).elements free.opened
 
-  pub name_is : IsName (innermost_at text at)
+  pub name_is : IsName (innermost_name_at text at)
   name_is =
       subst (λ n. IsName n) (sym last.name)
-      (last_named last.outer last.innermost (subst (λ xs. AreNamed xs) last.split (open_named text at utf8 (text_alone (state_at text at) at (tokens_of text) free.parted))))
+      (last_named last.outer last.innermost (subst (λ xs. AreNamed xs) last.split (open_named text at utf8 (text_alone (state_at text at) at (tokens_of text) free.cut_well))))
 
-  pub finishing : IsFinished text at (edited text at at (end_tag (innermost_at text at)))
+  pub finishing : IsFinished text at (edited text at at (end_tag (innermost_name_at text at)))
   finishing =
-      let name = innermost_at text at in
+      let name = innermost_name_at text at in
       let rest : List ℕ = 47 ∷ (name ++ 62 ∷ []) in
       let tag_utf8 = end_tag_utf8 name name_is in
       let some = not_at_start text at utf8 free.opened in
@@ -180,10 +180,10 @@ record IsPlainlyOpen (state : EventState) : Type 0 where
   around : 0 < length outer
   scope : element.outer ≡ length state.scope
 
-plainly_open : (text : List ℕ) (at : ℕ) → IsUtf8 text → IsPlace text at → MayBeParted text at → IsPlainlyOpen (state_at text at)
+plainly_open : (text : List ℕ) (at : ℕ) → IsUtf8 text → IsPlace text at → MayBeSplit text at → IsPlainlyOpen (state_at text at)
 unfolding elements_of
 plainly_open text at utf8 place may =
-    let alone = text_alone (state_at text at) at (tokens_of text) may.free.parted in
+    let alone = text_alone (state_at text at) at (tokens_of text) may.free.cut_well in
     let known = states_are_known (in_front text at) at (front_lies text at utf8 place alone) in
     let tags_are = (known.3 (may.outer ++ may.tag ∷ []) may.run may.opened).0 in
     let state = known.4 in
@@ -201,12 +201,12 @@ plainly_open text at utf8 place may =
       scope = (let e : 0 + length (flat_map own_bindings may.outer) ≡ length (flat_map own_bindings may.outer) = omega arith in e ∙ ap length (sym scope));
     }
 
-module _ (text : List ℕ) (at : ℕ) (utf8 : IsUtf8 text) (place : IsPlace text at) (may : MayBeParted text at) where
-  pub splitting : IsParted text at (edited text at at (end_tag (innermost_at text at) ++ start_tag (innermost_at text at)))
+module _ (text : List ℕ) (at : ℕ) (utf8 : IsUtf8 text) (place : IsPlace text at) (may : MayBeSplit text at) where
+  pub splitting : IsSplit text at (edited text at at (end_tag (innermost_name_at text at) ++ start_tag (innermost_name_at text at)))
   unfolding run_items
   splitting =
       let state = state_at text at in
-      let name = innermost_at text at in
+      let name = innermost_name_at text at in
       let is : IsName name = name_is text at utf8 place may.free in
       let first = end_tag name in
       let second = start_tag name in

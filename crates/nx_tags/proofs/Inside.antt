@@ -21,7 +21,7 @@ use Rattle.nx_events.specs.declared.state.EventState.{EventState}
 use Rattle.nx_events.specs.declared.state.Run.{Run}
 use Rattle.nx_tags.specs.Free.{HasNoFault}
 use Rattle.nx_tags.specs.Parts.{front_half, back_half}
-use Rattle.nx_tags.specs.Reading.{IsPartedInside, FoundBetween, FoundInside}
+use Rattle.nx_tags.specs.Reading.{IsCutWellInside, FoundBetween, FoundInside}
 use Rattle.nx_tags.proofs.OpenNames.{data_keeps_elements}
 
 -- ---- its items
@@ -130,7 +130,7 @@ module _ (state : EventState) (at : ℕ) (token : Token) (begins : token.from < 
 
   pub parted_well : items_of_token state token ≡ [] → items_of_token state (front_half at token) ≡ [] →
       items_of_token (state_behind state (front_half at token)) (back_half at token) ≡ [] →
-      state_behind state token ≡ state_behind (state_behind state (front_half at token)) (back_half at token) → IsPartedInside state at token
+      state_behind state token ≡ state_behind (state_behind state (front_half at token)) (back_half at token) → IsCutWellInside state at token
   parted_well whole front back same = (
     some,
     record {
@@ -142,13 +142,13 @@ module _ (state : EventState) (at : ℕ) (token : Token) (begins : token.from < 
     },
   )
 
-  pub whole_given : IsPartedInside state at token → items_of_token state token ≡ []
+  pub whole_given : IsCutWellInside state at token → items_of_token state token ≡ []
   whole_given h = nothing_given (state_behind state (front_half at token)) state token is still_open some h.1.whole
 
-  pub front_given : IsPartedInside state at token → items_of_token state (front_half at token) ≡ []
+  pub front_given : IsCutWellInside state at token → items_of_token state (front_half at token) ≡ []
   front_given h = nothing_given (state_behind state (front_half at token)) state (front_half at token) is still_open some h.1.front
 
-  pub back_given : IsPartedInside state at token → items_of_token (state_behind state (front_half at token)) (back_half at token) ≡ []
+  pub back_given : IsCutWellInside state at token → items_of_token (state_behind state (front_half at token)) (back_half at token) ≡ []
   back_given h = nothing_given (state_behind state (front_half at token)) (state_behind state (front_half at token)) (back_half at token) is still_open still_open h.1.back
 
   -- so what is found between them is what is found inside of the token

@@ -23,8 +23,8 @@ use Rattle.nx_events.proofs.TagKinds.{tags_are_spelled}
 use Rattle.nx_scan.proofs.Every.{cut-fits, cut-is_token}
 use Rattle.nx_scan.proofs.Joined.{tokens-go_on}
 use Rattle.nx_scan.proofs.OwnBytes.{cut-own}
-use Rattle.nx_tags.specs.Parts.{cuts, parted, ending_by}
-use Rattle.nx_tags.proofs.Around.{tokens-none, parted-kept, parted-cut, PartsText}
+use Rattle.nx_tags.specs.Parts.{cuts, cut_at, ending_by}
+use Rattle.nx_tags.proofs.Around.{tokens-none, cut_at-kept, cut_at-cut, PartsText}
 
 abbrev pub AreNamed : List OpenElement → Type 0
 AreNamed elements = AllByRecursion (λ (element : OpenElement). IsName element.written) elements
@@ -98,16 +98,16 @@ tokens_named (suc n) text at utf8 place fuel =
       | inr past ↦ subst (λ ts. AllByRecursion IsNamedTag ts) (sym (tokens-none text at past)) tt
     ]
 
--- one of which is parted
-named_parted : (at : ℕ) (tokens : List Token) → AllByRecursion IsNamedTag tokens → PartsText at tokens → AllByRecursion IsNamedTag (parted at tokens)
+-- one of which is cut
+named_parted : (at : ℕ) (tokens : List Token) → AllByRecursion IsNamedTag tokens → PartsText at tokens → AllByRecursion IsNamedTag (cut_at at tokens)
 named_parted at [] h text_alone = tt
 named_parted at (t ∷ ts) h text_alone =
     let rest = named_parted at ts h.1 text_alone.1 in
     elim (cases_Bool (cuts at t)) [
       | inl e ↦
           (let no_start : t.kind ≡ kinds.Start → ⊥ = λ is. (let bad : kinds.Start ≡ kinds.Text = sym is ∙ text_alone.0 e in cc) in
-          subst (λ xs. AllByRecursion IsNamedTag xs) (sym (parted-cut at t ts e)) (λ is. absurd (no_start is), (λ is. absurd (no_start is), rest)))
-      | inr e ↦ subst (λ xs. AllByRecursion IsNamedTag xs) (sym (parted-kept at t ts e)) (h.0, rest)
+          subst (λ xs. AllByRecursion IsNamedTag xs) (sym (cut_at-cut at t ts e)) (λ is. absurd (no_start is), (λ is. absurd (no_start is), rest)))
+      | inr e ↦ subst (λ xs. AllByRecursion IsNamedTag xs) (sym (cut_at-kept at t ts e)) (h.0, rest)
     ]
 
 named_filter : (p : Token → Bool) (tokens : List Token) → AllByRecursion IsNamedTag tokens → AllByRecursion IsNamedTag (filter p tokens)
@@ -117,5 +117,5 @@ named_filter p (t ∷ ts) h = elim (cases_Bool (p t)) [
   | inr e ↦ subst (λ b. AllByRecursion IsNamedTag (cond b (t ∷ filter p ts) (filter p ts))) (sym e) (named_filter p ts h.1)
 ]
 
-pub front_named : (at : ℕ) (tokens : List Token) → AllByRecursion IsNamedTag tokens → PartsText at tokens → AllByRecursion IsNamedTag (ending_by at (parted at tokens))
-front_named at tokens h text_alone = named_filter (λ (token : Token). nat_le (end_of token) at) (parted at tokens) (named_parted at tokens h text_alone)
+pub front_named : (at : ℕ) (tokens : List Token) → AllByRecursion IsNamedTag tokens → PartsText at tokens → AllByRecursion IsNamedTag (ending_by at (cut_at at tokens))
+front_named at tokens h text_alone = named_filter (λ (token : Token). nat_le (end_of token) at) (cut_at at tokens) (named_parted at tokens h text_alone)

@@ -21,10 +21,10 @@ use Rattle.nx_events.proofs.StatesKnown.{after_one, flat_append, states_are_know
 use Rattle.nx_scan.specs.Markup.{IsEnded}
 use Rattle.nx_scan.proofs.Every.{cut-is_token}
 use Rattle.nx_scan.proofs.Joined.{tokens-go_on}
-use Rattle.nx_tags.specs.Free.{IsFree, IsPartedWell}
-use Rattle.nx_tags.specs.Parts.{cuts, front_half, back_half, halves, parted, ending_by, in_front, state_at, IsTokenBorder, IsKnownAt}
-use Rattle.nx_tags.specs.Reading.{IsRead, IsPartedInside, EndsWell, IfEnded}
-use Rattle.nx_tags.proofs.Around.{Behind, PartsText, behind_place, front_lies, tokens-none, not_cut_before, not_cut_behind, is_cut, parted-kept, parted-cut, ending-in, ending-out}
+use Rattle.nx_tags.specs.Free.{IsFree, IsCutWell}
+use Rattle.nx_tags.specs.Parts.{cuts, front_half, back_half, halves, cut_at, ending_by, in_front, state_at, IsTokenBorder, IsKnownAt}
+use Rattle.nx_tags.specs.Reading.{IsRead, IsCutWellInside, EndsWell, IfEnded}
+use Rattle.nx_tags.proofs.Around.{Behind, PartsText, behind_place, front_lies, tokens-none, not_cut_before, not_cut_behind, is_cut, cut_at-kept, cut_at-cut, ending-in, ending-out}
 use Rattle.nx_tags.proofs.OpenNames.{data_keeps_elements}
 
 -- ---- lists of tokens
@@ -71,13 +71,13 @@ ending_wider place to le (t ∷ ts) =
           ∙ ap (λ xs. t ∷ xs) (ending_wider place to le ts) ∙ sym (ending-in place t ts in_front)
     ]
 
-parted_ending : (place at : ℕ) → place ≤ at → (ts : List Token) → parted at (ending_by place ts) ≡ ending_by place ts
+parted_ending : (place at : ℕ) → place ≤ at → (ts : List Token) → cut_at at (ending_by place ts) ≡ ending_by place ts
 parted_ending place at le [] = refl
 parted_ending place at le (t ∷ ts) =
     elim (cases_lt place (end_of t)) [
-      | inl out ↦ ap (parted at) (ending-out place t ts out) ∙ parted_ending place at le ts ∙ sym (ending-out place t ts out)
+      | inl out ↦ ap (cut_at at) (ending-out place t ts out) ∙ parted_ending place at le ts ∙ sym (ending-out place t ts out)
       | inr in_front ↦
-          ap (parted at) (ending-in place t ts in_front) ∙ parted-kept at t (ending_by place ts) (not_cut_before at t (omega arith))
+          ap (cut_at at) (ending-in place t ts in_front) ∙ cut_at-kept at t (ending_by place ts) (not_cut_before at t (omega arith))
           ∙ ap (λ xs. t ∷ xs) (parted_ending place at le ts) ∙ sym (ending-in place t ts in_front)
     ]
 
@@ -129,9 +129,9 @@ module _ (text : List ℕ) (utf8 : IsUtf8 text) where
   uncut_text at [] h = tt
   uncut_text at (t ∷ ts) h = (λ e. absurd (true≢false (sym e ∙ h.0)), uncut_text at ts h.1)
 
-  uncut_same : (at : ℕ) → (ts : List Token) → AllByRecursion (λ (t : Token). cuts at t ≡ false) ts → parted at ts ≡ ts
+  uncut_same : (at : ℕ) → (ts : List Token) → AllByRecursion (λ (t : Token). cuts at t ≡ false) ts → cut_at at ts ≡ ts
   uncut_same at [] h = refl
-  uncut_same at (t ∷ ts) h = parted-kept at t ts h.0 ∙ ap (λ xs. t ∷ xs) (uncut_same at ts h.1)
+  uncut_same at (t ∷ ts) h = cut_at-kept at t ts h.0 ∙ ap (λ xs. t ∷ xs) (uncut_same at ts h.1)
 
   module _ (at : ℕ) (border : IsTokenBorder text at) where
     pub front_of_border : in_front text at ≡ ending_by at (tokens_of text)
@@ -270,11 +270,11 @@ module _ (text : List ℕ) (utf8 : IsUtf8 text) where
 
     pub border_free : EndsWell at (tokens_of text) → 0 < length state.elements → IsFree text at
     border_free well some =
-        let P : Token → Type 0 = λ (token : Token). cuts at token ≡ true → IsPartedWell (state_at text at) at token in
+        let P : Token → Type 0 = λ (token : Token). cuts at token ≡ true → IsCutWell (state_at text at) at token in
         record {
           opened = subst (λ (s : EventState). 0 < length s.elements) border_state some;
           ended = well;
-          parted = subst (λ xs. AllByRecursion P xs) (sym read.split)
+          cut_well = subst (λ xs. AllByRecursion P xs) (sym read.split)
               (all_append P (ending_by at (tokens_of text)) (tokens_from text at)
               (all_ending P at (λ t le is. absurd (true≢false (sym is ∙ not_cut_before at t le))) (tokens_of text))
               (all_from P at (λ t from end is. absurd (true≢false (sym is ∙ not_cut_behind at t from))) (length text - at) text at utf8 read.border (omega arith) (omega arith)));
@@ -307,10 +307,10 @@ module _ (text : List ℕ) (utf8 : IsUtf8 text) where
         let b = behind_place (length text - end_of t) text at (end_of t) utf8 token.border (omega arith) (omega arith) in
         let front_len = length-take-le (at - t.from) t.bytes (omega arith) in
         let back_len = length-drop (at - t.from) t.bytes in
-        ap (λ xs. ending_by at (parted at xs)) (all_tokens place state read within)
+        ap (λ xs. ending_by at (cut_at at xs)) (all_tokens place state read within)
         ∙ ap (ending_by at) (flat_append (halves at) before (t ∷ rest)
-        ∙ ap (λ xs. xs ++ parted at (t ∷ rest)) (parted_ending place at (omega arith) (tokens_of text))
-        ∙ ap (λ xs. before ++ xs) (parted-cut at t rest here_cut ∙ ap (λ xs. fh ∷ bh ∷ xs) b.kept))
+        ∙ ap (λ xs. xs ++ cut_at at (t ∷ rest)) (parted_ending place at (omega arith) (tokens_of text))
+        ∙ ap (λ xs. before ++ xs) (cut_at-cut at t rest here_cut ∙ ap (λ xs. fh ∷ bh ∷ xs) b.kept))
         ∙ filter-append (λ (x : Token). nat_le (end_of x) at) before (fh ∷ bh ∷ rest)
         ∙ ap (λ xs. xs ++ ending_by at (fh ∷ bh ∷ rest)) (ending_wider place at (omega arith) (tokens_of text))
         ∙ ap (λ xs. before ++ xs) (ending-in at fh (bh ∷ rest) (omega arith) ∙ ap (λ xs. fh ∷ xs) (ending-out at bh rest (omega arith) ∙ b.none))
@@ -321,12 +321,12 @@ module _ (text : List ℕ) (utf8 : IsUtf8 text) where
         ∙ sym (after_one first_state (ending_by place (tokens_of text)) (front_half at (cut text place)))
         ∙ ap (state_after first_state) (sym inside_front)
 
-    pub inside_free : IsPartedInside state at (cut text place) → IsFree text at
+    pub inside_free : IsCutWellInside state at (cut text place) → IsFree text at
     inside_free inside =
         let t = cut text place in
         let token = cut-is_token text place utf8 read.border within in
         let from = token.from in
-        let P : Token → Type 0 = λ (token : Token). cuts at token ≡ true → IsPartedWell (state_at text at) at token in
+        let P : Token → Type 0 = λ (token : Token). cuts at token ≡ true → IsCutWell (state_at text at) at token in
         let Q : Token → Type 0 = λ (token : Token). end_of token ≡ at → IsEnded token.kind in
         let keeps = data_keeps_elements state (front_half at t) inside.1.kind in
         let some = inside.0 in
@@ -339,22 +339,22 @@ module _ (text : List ℕ) (utf8 : IsUtf8 text) where
                 λ same. absurd (omega arith),
                 all_from Q at (λ x begins ends same. absurd (omega arith)) (length text - end_of t) text (end_of t) utf8 token.border (omega arith) (omega arith),
               ));
-          parted = subst (λ xs. AllByRecursion P xs) (sym (all_tokens place state read within))
+          cut_well = subst (λ xs. AllByRecursion P xs) (sym (all_tokens place state read within))
               (all_append P (ending_by place (tokens_of text)) (t ∷ tokens_from text (end_of t))
               (all_ending P place (λ x le is. absurd (true≢false (sym is ∙ not_cut_before at x (omega arith)))) (tokens_of text)) (
-                λ is. subst (λ (s : EventState). IsPartedWell s at t) inside_state inside.1,
+                λ is. subst (λ (s : EventState). IsCutWell s at t) inside_state inside.1,
                 all_from P at (λ x begins ends is. absurd (true≢false (sym is ∙ not_cut_behind at x begins))) (length text - end_of t) text (end_of t) utf8 token.border
                     (omega arith) (omega arith),
               ));
         }
 
-    pub free_inside : IsFree text at → IsPartedInside state at (cut text place)
+    pub free_inside : IsFree text at → IsCutWellInside state at (cut text place)
     free_inside free =
         let t = cut text place in
-        let P : Token → Type 0 = λ (token : Token). cuts at token ≡ true → IsPartedWell (state_at text at) at token in
+        let P : Token → Type 0 = λ (token : Token). cuts at token ≡ true → IsCutWell (state_at text at) at token in
         let here = (all_behind P (ending_by place (tokens_of text)) (t ∷ tokens_from text (end_of t))
-        (subst (λ xs. AllByRecursion P xs) (all_tokens place state read within) free.parted)).0 here_cut in
-        let well : IsPartedWell (state_behind state (front_half at t)) at t = subst (λ (s : EventState). IsPartedWell s at t) (sym inside_state) here in
+        (subst (λ xs. AllByRecursion P xs) (all_tokens place state read within) free.cut_well)).0 here_cut in
+        let well : IsCutWell (state_behind state (front_half at t)) at t = subst (λ (s : EventState). IsCutWell s at t) (sym inside_state) here in
         let keeps = data_keeps_elements state (front_half at t) well.kind in
         let some = subst (λ (s : EventState). 0 < length s.elements) (sym inside_state) free.opened in
         (subst (λ xs. 0 < length xs) keeps some, well)

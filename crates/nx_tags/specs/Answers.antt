@@ -9,13 +9,13 @@ use Rattle.nx_base.specs.declared.change.Change.{Change}
 use Rattle.nx_tags.specs.declared.command.TagCommand.{TagCommand}
 use Rattle.nx_tags.specs.declared.command.TagCommand.TheVariants.{Finish, Split, Pair, Rename}
 use Rattle.nx_tags.specs.Changing.{inserting, renaming, start_tag, end_tag}
-use Rattle.nx_tags.specs.Elements.{IsElementAt, IsEmptyAt, MayBeParted}
+use Rattle.nx_tags.specs.Elements.{IsElementAt, IsEmptyAt, MayBeSplit}
 use Rattle.nx_tags.specs.Free.{IsFree}
 use Rattle.nx_tags.specs.Parts.{state_at}
 
 -- the written name of the innermost open element
-abbrev pub innermost_at : List ℕ → ℕ → List ℕ
-innermost_at text at = innermost_name (state_at text at).elements
+abbrev pub innermost_name_at : List ℕ → ℕ → List ℕ
+innermost_name_at text at = innermost_name (state_at text at).elements
 
 abbrev pub place_of : TagCommand → ℕ
 place_of (Finish at) = at
@@ -51,9 +51,9 @@ IfRenamed text at name (Some changes) = Renames text at name changes
 
 -- the answer to a command
 abbrev pub Answers : List ℕ → TagCommand → Option (List Change) → Type 0
-Answers text (Finish at) answer = IfDone (IsFree text at) (inserting at (end_tag (innermost_at text at)) ∷ []) answer
+Answers text (Finish at) answer = IfDone (IsFree text at) (inserting at (end_tag (innermost_name_at text at)) ∷ []) answer
 Answers text (Split at) answer =
-    IfDone (MayBeParted text at) (inserting at (end_tag (innermost_at text at) ++ start_tag (innermost_at text at)) ∷ []) answer
+    IfDone (MayBeSplit text at) (inserting at (end_tag (innermost_name_at text at) ++ start_tag (innermost_name_at text at)) ∷ []) answer
 Answers text (Pair at name) answer = IfDone (IsFree text at) (inserting at (start_tag name ++ end_tag name) ∷ []) answer
 Answers text (Rename at name) answer = IfRenamed text at name answer
 

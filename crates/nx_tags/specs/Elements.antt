@@ -45,9 +45,9 @@ pub record IsEmptyAt (text : List ℕ) (at : ℕ) (tag : Token) : Type 0 where
   pub from : tag.from ≡ at
   pub kind : tag.kind ≡ kinds.Empty
 
--- the innermost open element at a place can be parted there: the place is free, another element is around, and the start tag has no declaration,
+-- the innermost open element at a place can be split there: the place is free, another element is around, and the start tag has no declaration,
 -- not even a faulty one
-pub record MayBeParted (text : List ℕ) (at : ℕ) : Type 0 where
+pub record MayBeSplit (text : List ℕ) (at : ℕ) : Type 0 where
   pub free : IsFree text at
   pub outer : List Token
   pub tag : Token

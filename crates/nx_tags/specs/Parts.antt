@@ -23,8 +23,8 @@ back_half at token = record { kind = token.kind; from = at; bytes = drop (at - t
 abbrev pub halves : ℕ → Token → List Token
 halves at token = if cuts at token then front_half at token ∷ back_half at token ∷ [] else token ∷ []
 
-abbrev pub parted : ℕ → List Token → List Token
-parted at tokens = flat_map (halves at) tokens
+abbrev pub cut_at : ℕ → List Token → List Token
+cut_at at tokens = flat_map (halves at) tokens
 
 -- those that end at the place or before, and those that begin there or behind
 abbrev pub ending_by : ℕ → List Token → List Token
@@ -34,10 +34,10 @@ abbrev pub beginning_at : ℕ → List Token → List Token
 beginning_at at tokens = filter (λ (token : Token). nat_le at token.from) tokens
 
 abbrev pub in_front : List ℕ → ℕ → List Token
-in_front text at = ending_by at (parted at (tokens_of text))
+in_front text at = ending_by at (cut_at at (tokens_of text))
 
-abbrev pub at_back : List ℕ → ℕ → List Token
-at_back text at = beginning_at at (parted at (tokens_of text))
+abbrev pub beyond : List ℕ → ℕ → List Token
+beyond text at = beginning_at at (cut_at at (tokens_of text))
 
 -- what is known of the text in front of the place. Where it cuts a tag, the front half would count as a tag, but no such place is free.
 abbrev pub state_at : List ℕ → ℕ → EventState

@@ -14,7 +14,7 @@ use Rattle.nx_scan.specs.Markup.{IsEnded}
 use Rattle.nx_tags.specs.declared.front.Front.{Front}
 use Rattle.nx_tags.specs.declared.front.Stop.{Stop}
 use Rattle.nx_tags.specs.declared.front.Stop.TheVariants.{Border, Inside}
-use Rattle.nx_tags.specs.Free.{IsFree, IsPartedWell}
+use Rattle.nx_tags.specs.Free.{IsFree, IsCutWell}
 use Rattle.nx_tags.specs.Parts.{front_half, ending_by, in_front, state_at}
 
 -- ---- up to a border
@@ -74,9 +74,9 @@ StopsAt text first at front (Inside token) = IsStoppedInside text first at front
 
 -- ---- inside of a Text token
 
--- an element is open in front of the token, and the place parts it well
-abbrev pub IsPartedInside : EventState → ℕ → Token → Type 0
-IsPartedInside state at token = (0 < length state.elements) × IsPartedWell (state_behind state (front_half at token)) at token
+-- an element is open in front of the token, and the place cuts it well
+abbrev pub IsCutWellInside : EventState → ℕ → Token → Type 0
+IsCutWellInside state at token = (0 < length state.elements) × IsCutWell (state_behind state (front_half at token)) at token
 
 -- what is known behind a token that gives nothing, and none exactly where it gives something
 abbrev pub FoundQuiet : EventState → Token → Option EventState → Type 0
@@ -96,8 +96,8 @@ FoundBetween state token front back (Some between) = AreQuiet state token front 
 
 -- what is known in front of the place then, and none exactly where it isn't so
 abbrev pub FoundInside : EventState → ℕ → Token → Option EventState → Type 0
-FoundInside state at token None = ¬ IsPartedInside state at token
-FoundInside state at token (Some between) = IsPartedInside state at token × (between ≡ state_behind state (front_half at token))
+FoundInside state at token None = ¬ IsCutWellInside state at token
+FoundInside state at token (Some between) = IsCutWellInside state at token × (between ≡ state_behind state (front_half at token))
 
 -- ---- a free place
 

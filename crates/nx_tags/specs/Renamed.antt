@@ -59,7 +59,7 @@ token_by to other token = record {
   bytes = slice_range other (to token.from) (to (end_of token));
 }
 
--- ---- items, parted at the element of a tag
+-- ---- items, in front of the element of a tag and behind it
 
 -- the items of tokens from a state on, without those of the text's end
 unfoldable pub items_through : EventState → List Token → List Item

@@ -20,7 +20,7 @@ pub fn pairing_gives()
     ensures { PairingGives }
 {}
 
-/// The end tag of the innermost open element and another start tag of it, put in where it may be parted, leave the other tokens, end the
+/// The end tag of the innermost open element and another start tag of it, put in where it may be split, leave the other tokens, end the
 /// element and begin it anew in the same scope.
 pub fn splitting_gives()
     ensures { SplittingGives }

@@ -1,7 +1,7 @@
-//! Commands on the tags of a text: an element is finished, parted or put in at a place, and one is renamed.
+//! Commands on the tags of a text: an element is finished, split or put in at a place, and one is renamed.
 //!
 //! A command is answered by changes of the text, or by none where it may not be carried out. The changes leave every token of the text as it
-//! is, but that a place inside of a Text token parts it, and a name is replaced in its tags. So what tags give that are put in is known by them
+//! is, but that a place inside of a Text token cuts it, and a name is replaced in its tags. So what tags give that are put in is known by them
 //! and by what is known of the text in front of them, and what another name gives by what the old one gave.
 //!
 //! Tags can be put in where an element is open, and where the token that ends there, or that the place cuts, goes on as it did. In

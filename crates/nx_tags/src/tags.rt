@@ -5,7 +5,7 @@ ghost use Rattle.nx_base.specs.Text.{IsPlace};
 ghost use Rattle.nx_text.specs.Changing.{AreChanges};
 ghost use Rattle.nx_tags.specs.Answers.{Answers, PutsInQName, place_of};
 ghost use Rattle.nx_tags.specs.Changing.{replacing, inserting, renaming};
-ghost use Rattle.nx_tags.specs.Elements.{MayBeParted};
+ghost use Rattle.nx_tags.specs.Elements.{MayBeSplit};
 ghost use Rattle.nx_tags.specs.Free.{IsFree};
 ghost use Rattle.nx_tags.specs.Given.{GivesItsItems};
 ghost use Rattle.nx_tags.specs.Parts.{IsKnownAt, IsTokenBorder, in_front, state_at};
@@ -60,7 +60,7 @@ fn finish<L: Ledger>(
 }
 
 /// Whether the innermost open element may end and begin anew: another is around it, and its start tag declares nothing.
-fn may_be_parted<L: Ledger>(
+fn may_be_split<L: Ledger>(
     alloc: Global,
     text: &Text,
     at: usize,
@@ -71,7 +71,7 @@ fn may_be_parted<L: Ledger>(
     requires free { IsFree text.now at }
     requires opened { (first : ℕ) × IsOpen text.now first (in_front text.now at) front.now.starts.items }
     requires known { front.now.state ≡ state_at text.now at }
-    ensures { IfOk result (λ may. IsTrue may ↔ MayBeParted text.now at) }
+    ensures { IfOk result (λ may. IsTrue may ↔ MayBeSplit text.now at) }
 {
     let _len = text.len();
     if depth(&front.state) < 2 {
@@ -98,7 +98,7 @@ fn split<L: Ledger>(
     let Some(front) = front_of_free(alloc, text, from, state, at, steps)? else {
         return Ok(None);
     };
-    if !may_be_parted(alloc, text, at, &front, steps)? {
+    if !may_be_split(alloc, text, at, &front, steps)? {
         return Ok(None);
     }
     let name = innermost(&front.state);

@@ -2,7 +2,7 @@ use Rattle.std.proofs.Common.{◌≡◌, ◌<◌, ◌≤◌, length, sym, subst,
 use Rattle.std.proofs.lemmas.Bool.{true≢false}
 use Rattle.nx_events.specs.declared.state.EventState.{EventState}
 use Rattle.nx_tags.proofs.Answering.{too_few, parts_if}
-use Rattle.nx_tags.proofs.tags.may_be_parted.Goals as goal
+use Rattle.nx_tags.proofs.tags.may_be_split.Goals as goal
 
 pub returns-then-depth-lt2 : goal.returns-then-depth-lt2
 returns-then-depth-lt2 g c =
