@@ -15,7 +15,7 @@ use Rattle.rng_kept.specs.Strings.{after}
 use Rattle.rng_kept.specs.Attributes.{value_fits, around, attribute_by, after_attribute}
 use Rattle.rng_residual.specs.Derivatives.{DerivesAttributes}
 use Rattle.rng_residual.proofs.Strings.{after_in, after_out, when_true}
-use Rattle.rng_residual.proofs.Splits.{split_assoc, split_back, order_assoc, order_back}
+use Rattle.rng_residual.proofs.Splits.{split_assoc, order_assoc}
 
 module _ {g : List Definition} where
   pub star_more : (p : Pattern) {a a1 a2 : List Attribute} {c c1 c2 : Children} → Matches g (star p) a1 c1 → Split a a1 a2 → InOrder c c1 c2 → Matches g (one_or_more p) a2 c2 → Matches g (one_or_more p) a c
