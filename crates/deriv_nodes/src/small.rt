@@ -152,12 +152,35 @@ impl Nodes {
         self.one_or_more(p)
     }
 
-    /// As many parts as one likes, or none.
+    /// Whether it is a repetition.
+    fn is_repeated(&self, p: usize) -> bool
+        requires { p < length self.now }
+        ensures { result ≡ s.is_repeated (at self.now p) }
+    {
+        matches!(self.node(p), Node::OneOrMore(_))
+    }
+
+    /// Whether it is a repetition that may be of nothing.
+    fn is_star(&self, p: usize) -> bool
+        requires { p < length self.now }
+        ensures { result ≡ s.is_star (at self.now p) }
+    {
+        match self.node(p) {
+            Node::Choice(a, b) => self.is_repeated(a) && self.is_empty(b),
+            _ => false,
+        }
+    }
+
+    /// As many parts as one likes, or none. Where the part is such a repetition, that is it: nested ones would grow with each attribute that they
+    /// take.
     pub(crate) fn star(&mut self, p: usize) -> Result<usize, NoMemory>
         requires { p < length self.old }
         ensures later { Later self.old self.new }
         ensures made { IfOk result (IsAt self.new (s.star (at self.old p))) }
     {
+        if self.is_star(p) {
+            return Ok(p);
+        }
         let some = self.one_or_more(p)?;
         let none = self.empty()?;
         self.choice_of(some, none)

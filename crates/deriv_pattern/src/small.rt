@@ -269,11 +269,42 @@ pub(crate) fn repeated(alloc: Global, p: Made) -> Result<Box<Pat>, NoMemory>
     boxed(alloc, Pat::OneOrMore(p))
 }
 
-/// As many parts as one likes, or none, in a box.
+/// Whether it is a repetition.
+fn is_repeated(p: &Pat) -> bool
+    ensures { result ≡ s.is_repeated (pattern_of p.now) }
+{
+    matches!(p, Pat::OneOrMore(_))
+}
+
+/// Whether it is a repetition that may be of nothing.
+fn is_star(p: &Pat) -> bool
+    ensures { result ≡ s.is_star (pattern_of p.now) }
+{
+    match p {
+        Pat::Choice(a, b) => is_repeated(a) && is_empty(b),
+        Pat::NotAllowed
+        | Pat::Empty
+        | Pat::Text
+        | Pat::Typed(_, _)
+        | Pat::Value(_, _)
+        | Pat::List(_)
+        | Pat::Attribute(_, _)
+        | Pat::Ref(_)
+        | Pat::OneOrMore(_)
+        | Pat::Group(_, _)
+        | Pat::Interleave(_, _) => false,
+    }
+}
+
+/// As many parts as one likes, or none, in a box. Where the part is such a repetition, that is it: nested ones would grow with each attribute that
+/// they take.
 #[inline(never)]
 pub(crate) fn starred(alloc: Global, p: &Pat) -> Result<Box<Pat>, NoMemory>
     ensures { IfOk result (λ made. pattern_of made.value ≡ s.star (pattern_of p.now)) }
 {
+    if is_star(p) {
+        return boxed_copy(alloc, p);
+    }
     let body = boxed_copy(alloc, p)?;
     let some = boxed(alloc, Pat::OneOrMore(body))?;
     choice_with(alloc, some, boxed_empty(alloc))

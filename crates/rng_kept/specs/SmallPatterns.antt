@@ -1,6 +1,6 @@
 -- Patterns that are put together without what is plainly superfluous: notAllowed takes the whole with it or is left out, empty is
--- left out, and a choice takes no side twice. What such a pattern matches is what the plain one does: ISO/IEC 19757-2, section 9.3.
-use Rattle.std.specs.Prelude.{Bool, true, false, ◌||◌, if◌then◌else◌}
+-- left out, a choice takes no side twice, and what is repeated isn't repeated again. What such a pattern matches is what the plain one does: ISO/IEC 19757-2, section 9.3.
+use Rattle.std.specs.Prelude.{Bool, true, false, ◌&&◌, ◌||◌, if◌then◌else◌}
 use Rattle.rng_core.specs.Equality.{same_pattern}
 use Rattle.rng_core.specs.Patterns.{Pattern, not_allowed, empty, one_or_more, choice, group, interleave}
 
@@ -36,6 +36,15 @@ interleave_of p q =
 abbrev pub one_or_more_of : Pattern → Pattern
 one_or_more_of p = if is_not_allowed p then not_allowed else one_or_more p
 
--- as many as one likes, or none
+-- whether a pattern is a repetition of some parts, and one of as many as one likes, or none
+abbrev pub is_repeated : Pattern → Bool
+is_repeated (one_or_more p) = true
+is_repeated _ = false
+
+abbrev pub is_star : Pattern → Bool
+is_star (choice p q) = is_repeated p && is_empty q
+is_star _ = false
+
+-- as many as one likes, or none; a repetition of such a repetition is that one
 abbrev pub star : Pattern → Pattern
-star p = choice_of (one_or_more p) empty
+star p = if is_star p then p else choice_of (one_or_more p) empty

@@ -10,22 +10,14 @@ use Rattle.rng_kept.specs.SmallPatterns.{is_empty, group_of, interleave_of, star
 use Rattle.rng_kept.specs.Nullable.{nullable}
 use Rattle.rng_kept.specs.Lists.{has_flat_lists}
 use Rattle.rng_residual.proofs.SmallPatterns.{or_same, seq_same, mix_same, or_sides, by_test, or_true, and_true, never_no, is_empty-is, nothing_inv, order_all, order_all_is, order_none_is, split_all, split_none, split_all_is, split_none_is, along}
-use Rattle.rng_residual.proofs.Nullable.{nullable_in, nullable_out, star_in, star_none, star_out, true_and, true_or_left, true_or_right}
+use Rattle.rng_residual.proofs.Nullable.{nullable_in, nullable_out, more, star_in, star_none, star_out, true_and, true_or_left, true_or_right}
 use Rattle.rng_kept.specs.Strings.{after}
 use Rattle.rng_kept.specs.Attributes.{value_fits, around, attribute_by, after_attribute}
 use Rattle.rng_residual.specs.Derivatives.{DerivesAttributes}
 use Rattle.rng_residual.proofs.Strings.{after_in, after_out, when_true}
-use Rattle.rng_residual.proofs.Splits.{split_assoc, split_back, order_assoc, order_back}
+use Rattle.rng_residual.proofs.Splits.{split_assoc, order_assoc}
 
 module _ {g : List Definition} where
-  -- one repetition after another
-  more : {p : Pattern} {a a1 a2 : List Attribute} {c c1 c2 : Children} → Matches g (one_or_more p) a1 c1 → Split a a1 a2 → InOrder c c1 c2 → Matches g (one_or_more p) a2 c2 → Matches g (one_or_more p) a c
-  more (by_one m) s o n = by_more s o m n
-  more (by_more s1 o1 m1 m2) s o n =
-      let w = split_back s s1 in
-      let v = order_back o o1 in
-      by_more w.outer v.outer m1 (more m2 w.inner v.inner n)
-
   pub star_more : (p : Pattern) {a a1 a2 : List Attribute} {c c1 c2 : Children} → Matches g (star p) a1 c1 → Split a a1 a2 → InOrder c c1 c2 → Matches g (one_or_more p) a2 c2 → Matches g (one_or_more p) a c
   star_more p {a = a} {a2 = a2} {c = c} {c2 = c2} m s o n =
       ⊎_elim (λ h. more h s o n)

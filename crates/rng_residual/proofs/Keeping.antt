@@ -1,14 +1,14 @@
 -- A property that the constructors keep is kept by those that keep patterns small, and by what is left behind a string.
-use Rattle.std.proofs.Common.{◌≡◌, Bool, true, false, ◌&&◌, ◌||◌, refl}
+use Rattle.std.proofs.Common.{◌≡◌, Bool, true, false, ◌&&◌, ◌||◌, refl, sym, subst}
 use Rattle.std.specs.Prelude.{if◌then◌else◌}
 use Rattle.nx_base.specs.declared.name.Name.{Name}
 use Rattle.rng_core.specs.Names.{has_attribute_name}
 use Rattle.rng_core.specs.Patterns.{Pattern, not_allowed, empty, any_text, typed, literal, listed, attribute, ref, one_or_more, choice, group, interleave}
-use Rattle.rng_kept.specs.SmallPatterns.{is_not_allowed, is_empty, is_side, with_side, choice_of, group_of, interleave_of, star}
+use Rattle.rng_kept.specs.SmallPatterns.{is_not_allowed, is_empty, is_side, with_side, choice_of, group_of, interleave_of, is_star, star}
 use Rattle.rng_kept.specs.Nullable.{nullable}
 use Rattle.rng_kept.specs.Lists.{lists_are}
 use Rattle.rng_residual.proofs.SmallPatterns.{by_test, and_true}
-use Rattle.rng_residual.proofs.Nullable.{true_and}
+use Rattle.rng_residual.proofs.Nullable.{true_and, star_form}
 use Rattle.rng_kept.specs.Strings.{Tests, after_by}
 use Rattle.rng_kept.specs.Attributes.{around, attribute_by}
 
@@ -70,7 +70,8 @@ interleave_keeps {C = C} k p q c d =
     (λ _. let e = or_false (is_not_allowed p) (is_not_allowed q) h in k.of_interleave p q e.0 e.1 c d)))
 
 pub star_keeps : {C : Pattern → Type 0} → Keeps C → (p : Pattern) → C (one_or_more p) → C (star p)
-star_keeps k p c = choice_keeps k (one_or_more p) empty c k.nothing
+star_keeps {C = C} k p c =
+    by_test C (is_star p) _ _ (λ _. k.from_more p c) (λ _. choice_keeps k (one_or_more p) empty c k.nothing)
 
 -- and what is left behind a string
 pub after_keeps : {C : Pattern → Type 0} → Keeps C → (tests : Tests) (p : Pattern) → C p → C (after_by tests p)
@@ -170,4 +171,6 @@ some_interleave p q h i =
     (λ _. by_test (λ r. is_not_allowed r ≡ false) (is_empty q) _ _ (λ _. h) (λ _. refl)))
 
 pub some_star : (p : Pattern) → is_not_allowed (star p) ≡ false
-some_star p = some_choice (one_or_more p) empty refl
+some_star p =
+    by_test (λ r. is_not_allowed r ≡ false) (is_star p) _ _
+    (λ h. subst (λ r. is_not_allowed r ≡ false) (sym (star_form p h).1) refl) (λ _. some_choice (one_or_more p) empty refl)

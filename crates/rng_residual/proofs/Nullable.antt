@@ -1,11 +1,12 @@
 -- What matches nothing at all, and what may be repeated.
-use Rattle.std.proofs.Common.{◌≡◌, List, [], Bool, true, false, ◌&&◌, ◌||◌, refl, subst, inl, inr, ◌⊎◌, ⊎_elim}
+use Rattle.std.proofs.Common.{◌≡◌, List, [], Bool, true, false, ◌&&◌, ◌||◌, refl, sym, ap, ◌∙◌, subst, inl, inr, ◌⊎◌, ⊎_elim}
 use Rattle.nx_base.specs.Trees.{Attribute, Children, nil}
 use Rattle.rng_core.specs.Patterns.{Pattern, Definition, not_allowed, empty, any_text, typed, literal, listed, attribute, ref, one_or_more, choice, group, interleave}
-use Rattle.rng_core.specs.Matching.{no_attribute, InOrder, then_second, Shuffle, no_child, no_string, Matches, by_empty, by_text, by_first, by_second, by_group, by_interleave, by_one, by_more}
+use Rattle.rng_core.specs.Matching.{Split, no_attribute, InOrder, then_second, Shuffle, no_child, no_string, Matches, by_empty, by_text, by_first, by_second, by_group, by_interleave, by_one, by_more}
 use Rattle.rng_kept.specs.Nullable.{nullable}
-use Rattle.rng_kept.specs.SmallPatterns.{star}
-use Rattle.rng_residual.proofs.SmallPatterns.{or_same, or_true, and_true, or_sides, nothing_inv, order_all_is}
+use Rattle.rng_kept.specs.SmallPatterns.{is_empty, is_repeated, is_star, star}
+use Rattle.rng_residual.proofs.SmallPatterns.{along, by_test, or_same, or_true, and_true, or_sides, is_empty-is, nothing_inv, order_all_is, order_none_is, split_all_is, split_none_is}
+use Rattle.rng_residual.proofs.Splits.{split_back, order_back}
 
 pub true_and : (a b : Bool) → a ≡ true → b ≡ true → (a && b) ≡ true
 true_and a b h k = rw (h, k) refl
@@ -41,14 +42,75 @@ nullable_out (listed p) h = cc
 nullable_out (attribute c p) h = cc
 nullable_out (ref i) h = cc
 
+-- one repetition after another
+pub more : {g : List Definition} {p : Pattern} {a a1 a2 : List Attribute} {c c1 c2 : Children} → Matches g (one_or_more p) a1 c1 → Split a a1 a2 → InOrder c c1 c2 → Matches g (one_or_more p) a2 c2 → Matches g (one_or_more p) a c
+more (by_one m) s o n = by_more s o m n
+more (by_more s1 o1 m1 m2) s o n =
+    let w = split_back s s1 in
+    let v = order_back o o1 in
+    by_more w.outer v.outer m1 (more m2 w.inner v.inner n)
+
+-- ---- as many as one likes, or none
+
+repeated_form : (p : Pattern) → is_repeated p ≡ true → (q : Pattern) × (p ≡ one_or_more q)
+repeated_form not_allowed h = cc
+repeated_form empty h = cc
+repeated_form any_text h = cc
+repeated_form (typed t e) h = cc
+repeated_form (literal t v) h = cc
+repeated_form (listed p) h = cc
+repeated_form (attribute n p) h = cc
+repeated_form (ref i) h = cc
+repeated_form (one_or_more p) h = (p, refl)
+repeated_form (choice p q) h = cc
+repeated_form (group p q) h = cc
+repeated_form (interleave p q) h = cc
+
+pub star_form : (p : Pattern) → is_star p ≡ true → (q : Pattern) × (p ≡ choice (one_or_more q) empty)
+star_form not_allowed h = cc
+star_form empty h = cc
+star_form any_text h = cc
+star_form (typed t e) h = cc
+star_form (literal t v) h = cc
+star_form (listed p) h = cc
+star_form (attribute n p) h = cc
+star_form (ref i) h = cc
+star_form (one_or_more p) h = cc
+star_form (choice p q) h =
+    let e = and_true (is_repeated p) (is_empty q) h in
+    let r = repeated_form p e.0 in
+    (r.0, ap (λ x. choice x q) r.1 ∙ ap (λ y. choice (one_or_more r.0) y) (is_empty-is q e.1))
+star_form (group p q) h = cc
+star_form (interleave p q) h = cc
+
+-- such repetitions one after another are one
+module _ {g : List Definition} {p : Pattern} where
+  joined : {a a1 a2 : List Attribute} {c c1 c2 : Children} → Split a a1 a2 → InOrder c c1 c2 → Matches g (choice (one_or_more p) empty) a1 c1 →
+      Matches g (choice (one_or_more p) empty) a2 c2 → Matches g (choice (one_or_more p) empty) a c
+  joined s o (by_first m) (by_first n) = by_first (more m s o n)
+  joined s o (by_first m) (by_second by_empty) = along _ _ _ _ _ (split_all_is s) (order_all_is o) (by_first m)
+  joined s o (by_second by_empty) n = along _ _ _ _ _ (split_none_is s) (order_none_is o) n
+
+  again : {a : List Attribute} {c : Children} → Matches g (one_or_more (choice (one_or_more p) empty)) a c → Matches g (choice (one_or_more p) empty) a c
+  again (by_one m) = m
+  again (by_more s o m n) = joined s o m (again n)
+
 pub star_in : {g : List Definition} {p : Pattern} {a : List Attribute} {c : Children} → Matches g (one_or_more p) a c → Matches g (star p) a c
-star_in {g = g} {p = p} m = (or_same g (one_or_more p) empty).from (by_first m)
+star_in {g = g} {p = p} {a = a} {c = c} m =
+    by_test (λ r. Matches g r a c) (is_star p) _ _
+    (λ h. let f = star_form p h in subst (λ r. Matches g r a c) (sym f.1) (again (subst (λ r. Matches g (one_or_more r) a c) f.1 m)))
+    (λ _. (or_same g (one_or_more p) empty).from (by_first m))
 
 pub star_none : {g : List Definition} (p : Pattern) → Matches g (star p) [] nil
-star_none {g = g} p = (or_same g (one_or_more p) empty).from (by_second by_empty)
+star_none {g = g} p =
+    by_test (λ r. Matches g r [] nil) (is_star p) _ _
+    (λ h. subst (λ r. Matches g r [] nil) (sym (star_form p h).1) (by_second by_empty))
+    (λ _. (or_same g (one_or_more p) empty).from (by_second by_empty))
 
 pub star_out : {g : List Definition} {p : Pattern} {a : List Attribute} {c : Children} → Matches g (star p) a c → Matches g (one_or_more p) a c ⊎ Matches g empty a c
-star_out {g = g} {p = p} m = or_sides ((or_same g (one_or_more p) empty).to m)
+star_out {g = g} {p = p} {a = a} {c = c} m =
+    by_test (λ r. Matches g r a c → Matches g (one_or_more p) a c ⊎ Matches g empty a c) (is_star p) _ _
+    (λ _ n. inl (by_one n)) (λ _ n. or_sides ((or_same g (one_or_more p) empty).to n)) m
 
 pub record InGroup (g : List Definition) (p q : Pattern) (c : Children) : Type 0 where
   pub c1 : Children
