@@ -173,6 +173,7 @@ impl Nodes {
 
     /// As many parts as one likes, or none. Where the part is such a repetition, that is it: nested ones would grow with each attribute that they
     /// take.
+    #[tactic(auto, unfolding(rng_kept::specs::SmallPatterns::star))]
     pub(crate) fn star(&mut self, p: usize) -> Result<usize, NoMemory>
         requires { p < length self.old }
         ensures later { Later self.old self.new }

@@ -298,6 +298,7 @@ fn is_star(p: &Pat) -> bool
 
 /// As many parts as one likes, or none, in a box. Where the part is such a repetition, that is it: nested ones would grow with each attribute that
 /// they take.
+#[tactic(auto, unfolding(rng_kept::specs::SmallPatterns::star))]
 #[inline(never)]
 pub(crate) fn starred(alloc: Global, p: &Pat) -> Result<Box<Pat>, NoMemory>
     ensures { IfOk result (λ made. pattern_of made.value ≡ s.star (pattern_of p.now)) }

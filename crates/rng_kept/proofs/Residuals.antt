@@ -3,10 +3,11 @@ use Rattle.std.proofs.Common.{refl}
 use Rattle.std.specs.Str.{chars, is_utf8}
 use lib.Utf8.{encode}
 use Rattle.nx_base.specs.Characters.{is_char, is_space, is_name_start, is_name_char}
+use Rattle.rng_kept.specs.SmallPatterns.{star}
 use Rattle.rng_kept.specs.Examples.{LeavesResiduals, ShufflesChildren, NeedsElements}
 
 pub leaves_residuals : LeavesResiduals
-unfolding is_char is_space is_name_start is_name_char chars is_utf8 encode
+unfolding star is_char is_space is_name_start is_name_char chars is_utf8 encode
 leaves_residuals = record {
   no_para = refl;
   no_skip_to_para = refl;
@@ -29,11 +30,11 @@ leaves_residuals = record {
 }
 
 pub shuffles_children : ShufflesChildren
-unfolding is_char is_space is_name_start is_name_char chars is_utf8 encode
+unfolding star is_char is_space is_name_start is_name_char chars is_utf8 encode
 shuffles_children = record { a_b_a = refl; no_second_b = refl; no_end_without_a = refl }
 
 pub needs_elements : NeedsElements
-unfolding is_char is_space is_name_start is_name_char chars is_utf8 encode
+unfolding star is_char is_space is_name_start is_name_char chars is_utf8 encode
 needs_elements = record {
   a_title_before_a_para = refl;
   a_title_in_all = refl;

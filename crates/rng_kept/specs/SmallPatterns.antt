@@ -46,5 +46,5 @@ is_star (choice p q) = is_repeated p && is_empty q
 is_star _ = false
 
 -- as many as one likes, or none; a repetition of such a repetition is that one
-abbrev pub star : Pattern → Pattern
+unfoldable pub star : Pattern → Pattern
 star p = if is_star p then p else choice_of (one_or_more p) empty

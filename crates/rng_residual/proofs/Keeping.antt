@@ -70,6 +70,7 @@ interleave_keeps {C = C} k p q c d =
     (λ _. let e = or_false (is_not_allowed p) (is_not_allowed q) h in k.of_interleave p q e.0 e.1 c d)))
 
 pub star_keeps : {C : Pattern → Type 0} → Keeps C → (p : Pattern) → C (one_or_more p) → C (star p)
+unfolding star
 star_keeps {C = C} k p c =
     by_test C (is_star p) _ _ (λ _. k.from_more p c) (λ _. choice_keeps k (one_or_more p) empty c k.nothing)
 
@@ -171,6 +172,7 @@ some_interleave p q h i =
     (λ _. by_test (λ r. is_not_allowed r ≡ false) (is_empty q) _ _ (λ _. h) (λ _. refl)))
 
 pub some_star : (p : Pattern) → is_not_allowed (star p) ≡ false
+unfolding star
 some_star p =
     by_test (λ r. is_not_allowed r ≡ false) (is_star p) _ _
     (λ h. subst (λ r. is_not_allowed r ≡ false) (sym (star_form p h).1) refl) (λ _. some_choice (one_or_more p) empty refl)

@@ -96,18 +96,21 @@ module _ {g : List Definition} {p : Pattern} where
   again (by_more s o m n) = joined s o m (again n)
 
 pub star_in : {g : List Definition} {p : Pattern} {a : List Attribute} {c : Children} → Matches g (one_or_more p) a c → Matches g (star p) a c
+unfolding star
 star_in {g = g} {p = p} {a = a} {c = c} m =
     by_test (λ r. Matches g r a c) (is_star p) _ _
     (λ h. let f = star_form p h in subst (λ r. Matches g r a c) (sym f.1) (again (subst (λ r. Matches g (one_or_more r) a c) f.1 m)))
     (λ _. (or_same g (one_or_more p) empty).from (by_first m))
 
 pub star_none : {g : List Definition} (p : Pattern) → Matches g (star p) [] nil
+unfolding star
 star_none {g = g} p =
     by_test (λ r. Matches g r [] nil) (is_star p) _ _
     (λ h. subst (λ r. Matches g r [] nil) (sym (star_form p h).1) (by_second by_empty))
     (λ _. (or_same g (one_or_more p) empty).from (by_second by_empty))
 
 pub star_out : {g : List Definition} {p : Pattern} {a : List Attribute} {c : Children} → Matches g (star p) a c → Matches g (one_or_more p) a c ⊎ Matches g empty a c
+unfolding star
 star_out {g = g} {p = p} {a = a} {c = c} m =
     by_test (λ r. Matches g r a c → Matches g (one_or_more p) a c ⊎ Matches g empty a c) (is_star p) _ _
     (λ _ n. inl (by_one n)) (λ _ n. or_sides ((or_same g (one_or_more p) empty).to n)) m
