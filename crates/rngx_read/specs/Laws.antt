@@ -1,12 +1,14 @@
--- Laws of reading elements.
+-- Laws of reading: of elements, of texts in the XML syntax, and of files in either syntax.
 use Rattle.std.specs.Prelude.{◌≡◌, ℕ, ◌⊎◌, List}
 use Rattle.std.specs.Str.{IsUtf8}
+use Rattle.nx_base.specs.declared.cause.Cause.{Cause}
 use Rattle.rnc_parse.specs.Written.{WrittenSurface}
 use Rattle.rngx_read.specs.Elements.{Elements}
+use Rattle.rngx_read.specs.Files.{RefusesMarkup, ReadsFile, RefusesFile}
 use Rattle.rngx_read.specs.Names.{Resolver, bound_in}
 use Rattle.rngx_read.specs.Reading.{read, no_form, no_prefix}
 use Rattle.rngx_read.specs.ReadingPatterns.{surface_at}
-use Rattle.rngx_read.specs.Reads.{IsFile, Extends, LeavesOut, Reads, HasBadMarkup, IsTooDeep, HasBadForm, HasUndeclared}
+use Rattle.rngx_read.specs.Reads.{IsFile, Extends, LeavesOut, Reads}
 
 -- the elements are in no reading, whatever the prefixes stand for that are left out
 abbrev pub HaveNoForm : Elements → Type 0
@@ -22,28 +24,32 @@ abbrev pub ElementsAreReadOrRefused : Type 0
 ElementsAreReadOrRefused = (elements : Elements) → ((surface : WrittenSurface) × IsFile bound_in elements surface)
     ⊎ (HaveNoForm elements ⊎ ((prefix : List ℕ) × LeavesOut bound_in prefix elements))
 
--- ---- of texts
+-- ---- of texts in the XML syntax
 
 -- a text is read as one surface at most
-abbrev pub TextsAreReadAsOne : Type 0
-TextsAreReadAsOne = (text : List ℕ) (one other : WrittenSurface) → Reads text one → Reads text other → one ≡ other
+abbrev pub MarkupIsReadAsOne : Type 0
+MarkupIsReadAsOne = (text : List ℕ) (one other : WrittenSurface) → Reads text one → Reads text other → one ≡ other
 
 -- a text that is read is refused for no cause
-pub record IsNotRefused (text : List ℕ) : Type 0 where
-  pub markup : (at : ℕ) → HasBadMarkup text at → ⊥
-  pub depth : (at : ℕ) → IsTooDeep text at → ⊥
-  pub form : HasBadForm text → ⊥
-  pub prefixes : (prefix : List ℕ) → HasUndeclared text prefix → ⊥
-
-abbrev pub WhatIsReadIsNotRefused : Type 0
-WhatIsReadIsNotRefused = (text : List ℕ) (surface : WrittenSurface) → Reads text surface → IsNotRefused text
+abbrev pub MarkupReadIsNotRefused : Type 0
+MarkupReadIsNotRefused = (text : List ℕ) (surface : WrittenSurface) (why : Cause) → Reads text surface → RefusesMarkup text why → ⊥
 
 -- each text is read, or refused for some cause
-abbrev pub IsRefused : List ℕ → Type 0
-IsRefused text = ((at : ℕ) × HasBadMarkup text at) ⊎ (((at : ℕ) × IsTooDeep text at) ⊎ (HasBadForm text ⊎ ((prefix : List ℕ) × HasUndeclared text prefix)))
+abbrev pub MarkupIsReadOrRefused : Type 0
+MarkupIsReadOrRefused = (text : List ℕ) → IsUtf8 text →
+    ((surface : WrittenSurface) × Reads text surface) ⊎ ((why : Cause) × RefusesMarkup text why)
+
+-- ---- of files, in either syntax
+
+abbrev pub TextsAreReadAsOne : Type 0
+TextsAreReadAsOne = (text : List ℕ) (one other : WrittenSurface) → ReadsFile text one → ReadsFile text other → one ≡ other
+
+abbrev pub WhatIsReadIsNotRefused : Type 0
+WhatIsReadIsNotRefused = (text : List ℕ) (surface : WrittenSurface) (why : Cause) → ReadsFile text surface → RefusesFile text why → ⊥
 
 abbrev pub TextsAreReadOrRefused : Type 0
-TextsAreReadOrRefused = (text : List ℕ) → IsUtf8 text → ((surface : WrittenSurface) × Reads text surface) ⊎ IsRefused text
+TextsAreReadOrRefused = (text : List ℕ) → IsUtf8 text →
+    ((surface : WrittenSurface) × ReadsFile text surface) ⊎ ((why : Cause) × RefusesFile text why)
 
 -- ---- of the program's own functions
 

@@ -1,10 +1,8 @@
 //! Laws of reading. Nothing here runs.
 
 ghost use Rattle.rngx_read.specs.Laws.{WhatIsFoundIsSaid, WhatStopsIsLeftOut, WhatIsSaidIsFound, ElementsSayOneThing};
-ghost use Rattle.rngx_read.specs.Laws.{ElementsAreReadOrRefused, TextsAreReadAsOne, WhatIsReadIsNotRefused, TextsAreReadOrRefused};
-
-use nx_document::law::well_formed_is_document;
-use nx_events::law::tree_events_stay_apart;
+ghost use Rattle.rngx_read.specs.Laws.{ElementsAreReadOrRefused, MarkupIsReadAsOne, MarkupReadIsNotRefused, MarkupIsReadOrRefused};
+ghost use Rattle.rngx_read.specs.Laws.{TextsAreReadAsOne, WhatIsReadIsNotRefused, TextsAreReadOrRefused};
 
 /// What reading finds the elements say.
 pub fn what_is_found_is_said()
@@ -31,23 +29,32 @@ pub fn elements_are_read_or_refused()
     ensures { ElementsAreReadOrRefused }
 {}
 
-/// A text is read as one surface at most.
+/// A text in the XML syntax is read as one surface at most.
+pub fn markup_is_read_as_one()
+    ensures { MarkupIsReadAsOne }
+{}
+
+/// A text in the XML syntax that is read is refused for no cause.
+pub fn markup_read_is_not_refused()
+    ensures { MarkupReadIsNotRefused }
+{}
+
+/// Each text in the XML syntax is read, or refused for some cause.
+pub fn markup_is_read_or_refused()
+    ensures { MarkupIsReadOrRefused }
+{}
+
+/// The text of a file, in either syntax, is read as one surface at most.
 pub fn texts_are_read_as_one()
     ensures { TextsAreReadAsOne }
-{
-    tree_events_stay_apart();
-}
+{}
 
-/// A text that is read is refused for no cause.
+/// The text of a file that is read is refused for no cause.
 pub fn what_is_read_is_not_refused()
     ensures { WhatIsReadIsNotRefused }
-{
-    tree_events_stay_apart();
-}
+{}
 
-/// Each text is read, or refused for some cause.
+/// The text of each file is read, or refused for some cause.
 pub fn texts_are_read_or_refused()
     ensures { TextsAreReadOrRefused }
-{
-    well_formed_is_document();
-}
+{}

@@ -3,6 +3,7 @@
 ghost use Rattle.std.specs.Prelude.{◌≡◌, ◌<◌, ◌≤◌, ℕ, List, length, IfOk, IsUtf8};
 ghost use Rattle.nx_base.specs.Tokens.{tokens_of, AreTokensOf};
 ghost use Rattle.nx_events.specs.Items.{items_of_text};
+ghost use Rattle.rnc_parse.specs.Texts.{HasUtf8Texts};
 ghost use Rattle.rnc_parse.specs.Views.{surface_of};
 ghost use Rattle.rngx_read.specs.Elements.{IsReadAs, Nodes};
 ghost use Rattle.rngx_read.specs.Files.{behind_mark, is_markup};
@@ -87,6 +88,7 @@ pub fn read<L: Ledger>(
     steps: &mut Steps<L>,
 ) -> Result<Surface, XReadFault>
     ensures answers { AnswersText text.now result }
+    ensures texts { IfOk result (λ surface. HasUtf8Texts (surface_of surface)) }
     ensures steps { steps.old ≤ steps.new }
 {
     let whole = as_text(alloc, text)?;
