@@ -9,7 +9,7 @@ mod Building
 mod Lists
 mod Loops
 mod Cutting
-mod Scoping
+mod Scopes
 mod TooDeep
 mod Laws
 mod Whole
