@@ -6,6 +6,8 @@ mod Patterns
 mod Completing
 mod Below
 mod Building
+mod ElementViews
+mod BuiltViews
 mod Lists
 mod Loops
 mod Cutting
@@ -16,3 +18,4 @@ mod Whole
 mod Tallies
 mod Nodes
 mod Texts
+pub mod WholeFiles

@@ -31,14 +31,13 @@ use Rattle.nx_events.specs.CharacterFaults.{character_faults}
 use Rattle.nx_events.specs.Declarations.{declaration_faults}
 use Rattle.nx_events.specs.Elements.{element_resolved, element_items, resolved_if_attribute, attribute_item, kept_name, attribute_items}
 use Rattle.nx_events.specs.Faults.{bare_fault, faults_as_items}
-use Rattle.nx_events.specs.InForce.{scope_of}
 use Rattle.nx_events.specs.Items.{token_span, token_fault_if, is_inside, is_before, is_behind, declaration_items, doctype_items, character_items, comment_items, pi_items, cdata_items, text_items, own_bindings, start_items, empty_items, around_innermost, left_out, extra_end_items, closing_items, end_items, items_by_kind, items_of_token, state_behind, items_at_end, items_from}
 use Rattle.nx_events.specs.Markup.{is_bad_comment, is_bad_pi}
 use Rattle.nx_events.specs.Runs.{run_items}
 use Rattle.nx_events.specs.Tags.{start_name, end_name, tag_attributes}
 use Rattle.nx_events.specs.TreeEvents.{as_event}
 use Rattle.nx_events.specs.XmlDeclaration.{is_xml_declaration}
-use Rattle.rngx_read.specs.Elements.{scopes_by_kind, scopes_of_token, scopes_from}
+use Rattle.rngx_read.specs.Elements.{declared_by, declared_of_token}
 
 -- ---- among events, and among items
 
@@ -183,7 +182,7 @@ declaration_enters state token = by_test state.came
 
 -- ---- a token's items, and all
 
-kind_enters : (kind : TokenKind) (state : EventState) (token : Token) → entered (items_by_kind kind state token) ≡ length (scopes_by_kind kind state token)
+kind_enters : (kind : TokenKind) (state : EventState) (token : Token) → entered (items_by_kind kind state token) ≡ length (declared_by kind token)
 unfolding doctype_items comment_items pi_items cdata_items text_items end_items entered
 kind_enters tokens.Bom state token = refl
 kind_enters tokens.Decl state token = declaration_enters state token
@@ -198,7 +197,7 @@ kind_enters tokens.Start state token = start_enters state token
 kind_enters tokens.Empty state token = empty_enters state token
 kind_enters tokens.End state token = closing_enters state token (around_innermost (end_name token.bytes) state.elements)
 
-token_enters : (state : EventState) (token : Token) → entered (items_of_token state token) ≡ length (scopes_of_token state token)
+token_enters : (state : EventState) (token : Token) → entered (items_of_token state token) ≡ length (declared_of_token token)
 unfolding items_of_token
 token_enters state token = kind_enters token.kind state token
 
@@ -215,13 +214,13 @@ end_enters state len =
     by_test false = refl
 
 -- one for each place where declarations are told
-pub items_enter : (state : EventState) (all : List Token) (len : ℕ) → entered (items_from state all len) ≡ length (scopes_from state all)
-unfolding items_from scopes_from
+pub items_enter : (state : EventState) (all : List Token) (len : ℕ) → entered (items_from state all len) ≡ length (flat_map declared_of_token all)
+unfolding items_from
 items_enter state [] len = end_enters state len
 items_enter state (token ∷ others) len =
-    both (items_of_token state token) (items_from (state_behind state token) others len) (length (scopes_of_token state token)) (length (scopes_from (state_behind state token) others))
+    both (items_of_token state token) (items_from (state_behind state token) others len) (length (declared_of_token token)) (length (flat_map declared_of_token others))
     (token_enters state token) (items_enter (state_behind state token) others len)
-    ∙ sym (length-append (scopes_of_token state token) (scopes_from (state_behind state token) others))
+    ∙ sym (length-append (declared_of_token token) (flat_map declared_of_token others))
 
 -- ---- the elements of a tree
 

@@ -17,38 +17,38 @@ pub record Frame : Type 0 where
   pub children : Elements
 
 -- the innermost open element of the schema, those around it, innermost first, how many are open that are passed over, and the
--- declarations in force at the tags that come
+-- own declarations of the tags that come
 pub record Built : Type 0 where
   pub inner : Frame
   pub outer : List Frame
   pub passed : ℕ
-  pub scopes : List (List Name)
+  pub declared : List (List Name)
 
-abbrev pub next_scope : List (List Name) → List Name
-next_scope [] = []
-next_scope (scope ∷ more) = scope
+abbrev pub next_own : List (List Name) → List Name
+next_own [] = []
+next_own (own ∷ more) = own
 
-abbrev pub later_scopes : List (List Name) → List (List Name)
-later_scopes [] = []
-later_scopes (scope ∷ more) = more
+abbrev pub later_ones : List (List Name) → List (List Name)
+later_ones [] = []
+later_ones (own ∷ more) = more
 
--- an element without anything in it
+-- an element without anything in it, at which these declarations are in force
 abbrev pub bare : List ℕ → List Name → Frame
 bare local scope = record { tag = record { local = local; attributes = []; scope = scope; text = [] }; children = no_elements }
 
 -- the declarations of the next tag are taken
-abbrev pub scope_passed : Built → Built
-scope_passed built = record built { scopes = later_scopes built.scopes }
+abbrev pub own_taken : Built → Built
+own_taken built = record built { declared = later_ones built.declared }
 
--- an element of the schema begins, at which these declarations are in force
+-- an element of the schema begins, which has these declarations of its own
 abbrev pub opened_with : Name → List Name → Built → Built
-opened_with name scope built = record built { inner = bare name.local scope; outer = built.inner ∷ built.outer }
+opened_with name own built = record built { inner = bare name.local (built.inner.tag.scope ++ own); outer = built.inner ∷ built.outer }
 
 abbrev pub opened : Name → Built → Built
-opened name built = opened_with name (next_scope built.scopes) (scope_passed built)
+opened name built = opened_with name (next_own built.declared) (own_taken built)
 
 abbrev pub passed_by : Built → Built
-passed_by built = record built { passed = suc built.passed; scopes = later_scopes built.scopes }
+passed_by built = record built { passed = suc built.passed; declared = later_ones built.declared }
 
 abbrev pub entered_by : ℕ → Name → Built → Built
 entered_by zero name built = if bytes_eq name.ns schema_namespace then opened name built else passed_by built

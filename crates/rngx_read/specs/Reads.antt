@@ -74,7 +74,7 @@ pub record Reads (text : List ℕ) (surface : WrittenSurface) : Type 0 where
   pub nodes : Nodes
   pub is_read : IsReadAs text nodes
   pub shallow : IsShallow (items_of_text text)
-  pub says : IsFile bound_in (elements_in nodes) surface
+  pub says : IsFile bound_in (elements_in [] nodes) surface
 
 -- ---- why a text says nothing
 
@@ -99,7 +99,7 @@ pub record HasBadForm (text : List ℕ) : Type 0 where
   pub nodes : Nodes
   pub is_read : IsReadAs text nodes
   pub shallow : IsShallow (items_of_text text)
-  pub no_file : (resolve : Resolver) (surface : WrittenSurface) → Extends resolve → IsFile resolve (elements_in nodes) surface → ⊥
+  pub no_file : (resolve : Resolver) (surface : WrittenSurface) → Extends resolve → IsFile resolve (elements_in [] nodes) surface → ⊥
 
 -- a name of a class that is written at the tag
 pub data Writes (tag : Tag) : List ℕ → Type 0 where
@@ -131,7 +131,7 @@ pub record HasUndeclared (text prefix : List ℕ) : Type 0 where
   pub nodes : Nodes
   pub is_read : IsReadAs text nodes
   pub shallow : IsShallow (items_of_text text)
-  pub left_out : LeavesOut bound_in prefix (elements_in nodes)
+  pub left_out : LeavesOut bound_in prefix (elements_in [] nodes)
 
 -- ---- what `read` answers; want of memory is free
 
@@ -160,9 +160,9 @@ AnswersText text (Err fault.NoMemory) = Unit {0}
 
 -- the same of a text that is read as these nodes
 abbrev pub AnswersNodes : List ℕ → Nodes → Result Surface XReadFault → Type 0
-AnswersNodes text nodes (Ok surface) = IsFile bound_in (elements_in nodes) (surface_of surface)
+AnswersNodes text nodes (Ok surface) = IsFile bound_in (elements_in [] nodes) (surface_of surface)
 AnswersNodes text nodes (Err (fault.BadForm at)) =
-    ((resolve : Resolver) (surface : WrittenSurface) → Extends resolve → IsFile resolve (elements_in nodes) surface → ⊥) × BeginsToken text at
-AnswersNodes text nodes (Err (fault.UndeclaredPrefix prefix)) = LeavesOut bound_in prefix (elements_in nodes)
+    ((resolve : Resolver) (surface : WrittenSurface) → Extends resolve → IsFile resolve (elements_in [] nodes) surface → ⊥) × BeginsToken text at
+AnswersNodes text nodes (Err (fault.UndeclaredPrefix prefix)) = LeavesOut bound_in prefix (elements_in [] nodes)
 AnswersNodes text nodes (Err fault.NoMemory) = Unit {0}
 AnswersNodes text nodes (Err _) = ⊥

@@ -6,8 +6,9 @@ use Rattle.rnc_parse.specs.declared.surface.Pattern.{Pattern}
 use Rattle.rnc_parse.specs.Views.{class_of, pattern_of}
 use Rattle.rnc_parse.specs.Written.{WrittenClass, WrittenPattern}
 use Rattle.rngx_read.specs.declared.build.Builder.{Builder}
+use Rattle.rngx_read.specs.declared.build.Open.{Open}
 use Rattle.rngx_read.specs.declared.context.Context.{Context as TheContext}
-use Rattle.rngx_read.specs.declared.element.Element.{Element}
+use Rattle.rngx_read.specs.declared.element.Element.{Element, out-Element}
 use Rattle.rngx_read.specs.declared.element.Element as elements
 use Rattle.rngx_read.specs.declared.element.Tag.{Tag}
 use Rattle.rngx_read.specs.declared.pattern.Parts.{Parts as TheParts}
@@ -19,10 +20,10 @@ use Rattle.rngx_read.specs.ReadingPatterns.{Parts}
 abbrev pub context_of : TheContext → Context
 context_of context = record { namespace = namespace_or (option_copied context.namespace); library = context.library.now }
 
-abbrev mutual
-  pub tag_of : Element → Tag
-  tag_of (elements.Element' tag at shape row) = tag
+abbrev pub tag_of : Element → Tag
+tag_of element = (out-Element element).tag
 
+abbrev mutual
   pub children_of : Element → Elements
   children_of (elements.Element' tag at shape row) = row_of row
 
@@ -45,13 +46,13 @@ abbrev pub parts_of : TheParts → Parts
 parts_of parts = record { params = parts.params; except = option_map pattern_of parts.except }
 
 -- an open element, and what the builder holds: its lists stand the other way round there
-abbrev pub frame_of : Element → Frame
-frame_of element = record { tag = tag_of element; children = children_of element }
+abbrev pub frame_of : Open → Frame
+frame_of frame = record { tag = frame.tag; children = listed frame.children.items }
 
 abbrev pub built_of : Builder → Built
 built_of builder = record {
   inner = frame_of builder.inner;
   outer = map frame_of (reverse builder.outer.items);
   passed = builder.passed;
-  scopes = reverse builder.scopes.items;
+  declared = reverse builder.declared.items;
 }

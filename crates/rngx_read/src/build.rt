@@ -5,10 +5,11 @@ ghost use Rattle.nx_base.specs.Trees.{children_flat};
 ghost use Rattle.nx_events.specs.Among.{events_among};
 ghost use Rattle.nx_events.specs.TreeEvents.{as_event};
 ghost use Rattle.rngx_read.specs.Building as building;
-ghost use Rattle.rngx_read.specs.Elements.{Nodes, without_scopes, scopes_and, elements_in};
+ghost use Rattle.rngx_read.specs.Elements.{Nodes, without_declarations, declarations_and, elements_in};
 ghost use Rattle.rngx_read.specs.Views.{built_of, frame_of, listed};
 
 use crate::element::{Attribute, Element, Tag};
+use crate::scope::Scope;
 use nx_base::memory::NoMemory;
 use nx_base::name::{Name, Names};
 use nx_base::sequence::{Bytes, Sequence, TryCopy};
@@ -19,22 +20,32 @@ use std::mem;
 /// The namespace of schemas.
 const SCHEMA_NAMESPACE: &[u8] = b"http://relaxng.org/ns/structure/1.0";
 
+/// An open element, as far as it is read.
+#[derive(Drop)]
+struct Open {
+    tag: Tag,
+    /// Where its tag begins.
+    at: usize,
+    /// Its child elements in the schema's namespace.
+    children: Vec<Element>,
+}
+
 /// Elements that are being put together.
 #[derive(Drop)]
 struct Builder {
     alloc: Global,
     /// The innermost open element of the schema. Outside of all elements, what holds the root.
-    inner: Element,
+    inner: Open,
     /// Those around it, the innermost last.
-    outer: Vec<Element>,
+    outer: Vec<Open>,
     /// How many elements are open that are passed over.
     passed: usize,
-    /// The declarations in force at the tags that come, the next one last.
-    scopes: Vec<Names>,
+    /// The own declarations of the tags that come, the next one last.
+    declared: Vec<Names>,
 }
 
-/// An element without anything in it.
-fn bare(alloc: Global, local: Bytes, scope: Names, at: usize) -> Element
+/// An element without anything in it, at which these declarations are in force.
+fn bare(alloc: Global, local: Bytes, scope: Scope, at: usize) -> Open
     ensures { frame_of result ≡ building.bare local scope }
 {
     let tag = Tag {
@@ -43,7 +54,7 @@ fn bare(alloc: Global, local: Bytes, scope: Names, at: usize) -> Element
         scope,
         text: Bytes::new(alloc),
     };
-    Element {
+    Open {
         tag,
         at,
         children: Vec::new(alloc),
@@ -58,14 +69,13 @@ fn extend(text: &mut Bytes, more: &Bytes) -> Result<(), NoMemory>
 }
 
 impl Builder {
-    /// The declarations in force at the next tag.
-    fn next_scope(&mut self) -> Names
-        ensures next { result ≡ building.next_scope (built_of self.old).scopes }
-        ensures rest { built_of self.new ≡ building.scope_passed (built_of self.old) }
-        ensures passed { self.new.passed ≡ self.old.passed }
+    /// The own declarations of the next tag.
+    fn next_own(&mut self) -> Names
+        ensures next { result ≡ building.next_own (built_of self.old).declared }
+        ensures rest { built_of self.new ≡ building.own_taken (built_of self.old) }
     {
-        match self.scopes.pop() {
-            Some(scope) => scope,
+        match self.declared.pop() {
+            Some(own) => own,
             None => Names::new(self.alloc),
         }
     }
@@ -75,18 +85,19 @@ impl Builder {
         requires { self.old.passed + 1 < 2 ^ 64 }
         ensures { OnOk result (built_of self.new ≡ building.entered_by self.old.passed name.now (built_of self.old)) }
     {
-        let scope = self.next_scope();
+        let own = self.next_own();
         if self.passed > 0 || name.ns.as_slice() != SCHEMA_NAMESPACE {
             self.passed += 1;
             return Ok(());
         }
-        self.open(name, scope, at)
+        self.open(name, own, at)
     }
 
-    /// An element of the schema begins, at which these declarations are in force.
-    fn open(&mut self, name: &Name, scope: Names, at: usize) -> Result<(), NoMemory>
-        ensures { OnOk result (built_of self.new ≡ building.opened_with name.now scope (built_of self.old)) }
+    /// An element of the schema begins, which has these declarations of its own.
+    fn open(&mut self, name: &Name, own: Names, at: usize) -> Result<(), NoMemory>
+        ensures { OnOk result (built_of self.new ≡ building.opened_with name.now own (built_of self.old)) }
     {
+        let scope = Scope::inside(self.alloc, &self.inner.tag.scope, own)?;
         let local = name.local.copy()?;
         let inner = bare(self.alloc, local, scope, at);
         let outer = mem::replace(&mut self.inner, inner);
@@ -127,8 +138,8 @@ impl Builder {
         let Some(outer) = self.outer.pop() else {
             return Ok(());
         };
-        let ended = mem::replace(&mut self.inner, outer);
-        self.inner.children.push(ended)?;
+        let Open { tag, at, children } = mem::replace(&mut self.inner, outer);
+        self.inner.children.push(Element { tag, at, children })?;
         Ok(())
     }
 
@@ -149,24 +160,24 @@ impl Builder {
     }
 }
 
-/// The elements of the schema that stand outside of all others, among items without faults. The declarations in force at their
-/// tags stand in order.
+/// The elements of the schema that stand outside of all others, among items without faults. The own declarations of their tags
+/// stand in order.
 pub(crate) fn elements_of(
     alloc: Global,
     items: &[Item],
-    scopes: Vec<Names>,
+    declared: Vec<Names>,
 ) -> Result<Vec<Element>, NoMemory>
-    ensures { (nodes : Nodes) → events_among items.now ≡ map as_event (children_flat (without_scopes nodes) []) →
-        scopes.items ≡ scopes_and nodes [] → IfOk result (λ elements. listed elements.items ≡ elements_in nodes) }
+    ensures { (nodes : Nodes) → events_among items.now ≡ map as_event (children_flat (without_declarations nodes) []) →
+        declared.items ≡ declarations_and nodes [] → IfOk result (λ elements. listed elements.items ≡ elements_in [] nodes) }
 {
-    let mut scopes = scopes;
-    scopes.reverse();
+    let mut declared = declared;
+    declared.reverse();
     let mut builder = Builder {
         alloc,
-        inner: bare(alloc, Bytes::new(alloc), Names::new(alloc), 0),
+        inner: bare(alloc, Bytes::new(alloc), Scope::new(), 0),
         outer: Vec::new(alloc),
         passed: 0,
-        scopes,
+        declared,
     };
     add_all(&mut builder, items)?;
     let Builder { inner, .. } = builder;

@@ -1,5 +1,5 @@
-use Rattle.rngx_read.proofs.Texts.{one_surface}
+use Rattle.rngx_read.proofs.WholeFiles.{read_as_one}
 use Rattle.rngx_read.proofs.law.texts_are_read_as_one.Goals as goal
 
 pub returns : goal.returns
-returns c = one_surface c.tree_events_stay_apart.ensures
+returns c = read_as_one

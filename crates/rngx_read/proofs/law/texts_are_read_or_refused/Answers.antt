@@ -1,5 +1,5 @@
-use Rattle.rngx_read.proofs.Texts.{read_or_not}
+use Rattle.rngx_read.proofs.WholeFiles.{read_or_refused}
 use Rattle.rngx_read.proofs.law.texts_are_read_or_refused.Goals as goal
 
 pub returns : goal.returns
-returns c = read_or_not c.well_formed_is_document.ensures
+returns c = read_or_refused
