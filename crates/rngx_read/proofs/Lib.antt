@@ -11,6 +11,7 @@ mod BuiltViews
 mod Lists
 mod Loops
 mod Cutting
+mod Declaring
 mod Scopes
 mod TooDeep
 mod Laws
@@ -18,4 +19,8 @@ mod Whole
 mod Tallies
 mod Nodes
 mod Texts
+mod ElementTexts
+mod SaidTexts
+mod Answering
+mod Marks
 pub mod WholeFiles

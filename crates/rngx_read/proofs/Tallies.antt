@@ -1,5 +1,5 @@
 -- How many elements begin among the items of a text: one for each tag that begins an element.
-use Rattle.std.proofs.Common.{◌≡◌, ℕ, suc, ◌+◌, ◌-◌, ◌==◌, Bool, true, false, cond, Option, Some, None, List, [], ◌∷◌, ◌++◌, length, drop, reverse, map, refl, ap, sym, ◌∙◌, arith, length-append}
+use Rattle.std.proofs.Common.{◌≡◌, ℕ, suc, ◌+◌, ◌-◌, ◌==◌, Bool, true, false, cond, Option, Some, None, List, [], ◌∷◌, ◌++◌, length, drop, reverse, map, refl, ap, sym, ◌∙◌, arith, length-append, zero-add}
 use Rattle.std.specs.Prelude.{not, ◌&&◌, ◌||◌}
 use Rattle.std.specs.List.{flat_map, list_all}
 use Rattle.nx_base.specs.Characters.{is_space}
@@ -50,7 +50,7 @@ begun (TagEnd ∷ more) = begun more
 begun (Chars text ∷ more) = begun more
 begun (Leave ∷ more) = begun more
 
-entered : List Item → ℕ
+pub entered : List Item → ℕ
 entered [] = 0
 entered (items.Event (Enter name) span ∷ more) = suc (entered more)
 entered (items.Event EnterLost span ∷ more) = suc (entered more)
@@ -73,7 +73,7 @@ entered_begun (items.Fault fault ∷ more) = entered_begun more
 
 entered_and : (xs ys : List Item) → entered (xs ++ ys) ≡ entered xs + entered ys
 unfolding entered
-entered_and [] ys = refl
+entered_and [] ys = sym (zero-add (entered ys))
 entered_and (items.Event (Enter name) span ∷ more) ys =
     let k : suc (entered more + entered ys) ≡ suc (entered more) + entered ys = omega arith in ap suc (entered_and more ys) ∙ k
 entered_and (items.Event EnterLost span ∷ more) ys =
@@ -207,7 +207,8 @@ end_enters state len =
     let span : Span = record { from = len; to = len } in
     let x1 = both (run_items len state.run) (flat_map (left_out kinds.UnclosedElement span) (reverse state.elements)) 0 0 (run_enters len state.run)
     (left_enter kinds.UnclosedElement span (reverse state.elements)) in
-    both _ (cond (is_before state) (items.Fault (bare_fault kinds.NoRoot span) ∷ []) []) 0 0 x1 (by_test (is_before state))
+    both (run_items len state.run ++ flat_map (left_out kinds.UnclosedElement span) (reverse state.elements))
+    (cond (is_before state) (items.Fault (bare_fault kinds.NoRoot span) ∷ []) []) 0 0 x1 (by_test (is_before state))
   where
     by_test : (t : Bool) → entered (cond t (items.Fault (bare_fault kinds.NoRoot (record { from = len; to = len })) ∷ []) []) ≡ 0
     by_test true = refl
@@ -224,7 +225,7 @@ items_enter state (token ∷ others) len =
 
 -- ---- the elements of a tree
 
-pub tally : Children → ℕ
+unfoldable pub tally : Children → ℕ
 tally nil = 0
 tally (string text rest) = tally rest
 tally (element name attributes children rest) = suc (tally children + tally rest)
@@ -236,7 +237,7 @@ attributes_tally (a ∷ more) after = attributes_tally more after
 
 flat_tally : (children : Children) (after : List trees.Event) → begun (map as_event (children_flat children after)) ≡ tally children + begun (map as_event after)
 unfolding begun tally
-flat_tally nil after = refl
+flat_tally nil after = sym (zero-add (begun (map as_event after)))
 flat_tally (string text rest) after = flat_tally rest after
 flat_tally (element name attributes children rest) after =
     let tag = attributes_tally attributes (trees.TagEnd ∷ children_flat children (trees.Leave ∷ children_flat rest after)) in

@@ -11,6 +11,7 @@ use Rattle.rnc_parse.specs.Written.{WrittenSurface}
 use Rattle.rngx_read.specs.Elements.{Nodes, Elements, elements_in, IsReadAs}
 use Rattle.rngx_read.specs.Files.{RefusesMarkup}
 use Rattle.rngx_read.specs.Laws.{HaveNoForm, MarkupIsReadAsOne, MarkupReadIsNotRefused, MarkupIsReadOrRefused}
+use Rattle.rngx_read.specs.Marking.{begin_of}
 use Rattle.rngx_read.specs.Names.{bound_in}
 use Rattle.rngx_read.specs.Reads.{IsFile, LeavesOut, Reads, HasBadMarkup, IsTooDeep, IsTooDeepAt, IsShallow, HasBadForm, HasUndeclared, open_with, open_behind}
 use Rattle.rngx_read.proofs.Laws.{one_thing, read_or_refused}
@@ -48,11 +49,15 @@ few_or_many n = grind arith
 
 some_depth : (before : ℕ) (all : List Item) → before ≤ 200 → (answer : Option ℕ) × Deep before all answer
 some_depth before [] few = (None, deep_end before [] refl few)
-some_depth before (item ∷ more) few = by_depth (few_or_many (open_with before item))
+some_depth before (item ∷ more) few =
+    by_depth (few_or_many (open_with before item)) (λ still. some_depth (open_with before item) more still)
   where
-    by_depth : (open_with before item ≤ 200) ⊎ (200 < open_with before item) → (answer : Option ℕ) × Deep before (item ∷ more) answer
-    by_depth (inl still) = let d = some_depth (open_with before item) more still in (d.0, deep_more before (open_with before item) item more (item ∷ more) d.0 refl few refl d.1)
-    by_depth (inr many) = (_, deep_here before (open_with before item) item more (item ∷ more) refl few refl many)
+    by_depth : (open_with before item ≤ 200) ⊎ (200 < open_with before item) →
+        (open_with before item ≤ 200 → (answer : Option ℕ) × Deep (open_with before item) more answer) →
+        (answer : Option ℕ) × Deep before (item ∷ more) answer
+    by_depth (inl still) further =
+        let d = further still in (d.0, deep_more before (open_with before item) item more (item ∷ more) d.0 refl few refl d.1)
+    by_depth (inr many) further = (Some (begin_of item), deep_here before (open_with before item) item more (item ∷ more) refl few refl many)
 
 -- a text is read, or refused for some cause
 abbrev Answered : List ℕ → Type 0

@@ -4,12 +4,17 @@ use Rattle.std.specs.List.{AllByRecursion}
 use Rattle.std.specs.Str.{IsUtf8}
 use Rattle.nx_base.specs.Tokens.{IsOfKind}
 use Rattle.nx_base.specs.declared.token.Token.{Token}
+use Rattle.nx_base.specs.declared.token.TokenKind.TheVariants as kinds
 use Rattle.nx_events.specs.declared.item.Item.{Item}
 use Rattle.nx_events.specs.declared.item.Item.TheVariants as items
 
 -- the tokens are UTF-8 and of their kinds
 abbrev pub AreTextTokens : List Token → Type 0
 AreTextTokens tokens = AllByRecursion (λ (token : Token). IsUtf8 token.bytes × IsOfKind token) tokens
+
+-- the token as a start tag of the same bytes
+abbrev pub as_start : Token → Token
+as_start token = record token { kind = kinds.Start }
 
 -- where an item begins
 abbrev pub begin_of : Item → ℕ

@@ -1,14 +1,13 @@
-//! The markup of a text: its items, and the namespace declarations in force at its tags.
+//! The markup of a text: its items, and the namespace declarations of its tags.
 
-ghost use Rattle.std.specs.Prelude.{◌≡◌, ◌+◌, ◌<◌, ◌≤◌, ◌^◌, ◌++◌, [], length, None, IfOk, OnOk, MatchOption};
+ghost use Rattle.std.specs.Prelude.{◌≡◌, ◌+◌, ◌<◌, ◌≤◌, ◌^◌, ◌++◌, length, IfOk, OnOk, MatchOption};
+ghost use Rattle.std.specs.List.{flat_map};
 ghost use Rattle.nx_base.specs.Tokens.{tokens_of, AreTokensOf};
-ghost use Rattle.nx_events.specs.Among.{faults_among};
-ghost use Rattle.nx_events.specs.InForce.{scope_of};
-ghost use Rattle.nx_events.specs.Items.{items_of_text, first_state, state_behind};
-ghost use Rattle.nx_events.specs.Runs.{run_back};
+ghost use Rattle.nx_events.specs.InForce.{pairs_of};
+ghost use Rattle.nx_events.specs.Items.{items_of_text, own_bindings};
 ghost use Rattle.nx_events.specs.Texts.{ItemsAreText};
-ghost use Rattle.rngx_read.specs.Elements.{as_start, scopes_of_token, scopes_from};
-ghost use Rattle.rngx_read.specs.Marking.{AreTextTokens, begin_of, fault_place, first_place};
+ghost use Rattle.rngx_read.specs.Elements.{declared_of_token};
+ghost use Rattle.rngx_read.specs.Marking.{AreTextTokens, as_start, begin_of, fault_place, first_place};
 ghost use Rattle.rngx_read.specs.Reads.{open_with, IsShallow, IsTooDeepAt};
 
 use nx_base::memory::NoMemory;
@@ -20,8 +19,7 @@ use nx_events::fold::items_of_tokens;
 use nx_events::in_force::scope;
 use nx_events::item::{Event, Item, Items};
 use nx_events::law::all_tokens_give_text;
-use nx_events::reader::{begin, copy, take};
-use nx_events::state::EventState;
+use nx_events::reader::{begin, take};
 use nx_scan::border::{tokens_are_of_kind, tokens_fit, tokens_go_on, tokens_join};
 use nx_scan::scan::scan_token;
 use nx_text::text::Text;
@@ -145,51 +143,57 @@ fn as_start(token: &Token) -> Result<Token, NoMemory>
     })
 }
 
-/// The declarations in force in an empty-element tag: those of the same tag as a start tag.
-fn scope_in_empty(alloc: Global, state: &EventState, token: &Token) -> Result<Names, NoMemory>
-    requires place { run_back state.now.run ≤ token.now.from }
-    requires room { token.now.from + length token.now.bytes < 2 ^ 64 }
-    ensures { IfOk result (λ names. names ≡ scope_of (state_behind state.now (as_start token.now))) }
+/// The own declarations of a tag: those in force behind a start tag of its bytes that stands alone.
+#[tactic(auto, using(crate::proofs::Declaring::own_are))]
+fn own_of(alloc: Global, tag: &Token) -> Result<Names, NoMemory>
+    requires { tag.now.from + length tag.now.bytes < 2 ^ 64 }
+    ensures { IfOk result (λ own. own ≡ pairs_of (own_bindings tag.now)) }
 {
-    let mut inner = copy(alloc, state)?;
-    let start = as_start(token)?;
-    take(alloc, &mut inner, &start)?;
-    scope(alloc, &inner)
+    let start = as_start(tag)?;
+    let mut state = begin(alloc)?;
+    take(alloc, &mut state, &start)?;
+    scope(alloc, &state)
 }
 
-/// Goes past a token. Where it is a tag that begins an element, the declarations in force there are added.
-fn pass(
-    alloc: Global,
-    state: &mut EventState,
-    token: &Token,
-    scopes: &mut Vec<Names>,
-) -> Result<(), NoMemory>
-    requires place { run_back state.old.run ≤ token.now.from }
-    requires room { token.now.from + length token.now.bytes < 2 ^ 64 }
-    ensures state { OnOk result (state.new ≡ state_behind state.old token.now) }
-    ensures scopes { OnOk result (scopes.new.items ≡ scopes.old.items ++ scopes_of_token state.old token.now) }
+/// Adds the own declarations of a token, if it is a tag that begins an element.
+fn declare(alloc: Global, token: &Token, declared: &mut Vec<Names>) -> Result<(), NoMemory>
+    requires { token.now.from + length token.now.bytes < 2 ^ 64 }
+    ensures { OnOk result (declared.new.items ≡ declared.old.items ++ declared_of_token token.now) }
 {
-    if let TokenKind::Empty = token.kind {
-        scopes.push(scope_in_empty(alloc, state, token)?)?;
-    }
-    take(alloc, state, token)?;
-    if let TokenKind::Start = token.kind {
-        scopes.push(scope(alloc, state)?)?;
+    match token.kind {
+        TokenKind::Start | TokenKind::Empty => declared.push(own_of(alloc, token)?)?,
+        TokenKind::Bom
+        | TokenKind::Decl
+        | TokenKind::Doctype
+        | TokenKind::Comment
+        | TokenKind::Pi
+        | TokenKind::Cdata
+        | TokenKind::Text
+        | TokenKind::Bad
+        | TokenKind::Unclosed
+        | TokenKind::End => {}
     }
     Ok(())
 }
 
-/// The declarations in force at each tag that begins an element, in order, among the tokens of a text of `len` bytes.
-pub(crate) fn scopes_of(alloc: Global, tokens: &[Token], len: usize) -> Result<Vec<Names>, NoMemory>
+/// The own declarations of each tag that begins an element, in order, among the tokens of a text of `len` bytes.
+pub(crate) fn declared_of(
+    alloc: Global,
+    tokens: &[Token],
+    len: usize,
+) -> Result<Vec<Names>, NoMemory>
     requires { AreTokensOf len tokens.now }
-    ensures { IfOk result (λ scopes. scopes.items ≡ scopes_from first_state tokens.now) }
+    ensures { IfOk result (λ declared. declared.items ≡ flat_map declared_of_token tokens.now) }
 {
-    let mut state = begin(alloc)?;
-    let mut scopes = Vec::new(alloc);
-    for token in tokens {
-        pass(alloc, &mut state, token, &mut scopes)?;
+    // the place of each token's end is at most `len`, so that it is a number of the machine
+    let _ = len;
+    let mut declared = Vec::new(alloc);
+    let mut rest = tokens;
+    'tokens: while let Some((token, behind)) = rest.split_first() {
+        declare(alloc, token, &mut declared)?;
+        rest = behind;
     }
-    Ok(scopes)
+    Ok(declared)
 }
 
 /// The items of a text, whose tokens these are.

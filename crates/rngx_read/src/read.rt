@@ -1,15 +1,15 @@
 //! A schema file read.
 
-ghost use Rattle.std.specs.Prelude.{◌≡◌, ◌<◌, ◌≤◌, ℕ, List, length, IfOk, IsUtf8};
-ghost use Rattle.nx_base.specs.Tokens.{tokens_of, AreTokensOf};
+ghost use Rattle.std.specs.Prelude.{◌≡◌, ◌<◌, ◌≤◌, ℕ, List, codes, length, IfOk, IsUtf8};
+ghost use Rattle.nx_base.specs.Tokens.{begins_with, tokens_of, AreTokensOf};
 ghost use Rattle.nx_events.specs.Items.{items_of_text};
 ghost use Rattle.rnc_parse.specs.Texts.{HasUtf8Texts};
 ghost use Rattle.rnc_parse.specs.Views.{surface_of};
-ghost use Rattle.rngx_read.specs.Elements.{IsReadAs, Nodes};
+ghost use Rattle.rngx_read.specs.Elements.{IsReadAs, Nodes, no_elements};
 ghost use Rattle.rngx_read.specs.Files.{behind_mark, is_markup};
 ghost use Rattle.rngx_read.specs.Names.{bound_in};
 ghost use Rattle.rngx_read.specs.Reading.{Finds};
-ghost use Rattle.rngx_read.specs.ReadingPatterns.{grammar_file_by, surface_at};
+ghost use Rattle.rngx_read.specs.ReadingPatterns.{grammar_file_by, lone_surface, surface_at};
 ghost use Rattle.rngx_read.specs.Reads.{AnswersText, AnswersNodes, BeginsOne, RefusesAt};
 ghost use Rattle.rngx_read.specs.Tags.{form_of};
 ghost use Rattle.rngx_read.specs.Views.{children_of, listed, tag_of};
@@ -20,7 +20,7 @@ use crate::context::{inside, outermost};
 use crate::element::Element;
 use crate::grammar::items;
 use crate::kind::Kind;
-use crate::markup::{all_tokens, as_text, first_fault, items_of, scopes_of, too_deep_at};
+use crate::markup::{all_tokens, as_text, declared_of, first_fault, items_of, too_deep_at};
 use crate::name::behind_spaces;
 use crate::pattern::pattern;
 use crate::stop::Stop;
@@ -28,7 +28,6 @@ use nx_base::memory::NoMemory;
 use nx_base::sequence::Bytes;
 use nx_base::steps::Steps;
 use nx_base::token::Token;
-use nx_document::law::well_formed_is_document;
 use nx_events::item::Item;
 use nx_scan::border::tokens_join;
 use rnc_parse::surface::Surface;
@@ -58,14 +57,28 @@ impl From<NoMemory> for XReadFault {
     }
 }
 
+/// The bytes of a byte order mark.
+const ORDER_MARK: &[u8] = &[0xEF, 0xBB, 0xBF];
+
 /// What stands behind a byte order mark at the front.
-#[tactic(auto, unfolding(crate::specs::Files::behind_mark))]
+#[tactic(auto, using(crate::proofs::Marks::mark_is_passed, crate::proofs::Marks::no_mark_is_passed))]
 fn behind_mark(text: &[u8]) -> &[u8]
     ensures { result.now ≡ behind_mark text.now }
 {
-    match text {
-        [0xEF, 0xBB, 0xBF, rest @ ..] => rest,
-        _ => text,
+    match text.strip_prefix(ORDER_MARK) {
+        Some(rest) => rest,
+        None => text,
+    }
+}
+
+/// Whether a tag begins there.
+#[tactic(auto, using(crate::proofs::Marks::begins_is))]
+fn begins_markup(text: &[u8]) -> bool
+    ensures { result ≡ begins_with (codes "<") text.now }
+{
+    match text.strip_prefix(b"<") {
+        Some(_) => true,
+        None => false,
     }
 }
 
@@ -74,14 +87,11 @@ fn behind_mark(text: &[u8]) -> &[u8]
 pub fn is_markup(text: &str) -> bool
     ensures { result ≡ is_markup text.now }
 {
-    match behind_spaces(behind_mark(text.as_bytes())) {
-        [b'<', ..] => true,
-        _ => false,
-    }
+    begins_markup(behind_spaces(behind_mark(text.as_bytes())))
 }
 
-/// Reads a schema file: what it says, or one cause for which it says nothing. It takes time and memory in proportion to the text,
-/// to the namespaces of its names, and, for each of its tags, to the declarations in force there.
+/// Reads a schema file in the XML syntax: what it says, or one cause for which it says nothing. It takes memory in proportion to the
+/// text and to the namespaces of its names.
 pub fn read<L: Ledger>(
     alloc: Global,
     text: &str,
@@ -108,7 +118,6 @@ fn read_items(
     requires { AreTokensOf len tokens.now }
     ensures { (text : List ℕ) → IsUtf8 text → tokens.now ≡ tokens_of text → items.now ≡ items_of_text text → AnswersText text result }
 {
-    well_formed_is_document();
     if let Some(at) = first_fault(items) {
         return Err(XReadFault::BadMarkup(at));
     }
@@ -124,8 +133,8 @@ fn said(alloc: Global, tokens: &[Token], items: &[Item], len: usize) -> Result<S
     ensures { (text : List ℕ) (nodes : Nodes) → tokens.now ≡ tokens_of text → items.now ≡ items_of_text text → IsReadAs text nodes →
         AnswersNodes text nodes result }
 {
-    let scopes = scopes_of(alloc, tokens, len)?;
-    let elements = elements_of(alloc, items, scopes)?;
+    let declared = declared_of(alloc, tokens, len)?;
+    let elements = elements_of(alloc, items, declared)?;
     match surface(alloc, elements.as_slice()) {
         Ok(surface) => Ok(surface),
         Err(stop) => Err(refused(stop, tokens)),
@@ -161,18 +170,29 @@ fn place(tokens: &[Token], at: usize) -> usize
 }
 
 /// What the elements of the schema outside of all others say: there is one, a grammar or another pattern.
-#[tactic(auto, unfolding(crate::specs::ReadingPatterns::surface_at))]
+#[tactic(auto, unfolding(crate::specs::ReadingPatterns::surface_at), using(crate::proofs::Answering::not_alone))]
 fn surface(alloc: Global, elements: &[Element]) -> Result<Surface, Stop>
     ensures { Finds surface_of result (surface_at bound_in (listed elements.now)) }
 {
     match elements {
-        [root] if root.tag.local.as_slice() == b"grammar".as_slice() => grammar(alloc, root),
-        [root] => Ok(Surface::Pattern(pattern(alloc, &outermost(), root)?)),
-        _ => Err(Stop::Form(0)),
+        [] => Err(Stop::Form(0)),
+        [root] => of_root(alloc, root),
+        [_, _, ..] => Err(Stop::Form(0)),
     }
 }
 
+/// What the element outside of all others says.
+fn of_root(alloc: Global, root: &Element) -> Result<Surface, Stop>
+    ensures { Finds surface_of result (lone_surface bound_in (tag_of root.now) (children_of root.now) no_elements) }
+{
+    if root.tag.local.as_slice() == b"grammar".as_slice() {
+        return grammar(alloc, root);
+    }
+    Ok(Surface::Pattern(pattern(alloc, &outermost(), root)?))
+}
+
 /// The grammar that is a whole file.
+#[tactic(auto, using(crate::proofs::ElementViews::children_listed))]
 fn grammar(alloc: Global, root: &Element) -> Result<Surface, Stop>
     ensures { Finds surface_of result
         (grammar_file_by bound_in (tag_of root.now) (children_of root.now) (form_of (tag_of root.now))) }
