@@ -1,5 +1,5 @@
 -- What the program answers of the tokens and items of a text.
-use Rattle.std.proofs.Common.{◌≡◌, ◌≢◌, ℕ, ◌<◌, Option, Some, None, List, [], ◌∷◌, length, Result, Ok, Err, refl, sym, ap, subst, ◌∙◌, arith}
+use Rattle.std.proofs.Common.{◌≡◌, ◌≢◌, ℕ, ◌<◌, Some, None, List, [], ◌∷◌, length, Result, Ok, Err, refl, sym, ap, subst, ◌∙◌, arith}
 use Rattle.nx_base.specs.Tokens.{tokens_of}
 use Rattle.nx_base.specs.declared.fault.Fault.{Fault}
 use Rattle.nx_base.specs.declared.token.Token.{Token}
@@ -18,8 +18,8 @@ use Rattle.rngx_read.specs.declared.stop.Stop.{Stop}
 use Rattle.rngx_read.specs.declared.stop.Stop.TheVariants as stop
 use Rattle.rngx_read.specs.Elements.{Nodes, Elements, elements_in, IsReadAs}
 use Rattle.rngx_read.specs.Marking.{first_place}
-use Rattle.rngx_read.specs.Names.{Resolver, bound_in}
-use Rattle.rngx_read.specs.Reading.{read, no_form, no_prefix, Finds}
+use Rattle.rngx_read.specs.Names.{bound_in}
+use Rattle.rngx_read.specs.Reading.{read, no_form, Finds}
 use Rattle.rngx_read.specs.ReadingPatterns.{surface_at}
 use Rattle.rngx_read.specs.Reads.{IsFile, IsShallow, LeavesOut, HasBadMarkup, BeginsOne, begins_first, begins_later, RefusesAt, AnswersText, AnswersNodes}
 use Rattle.rngx_read.specs.Views.{listed}

@@ -1,23 +1,22 @@
 -- What elements hold is UTF-8, where the text is that they are read from.
-use Rattle.std.proofs.Common.{◌≡◌, ℕ, ◌==◌, Bool, true, false, cond, Option, Some, None, List, [], ◌∷◌, ◌++◌, length, drop, map, codes, subst, IsUtf8}
+use Rattle.std.proofs.Common.{ℕ, ◌==◌, Option, Some, None, List, [], ◌∷◌, ◌++◌, length, drop, map, codes, subst, IsUtf8}
 use Rattle.std.specs.List.{AllByRecursion, flat_map}
 use Rattle.std.specs.Str.{bytes_eq}
 use Rattle.std.proofs.lemmas.Str.{IsUtf8-nil, IsUtf8-append}
-use Rattle.nx_base.specs.Tokens.{tokens_of, IsOfKind}
+use Rattle.nx_base.specs.Tokens.{tokens_of}
 use Rattle.nx_base.specs.Trees.{children_flat, attributes_flat}
 use Rattle.nx_base.specs.Trees as trees
 use Rattle.nx_base.specs.declared.name.Name.{Name}
 use Rattle.nx_base.specs.declared.token.Token.{Token}
 use Rattle.nx_base.specs.declared.token.TokenKind.{TokenKind}
 use Rattle.nx_base.specs.declared.token.TokenKind.TheVariants as kinds
-use Rattle.nx_events.specs.Among.{event_in, events_among}
+use Rattle.nx_events.specs.Among.{events_among}
 use Rattle.nx_events.specs.Declarations.{is_declaration, declaration_flaw, binding_unless, bindings_at, bindings}
 use Rattle.nx_events.specs.InForce.{pair_unless_xml, pairs_of}
 use Rattle.nx_events.specs.Items.{items_of_text, own_bindings}
 use Rattle.nx_events.specs.Texts.{EventIsText, ItemsAreText}
 use Rattle.nx_events.specs.TreeEvents.{as_event}
 use Rattle.nx_events.specs.declared.flaw.Flaw.{Flaw}
-use Rattle.nx_events.specs.declared.item.Event.{Event}
 use Rattle.nx_events.specs.declared.item.Item.{Item}
 use Rattle.nx_events.specs.declared.item.Item.TheVariants as items
 use Rattle.nx_events.specs.declared.scope.Binding.{Binding}
@@ -29,7 +28,7 @@ use Rattle.nx_events.proofs.TextKinds.{HasContent, content_text}
 use Rattle.nx_events.proofs.TextTags.{AttributesAreText, tag_text}
 use Rattle.rngx_read.specs.declared.element.Attribute.{Attribute}
 use Rattle.rngx_read.specs.declared.element.Tag.{Tag}
-use Rattle.rngx_read.specs.Elements.{Nodes, no_nodes, string_then, node_then, without_declarations, declarations_and, declared_by, declared_of_token, declared_of_text, IsReadAs, schema_namespace, Elements, no_elements, element_then, plain_if, plain_attributes, strings_in, elements_in}
+use Rattle.rngx_read.specs.Elements.{Nodes, no_nodes, string_then, node_then, without_declarations, declarations_and, declared_by, declared_of_token, IsReadAs, schema_namespace, Elements, no_elements, element_then, plain_if, plain_attributes, strings_in, elements_in}
 use Rattle.rngx_read.specs.Marking.{AreTextTokens}
 use Rattle.rngx_read.proofs.Lists.{all_append}
 

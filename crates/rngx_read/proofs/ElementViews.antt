@@ -3,7 +3,7 @@ use Rattle.std.proofs.Common.{ℕ, ◌≡◌, List, [], ◌∷◌, ◌++◌, Vec
 use Rattle.rngx_read.specs.declared.element.Element as elements
 use Rattle.rngx_read.specs.declared.element.Element.{Element, out-Element}
 use Rattle.rngx_read.specs.declared.element.Tag.{Tag}
-use Rattle.rngx_read.specs.Elements.{Elements, no_elements, element_then, elements_and}
+use Rattle.rngx_read.specs.Elements.{no_elements, element_then, elements_and}
 use Rattle.rngx_read.specs.Views.{tag_of, children_of, row_of, listed}
 
 row_listed : (n : _) (row : elements.Row_of-Element n) → row_of row ≡ listed (elements.items-the_row-Element n row)

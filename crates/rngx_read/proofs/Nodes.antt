@@ -12,7 +12,7 @@ use Rattle.nx_events.specs.Among.{faults_among, events_among}
 use Rattle.nx_events.specs.Items.{items_of_text, first_state}
 use Rattle.nx_events.specs.TreeEvents.{as_event}
 use Rattle.nx_events.proofs.TreeEvents.{stay_apart}
-use Rattle.rngx_read.specs.Building.{Built, bare, behind_events}
+use Rattle.rngx_read.specs.Building.{bare, behind_events}
 use Rattle.rngx_read.specs.Elements.{Nodes, no_nodes, string_then, node_then, without_declarations, declarations_and, declared_of_text, IsReadAs, Elements, elements_in}
 use Rattle.rngx_read.proofs.Building.{all_read}
 use Rattle.rngx_read.proofs.Tallies.{tally, items_enter, tree_tally}

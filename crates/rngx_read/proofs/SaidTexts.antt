@@ -1,9 +1,9 @@
 -- Elements whose texts are UTF-8 say a surface whose texts are.
-use Rattle.std.proofs.Common.{◌≡◌, ℕ, zero, ◌+◌, ◌<◌, ◌≤◌, Bool, true, false, cond, Option, Some, None, unwrap_or, List, [], ◌∷◌, ◌++◌, length, take, get_or, codes, refl, sym, ap, subst, arith, IsUtf8, IfOk, Result, Ok, Err}
+use Rattle.std.proofs.Common.{◌≡◌, ℕ, ◌<◌, Bool, true, false, cond, Option, Some, None, unwrap_or, List, [], ◌∷◌, ◌++◌, length, get_or, codes, refl, sym, ap, subst, arith, IsUtf8, IfOk, Result, Ok, Err}
 use lib.Utf8.{encode}
-use Rattle.std.specs.List.{AllByRecursion, before_first, after_first, list_all}
+use Rattle.std.specs.List.{AllByRecursion, after_first}
 use Rattle.std.specs.Str.{bytes_eq}
-use Rattle.std.proofs.lemmas.Bool.{and_parts, cases_Bool, eqb-true}
+use Rattle.std.proofs.lemmas.Bool.{and_parts, eqb-true}
 use Rattle.std.proofs.Math.Seq.{take-append_seam}
 use Rattle.std.proofs.lemmas.List.{length-append}
 use Rattle.std.proofs.lemmas.Str.{IsUtf8-nil}
@@ -29,12 +29,12 @@ use Rattle.rngx_read.specs.declared.element.Tag.{Tag}
 use Rattle.rngx_read.specs.declared.kind.Kind.{Kind}
 use Rattle.rngx_read.specs.declared.read.XReadFault.{XReadFault}
 use Rattle.rngx_read.specs.Classes.{IsClass, a_name, any_name, ns_name, a_choice, IsAllBut, all_of_them, all_but, IsEither, any_of, AreClasses, no_class, next_class}
-use Rattle.rngx_read.specs.Contexts.{Context, outermost, namespace_or, nearest_namespace, inside, own_namespace}
-use Rattle.rngx_read.specs.Elements.{Elements, elements_in}
+use Rattle.rngx_read.specs.Contexts.{Context, outermost, nearest_namespace, inside, own_namespace}
+use Rattle.rngx_read.specs.Elements.{Elements}
 use Rattle.rngx_read.specs.Marking.{AreTextTokens}
-use Rattle.rngx_read.specs.Names.{behind_spaces, before_spaces, trimmed, name_if, name_in, simple_name, last_bound, bound_in, IsNamed, without_prefix, with_prefix, IsClassName}
+use Rattle.rngx_read.specs.Names.{behind_spaces, before_spaces, trimmed, name_in, simple_name, last_bound, bound_in, IsNamed, without_prefix, with_prefix, IsClassName}
 use Rattle.rngx_read.specs.Patterns.{Joins, by_group, by_interleave, by_choice, Makes, by_optional, by_zero_or_more, by_one_or_more, by_list, by_mixed, Refers, by_ref, by_parent_ref, IsLeaf, is_empty, is_text, is_not_allowed, HasClass, by_attribute, by_child, IsType, AreParams, no_param, next_param, IsReference, IsPattern, an_element, an_attribute, a_row, made, a_reference, a_leaf, an_untyped_value, a_value, a_type, a_type_but, an_external, a_grammar_of, IsValue, any_value, this_value, IsRow, row_of, ArePatterns, no_pattern, next_pattern, IsDefinition, a_start, a_define, IsItem, a_definition, a_div, an_include, AreItems, no_more_items, next_item, IsReplacement, a_definition_anew, a_div_anew, AreReplacements, no_more_replacements, next_replacement}
-use Rattle.rngx_read.specs.Reads.{IsFile, pattern_file, grammar_file, Reads, AnswersText}
+use Rattle.rngx_read.specs.Reads.{IsFile, pattern_file, grammar_file, AnswersText}
 use Rattle.rngx_read.specs.Tags.{value_of}
 use Rattle.rngx_read.proofs.ElementTexts.{UrisAreText, ValuesAreText, TagIsText, ElementsAreText, read_text}
 

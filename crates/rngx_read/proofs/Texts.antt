@@ -1,5 +1,5 @@
 -- The laws of reading texts in the XML syntax.
-use Rattle.std.proofs.Common.{◌≡◌, ℕ, ◌+◌, ◌<◌, ◌≤◌, List, [], ◌∷◌, ◌++◌, Option, Some, None, refl, sym, ap, subst, ◌∙◌, ◌⊎◌, inl, inr, arith, append_assoc, IsUtf8}
+use Rattle.std.proofs.Common.{◌≡◌, ℕ, ◌<◌, ◌≤◌, List, [], ◌∷◌, ◌++◌, Option, Some, None, refl, sym, subst, ◌∙◌, ◌⊎◌, inl, inr, arith, append_assoc, IsUtf8}
 use Rattle.nx_base.specs.declared.cause.Cause.{Cause}
 use Rattle.nx_base.specs.declared.cause.Cause.TheVariants as cause
 use Rattle.nx_base.specs.declared.fault.Fault.{Fault}
@@ -13,7 +13,7 @@ use Rattle.rngx_read.specs.Files.{RefusesMarkup}
 use Rattle.rngx_read.specs.Laws.{HaveNoForm, MarkupIsReadAsOne, MarkupReadIsNotRefused, MarkupIsReadOrRefused}
 use Rattle.rngx_read.specs.Marking.{begin_of}
 use Rattle.rngx_read.specs.Names.{bound_in}
-use Rattle.rngx_read.specs.Reads.{IsFile, LeavesOut, Reads, HasBadMarkup, IsTooDeep, IsTooDeepAt, IsShallow, HasBadForm, HasUndeclared, open_with, open_behind}
+use Rattle.rngx_read.specs.Reads.{IsFile, LeavesOut, Reads, IsTooDeepAt, IsShallow, open_with, open_behind}
 use Rattle.rngx_read.proofs.Laws.{one_thing, read_or_refused}
 use Rattle.rngx_read.proofs.Nodes.{read_as, elements_same}
 use Rattle.rngx_read.proofs.TooDeep.{Deep, deep_end, deep_more, deep_here, deep_is}

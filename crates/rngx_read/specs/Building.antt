@@ -7,7 +7,6 @@ use Rattle.nx_base.specs.declared.name.Name.{Name}
 use Rattle.nx_events.specs.declared.item.Event.TheVariants as events
 use Rattle.nx_events.specs.declared.item.Item.{Item}
 use Rattle.nx_events.specs.declared.item.Item.TheVariants as items
-use Rattle.rngx_read.specs.declared.element.Attribute.{Attribute}
 use Rattle.rngx_read.specs.declared.element.Tag.{Tag}
 use Rattle.rngx_read.specs.Elements.{Elements, no_elements, element_then, elements_and, schema_namespace, plain_if}
 

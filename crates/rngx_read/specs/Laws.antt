@@ -6,7 +6,7 @@ use Rattle.rnc_parse.specs.Written.{WrittenSurface}
 use Rattle.rngx_read.specs.Elements.{Elements}
 use Rattle.rngx_read.specs.Files.{RefusesMarkup, ReadsFile, RefusesFile}
 use Rattle.rngx_read.specs.Names.{Resolver, bound_in}
-use Rattle.rngx_read.specs.Reading.{read, no_form, no_prefix}
+use Rattle.rngx_read.specs.Reading.{read, no_prefix}
 use Rattle.rngx_read.specs.ReadingPatterns.{surface_at}
 use Rattle.rngx_read.specs.Reads.{IsFile, Extends, LeavesOut, Reads}
 

@@ -1,4 +1,4 @@
-use Rattle.std.proofs.Common.{ap, ◌∙◌, [], length}
+use Rattle.std.proofs.Common.{ap, ◌∙◌}
 use Rattle.rngx_read.specs.Building.{Built}
 use Rattle.rngx_read.specs.Views.{frame_of}
 use Rattle.rngx_read.proofs.Building.{all_put}

@@ -1,4 +1,4 @@
-use Rattle.std.proofs.Common.{ap, arith, ◌∙◌}
+use Rattle.std.proofs.Common.{arith}
 use Rattle.rngx_read.proofs.BuiltViews.{left_is}
 use Rattle.rngx_read.proofs.build.Builder.leave.Goals as goal
 
