@@ -13,6 +13,7 @@ mod Loops
 mod Cutting
 mod Declaring
 mod Scopes
+mod Indexing
 mod TooDeep
 mod Laws
 mod Whole

@@ -16,4 +16,5 @@ pub mod Reading
 pub mod ReadingClasses
 pub mod ReadingPatterns
 pub mod Building
+pub mod Indexing
 pub mod Marking

@@ -3,8 +3,9 @@
 ghost use Rattle.std.specs.Prelude.{◌≡◌, ◌++◌, [], option_copied, IfOk};
 ghost use Rattle.rngx_read.specs.Names.{last_bound, bound_in};
 
+use crate::declarations::Declarations;
 use nx_base::memory::NoMemory;
-use nx_base::name::{Name, Names};
+use nx_base::name::Names;
 use nx_base::sequence::TryCopy;
 use std::alloc::Global;
 use std::marker::Model;
@@ -27,7 +28,7 @@ pub struct Scope {
 #[derive(Drop)]
 struct Level {
     around: Scope,
-    own: Names,
+    own: Declarations,
 }
 
 impl Model for Scope {
@@ -47,21 +48,6 @@ impl Model for Scope {
     ghost size_decreases = { λ a h. Prim.grind (arith, length-append) };
 }
 
-/// The URI of the last pair of the prefix.
-#[tactic(auto, using(crate::proofs::Scopes::bound_here, crate::proofs::Scopes::bound_before, crate::proofs::Scopes::bound_in_none))]
-fn last_in<'a>(pairs: &'a [Name], prefix: &[u8]) -> Option<&'a [u8]>
-    ensures { option_copied result ≡ last_bound pairs.now prefix.now }
-{
-    let mut rest = pairs;
-    'pairs: while let Some((pair, before)) = rest.split_last() {
-        if pair.local.as_slice() == prefix {
-            return Some(pair.ns.as_slice());
-        }
-        rest = before;
-    }
-    None
-}
-
 impl Scope {
     /// No declarations.
     pub(crate) fn new() -> Scope
@@ -78,6 +64,7 @@ impl Scope {
         if own.is_empty() {
             return Ok(around);
         }
+        let own = Declarations::new(alloc, own)?;
         Ok(Scope {
             innermost: Some(Rc::new(alloc, Level { around, own })?),
         })
@@ -90,7 +77,7 @@ impl Scope {
     {
         match &self.innermost {
             None => None,
-            Some(level) => match last_in(level.own.as_slice(), prefix) {
+            Some(level) => match level.own.last_bound(prefix) {
                 Some(uri) => Some(uri),
                 None => level.around.last_bound(prefix),
             },
