@@ -1,0 +1,27 @@
+mod Sounding
+mod Tags
+mod Attributes
+mod Classes
+mod Patterns
+mod Completing
+mod Below
+mod Building
+mod ElementViews
+mod BuiltViews
+mod Lists
+mod Loops
+mod Cutting
+mod Declaring
+mod Scopes
+mod Indexing
+mod TooDeep
+mod Laws
+mod Whole
+mod Tallies
+mod Nodes
+mod Texts
+mod ElementTexts
+mod SaidTexts
+mod Answering
+mod Marks
+pub mod WholeFiles

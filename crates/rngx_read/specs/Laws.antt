@@ -1,0 +1,66 @@
+-- Laws of reading: of elements, of texts in the XML syntax, and of files in either syntax.
+use Rattle.std.specs.Prelude.{◌≡◌, ℕ, ◌⊎◌, List}
+use Rattle.std.specs.Str.{IsUtf8}
+use Rattle.nx_base.specs.declared.cause.Cause.{Cause}
+use Rattle.rnc_parse.specs.Written.{WrittenSurface}
+use Rattle.rngx_read.specs.Elements.{Elements}
+use Rattle.rngx_read.specs.Files.{RefusesMarkup, ReadsFile, RefusesFile}
+use Rattle.rngx_read.specs.Names.{Resolver, bound_in}
+use Rattle.rngx_read.specs.Reading.{read, no_prefix}
+use Rattle.rngx_read.specs.ReadingPatterns.{surface_at}
+use Rattle.rngx_read.specs.Reads.{IsFile, Extends, LeavesOut, Reads}
+
+-- the elements are in no reading, whatever the prefixes stand for that are left out
+abbrev pub HaveNoForm : Elements → Type 0
+HaveNoForm elements = (resolve : Resolver) (surface : WrittenSurface) → Extends resolve → IsFile resolve elements surface → ⊥
+
+-- elements say one thing at most, whatever prefixes stand for
+abbrev pub ElementsSayOneThing : Type 0
+ElementsSayOneThing = (resolve : Resolver) (elements : Elements) (one other : WrittenSurface) →
+    IsFile resolve elements one → IsFile resolve elements other → one ≡ other
+
+-- elements say something, have no form, or leave a prefix out
+abbrev pub ElementsAreReadOrRefused : Type 0
+ElementsAreReadOrRefused = (elements : Elements) → ((surface : WrittenSurface) × IsFile bound_in elements surface)
+    ⊎ (HaveNoForm elements ⊎ ((prefix : List ℕ) × LeavesOut bound_in prefix elements))
+
+-- ---- of texts in the XML syntax
+
+-- a text is read as one surface at most
+abbrev pub MarkupIsReadAsOne : Type 0
+MarkupIsReadAsOne = (text : List ℕ) (one other : WrittenSurface) → Reads text one → Reads text other → one ≡ other
+
+-- a text that is read is refused for no cause
+abbrev pub MarkupReadIsNotRefused : Type 0
+MarkupReadIsNotRefused = (text : List ℕ) (surface : WrittenSurface) (why : Cause) → Reads text surface → RefusesMarkup text why → ⊥
+
+-- each text is read, or refused for some cause
+abbrev pub MarkupIsReadOrRefused : Type 0
+MarkupIsReadOrRefused = (text : List ℕ) → IsUtf8 text →
+    ((surface : WrittenSurface) × Reads text surface) ⊎ ((why : Cause) × RefusesMarkup text why)
+
+-- ---- of files, in either syntax
+
+abbrev pub TextsAreReadAsOne : Type 0
+TextsAreReadAsOne = (text : List ℕ) (one other : WrittenSurface) → ReadsFile text one → ReadsFile text other → one ≡ other
+
+abbrev pub WhatIsReadIsNotRefused : Type 0
+WhatIsReadIsNotRefused = (text : List ℕ) (surface : WrittenSurface) (why : Cause) → ReadsFile text surface → RefusesFile text why → ⊥
+
+abbrev pub TextsAreReadOrRefused : Type 0
+TextsAreReadOrRefused = (text : List ℕ) → IsUtf8 text →
+    ((surface : WrittenSurface) × ReadsFile text surface) ⊎ ((why : Cause) × RefusesFile text why)
+
+-- ---- of the program's own functions
+
+abbrev pub WhatIsFoundIsSaid : Type 0
+WhatIsFoundIsSaid = (resolve : Resolver) (elements : Elements) (surface : WrittenSurface) → surface_at resolve elements ≡ read surface →
+    IsFile resolve elements surface
+
+abbrev pub WhatStopsIsLeftOut : Type 0
+WhatStopsIsLeftOut = (resolve : Resolver) (elements : Elements) (prefix : List ℕ) → surface_at resolve elements ≡ no_prefix prefix →
+    LeavesOut resolve prefix elements
+
+abbrev pub WhatIsSaidIsFound : Type 0
+WhatIsSaidIsFound = (resolve : Resolver) (elements : Elements) (surface : WrittenSurface) → IsFile resolve elements surface →
+    surface_at resolve elements ≡ read surface

@@ -1,0 +1,35 @@
+-- The tokens and items of a text, as the program goes over them. No public contract rests on these.
+use Rattle.std.specs.Prelude.{ℕ, List, [], ◌∷◌, Option, Some, None}
+use Rattle.std.specs.List.{AllByRecursion}
+use Rattle.std.specs.Str.{IsUtf8}
+use Rattle.nx_base.specs.Tokens.{IsOfKind}
+use Rattle.nx_base.specs.declared.token.Token.{Token}
+use Rattle.nx_base.specs.declared.token.TokenKind.TheVariants as kinds
+use Rattle.nx_events.specs.declared.item.Item.{Item}
+use Rattle.nx_events.specs.declared.item.Item.TheVariants as items
+
+-- the tokens are UTF-8 and of their kinds
+abbrev pub AreTextTokens : List Token → Type 0
+AreTextTokens tokens = AllByRecursion (λ (token : Token). IsUtf8 token.bytes × IsOfKind token) tokens
+
+-- the token as a start tag of the same bytes
+abbrev pub as_start : Token → Token
+as_start token = record token { kind = kinds.Start }
+
+-- where an item begins
+abbrev pub begin_of : Item → ℕ
+begin_of (items.Event event span) = span.from
+begin_of (items.Fault fault) = fault.span.from
+
+-- where the fault begins that it is, and the first among items
+abbrev pub fault_place : Item → Option ℕ
+fault_place (items.Event event span) = None
+fault_place (items.Fault fault) = Some fault.span.from
+
+abbrev pub place_or : Option ℕ → Option ℕ → Option ℕ
+place_or None later = later
+place_or (Some at) later = Some at
+
+unfoldable pub first_place : List Item → Option ℕ
+first_place [] = None
+first_place (item ∷ more) = place_or (fault_place item) (first_place more)
