@@ -8,6 +8,10 @@ mod Below
 mod Building
 mod Lists
 mod Loops
+mod Rows
+mod Children
+mod Prefixes
+mod Trimming
 mod Cutting
 mod Scoping
 mod TooDeep

@@ -19,10 +19,10 @@ use Rattle.rngx_read.specs.ReadingPatterns.{Parts}
 abbrev pub context_of : TheContext → Context
 context_of context = record { namespace = namespace_or (option_copied context.namespace); library = context.library.now }
 
-abbrev mutual
-  pub tag_of : Element → Tag
-  tag_of (elements.Element' tag at shape row) = tag
+abbrev pub tag_of : Element → Tag
+tag_of element = (elements.out-Element element).tag
 
+abbrev mutual
   pub children_of : Element → Elements
   children_of (elements.Element' tag at shape row) = row_of row
 
