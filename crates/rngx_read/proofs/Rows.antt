@@ -1,13 +1,18 @@
--- Classes and patterns that stand in a row, as what is made of them.
+-- Classes, patterns and items that stand in a row, as what is made of them.
 use Rattle.std.proofs.Common.{◌≡◌, ◌≢◌, List, [], ◌∷◌, length, Vec, Global, refl, sym, ap, ◌∙◌}
 use Rattle.rnc_parse.specs.declared.surface.NameClass.{NameClass}
 use Rattle.rnc_parse.specs.declared.surface.NameClass as class
 use Rattle.rnc_parse.specs.declared.surface.Pattern.{Pattern}
 use Rattle.rnc_parse.specs.declared.surface.Pattern as pattern
-use Rattle.rnc_parse.specs.Views.{class_of, pattern_of}
-use Rattle.rnc_parse.specs.Written.{WrittenClass, WrittenPattern, no_name, either, empty, not_allowed, choice, group, interleave, joined_or}
+use Rattle.rnc_parse.specs.declared.surface.Item.{Item}
+use Rattle.rnc_parse.specs.declared.surface.Item as item
+use Rattle.rnc_parse.specs.declared.surface.Replacement.{Replacement}
+use Rattle.rnc_parse.specs.declared.surface.Replacement as replacement
+use Rattle.rnc_parse.specs.declared.surface.FileReference.{FileReference}
+use Rattle.rnc_parse.specs.Views.{class_of, pattern_of, item_of, items_in, replacement_of, replacements_in}
+use Rattle.rnc_parse.specs.Written.{WrittenClass, WrittenPattern, no_name, either, empty, not_allowed, choice, group, interleave, joined_or, grammar, div, include, div_anew}
 use Rattle.rnc_parse.proofs.ClassViews.{class_of-Choice}
-use Rattle.rnc_parse.proofs.PatternViews.{pattern_of-Choice, pattern_of-Group, pattern_of-Interleave}
+use Rattle.rnc_parse.proofs.PatternViews.{pattern_of-Choice, pattern_of-Group, pattern_of-Interleave, pattern_of-Grammar, item_of-Div, item_of-Include, replacement_of-Div}
 use Rattle.rngx_read.specs.Reading.{read}
 use Rattle.rngx_read.specs.ReadingClasses.{either_of}
 use Rattle.rngx_read.specs.ReadingPatterns.{row_of, one_of_row}
@@ -42,3 +47,17 @@ one_row (one ∷ other ∷ more) e = absurd cc
 
 pub one_seen : (patterns : Vec Pattern Global) → length patterns.items ≡ 1 → one_of_row (patterns_of patterns.items) ≡ read (pattern_of (pattern.Group patterns))
 one_seen patterns one = one_row patterns.items one ∙ ap read (sym (pattern_of-Group patterns))
+
+-- items, as what is made of them
+pub grammar_seen : (items : Vec Item Global) → grammar (items_in items.items) ≡ pattern_of (pattern.Grammar items)
+grammar_seen items = sym (pattern_of-Grammar items)
+
+pub div_seen : (items : Vec Item Global) → div (items_in items.items) ≡ item_of (item.Div items)
+div_seen items = sym (item_of-Div items)
+
+pub include_seen : (file : FileReference) (replacements : Vec Replacement Global) →
+    include file (replacements_in replacements.items) ≡ item_of (item.Include file replacements)
+include_seen file replacements = sym (item_of-Include file replacements)
+
+pub div_anew_seen : (replacements : Vec Replacement Global) → div_anew (replacements_in replacements.items) ≡ replacement_of (replacement.Div replacements)
+div_anew_seen replacements = sym (replacement_of-Div replacements)
