@@ -10,6 +10,9 @@ mod ElementViews
 mod BuiltViews
 mod Lists
 mod Loops
+mod Rows
+mod Children
+mod Trimming
 mod Cutting
 mod Declaring
 mod Scopes
@@ -25,3 +28,4 @@ mod SaidTexts
 mod Answering
 mod Marks
 pub mod WholeFiles
+mod Order

@@ -26,8 +26,8 @@ use Rattle.rngx_read.specs.Names.{Resolver, trimmed, simple_name, IsClassName}
 use Rattle.rngx_read.specs.Patterns as p
 use Rattle.rngx_read.specs.Patterns.{Joins, Makes, Refers, IsLeaf, HasClass, IsType, AreParams, IsReference, IsCombine, IsPattern, IsValue, IsRow, ArePatterns, IsDefinition, IsItem, AreItems, IsReplacement, AreReplacements, is_number_sign}
 use Rattle.rngx_read.specs.Reading.{Reading, read, no_form, no_prefix, ◌>>=◌}
-use Rattle.rngx_read.specs.ReadingClasses.{class_name_at, class_at}
-use Rattle.rngx_read.specs.ReadingPatterns.{needed, childless, name_at, type_at, literal_type_by, reference_by, reference_at, combine_by, combine_at, row_of, value_of_row, one_of_row, Parts, no_parts, typed_by, typed_of, Readings, row_at, param_at, part_of, part_by, first_class_at, has_class_by, content_by, element_by, attribute_by, pattern_by, definition_by, item_by, replacement_by, readings, pattern_at, grammar_file_by, lone_surface, surface_at}
+use Rattle.rngx_read.specs.ReadingClasses.{childless, class_name_at, class_at}
+use Rattle.rngx_read.specs.ReadingPatterns.{needed, name_at, type_at, literal_type_by, reference_by, reference_at, combine_by, combine_at, row_of, value_of_row, one_of_row, Parts, no_parts, typed_by, typed_of, Readings, row_at, param_at, part_of, part_by, first_class_at, has_class_by, content_by, element_by, attribute_by, pattern_by, definition_by, item_by, replacement_by, readings, pattern_at, grammar_file_by, lone_surface, surface_at}
 use Rattle.rngx_read.specs.Reads.{Writes, at_element, at_attribute, NeedsPrefix, LeavesOut, here, within, behind, IsFile, pattern_file, grammar_file}
 use Rattle.rngx_read.specs.Tags.{value_of, IsTag, form_of}
 use Rattle.rngx_read.proofs.Sounding.{Sounds, finds, ends, stops, sound_bind, sound_weaker, sound_cond}

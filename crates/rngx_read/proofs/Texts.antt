@@ -24,7 +24,7 @@ one_surface text one other is also =
     let same = elements_same text also.nodes is.nodes also.is_read is.is_read in
     one_thing bound_in (elements_in [] is.nodes) one other is.says (subst (λ (e : Elements). IsFile bound_in e other) same also.says)
 
-too_deep : (all : List Item) (at : ℕ) → IsShallow all → IsTooDeepAt all at → ⊥
+pub too_deep : (all : List Item) (at : ℕ) → IsShallow all → IsTooDeepAt all at → ⊥
 too_deep all at shallow d =
     let few : open_behind 0 (d.front ++ items.Event d.event d.span ∷ []) ≤ 200 =
     shallow (d.front ++ items.Event d.event d.span ∷ []) d.rest

@@ -1,14 +1,15 @@
 -- Laws of reading: of elements, of texts in the XML syntax, and of files in either syntax.
-use Rattle.std.specs.Prelude.{◌≡◌, ℕ, ◌⊎◌, List}
+use Rattle.std.specs.Prelude.{◌≡◌, ℕ, ◌⊎◌, List, Result, Ok, Err}
 use Rattle.std.specs.Str.{IsUtf8}
 use Rattle.nx_base.specs.declared.cause.Cause.{Cause}
 use Rattle.rnc_parse.specs.Written.{WrittenSurface}
+use Rattle.rnc_parse.specs.declared.surface.Surface.{Surface}
+use Rattle.rngx_read.specs.declared.read.XReadFault.{XReadFault}
+use Rattle.rngx_read.specs.declared.read.XReadFault.TheVariants as fault
 use Rattle.rngx_read.specs.Elements.{Elements}
 use Rattle.rngx_read.specs.Files.{RefusesMarkup, ReadsFile, RefusesFile}
 use Rattle.rngx_read.specs.Names.{Resolver, bound_in}
-use Rattle.rngx_read.specs.Reading.{read, no_prefix}
-use Rattle.rngx_read.specs.ReadingPatterns.{surface_at}
-use Rattle.rngx_read.specs.Reads.{IsFile, Extends, LeavesOut, Reads}
+use Rattle.rngx_read.specs.Reads.{IsFile, Extends, LeavesOut, Reads, HasBadMarkup, IsTooDeep, AnswersText}
 
 -- the elements are in no reading, whatever the prefixes stand for that are left out
 abbrev pub HaveNoForm : Elements → Type 0
@@ -39,6 +40,15 @@ abbrev pub MarkupIsReadOrRefused : Type 0
 MarkupIsReadOrRefused = (text : List ℕ) → IsUtf8 text →
     ((surface : WrittenSurface) × Reads text surface) ⊎ ((why : Cause) × RefusesMarkup text why)
 
+-- a text with a fault is refused for that, at the first one, and one that nests too deep for that; want of memory is free
+abbrev pub FaultsAreToldFirst : Type 0
+FaultsAreToldFirst = (text : List ℕ) (at : ℕ) (answer : Result Surface XReadFault) → HasBadMarkup text at → AnswersText text answer →
+    (answer ≡ Err (fault.BadMarkup at)) ⊎ (answer ≡ Err fault.NoMemory)
+
+abbrev pub DepthIsToldNext : Type 0
+DepthIsToldNext = (text : List ℕ) (at : ℕ) (answer : Result Surface XReadFault) → IsTooDeep text at → AnswersText text answer →
+    ((place : ℕ) × (answer ≡ Err (fault.TooDeep place))) ⊎ (answer ≡ Err fault.NoMemory)
+
 -- ---- of files, in either syntax
 
 abbrev pub TextsAreReadAsOne : Type 0
@@ -50,17 +60,3 @@ WhatIsReadIsNotRefused = (text : List ℕ) (surface : WrittenSurface) (why : Cau
 abbrev pub TextsAreReadOrRefused : Type 0
 TextsAreReadOrRefused = (text : List ℕ) → IsUtf8 text →
     ((surface : WrittenSurface) × ReadsFile text surface) ⊎ ((why : Cause) × RefusesFile text why)
-
--- ---- of the program's own functions
-
-abbrev pub WhatIsFoundIsSaid : Type 0
-WhatIsFoundIsSaid = (resolve : Resolver) (elements : Elements) (surface : WrittenSurface) → surface_at resolve elements ≡ read surface →
-    IsFile resolve elements surface
-
-abbrev pub WhatStopsIsLeftOut : Type 0
-WhatStopsIsLeftOut = (resolve : Resolver) (elements : Elements) (prefix : List ℕ) → surface_at resolve elements ≡ no_prefix prefix →
-    LeavesOut resolve prefix elements
-
-abbrev pub WhatIsSaidIsFound : Type 0
-WhatIsSaidIsFound = (resolve : Resolver) (elements : Elements) (surface : WrittenSurface) → IsFile resolve elements surface →
-    surface_at resolve elements ≡ read surface

@@ -1,4 +1,4 @@
--- Patterns and grammars: ISO/IEC 19757-2, section 3.
+-- Patterns and grammars: ISO/IEC 19757-2, section 6; how the rows of an element are joined 7.13, and a value without a type 7.5.
 use Rattle.std.specs.Prelude.{◌≡◌, ℕ, Bool, false, ◌==◌, List, [], ◌∷◌, Some, None, codes}
 use Rattle.std.specs.List.{list_any}
 use Rattle.rnc_parse.specs.declared.surface.Namespace.{Namespace}

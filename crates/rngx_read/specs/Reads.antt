@@ -1,4 +1,4 @@
--- What the text of a schema file in the XML syntax says, and why a text says nothing: ISO/IEC 19757-2, section 3.
+-- What the text of a schema file in the XML syntax says, and why a text says nothing: ISO/IEC 19757-2, sections 5 and 6.
 use Rattle.std.specs.Prelude.{◌≡◌, ◌≢◌, ℕ, ◌+◌, ◌-◌, ◌≤◌, true, List, [], ◌∷◌, ◌++◌, Some, None, codes}
 use Rattle.std.specs.Prelude.{Result, Ok, Err}
 use Rattle.nx_base.specs.Tokens.{tokens_of}
@@ -76,7 +76,7 @@ pub record Reads (text : List ℕ) (surface : WrittenSurface) : Type 0 where
   pub shallow : IsShallow (items_of_text text)
   pub says : IsFile bound_in (elements_in [] nodes) surface
 
--- ---- why a text says nothing
+-- ---- why a text says nothing: of the last two causes both may hold of one text, and then either may be told
 
 -- the text has faults, of which the first begins at the place
 pub record HasBadMarkup (text : List ℕ) (at : ℕ) : Type 0 where
@@ -94,14 +94,14 @@ pub record IsTooDeep (text : List ℕ) (at : ℕ) : Type 0 where
 abbrev pub Extends : Resolver → Type 0
 Extends resolve = (scope : List Name) (prefix uri : List ℕ) → bound_in scope prefix ≡ Some uri → resolve scope prefix ≡ Some uri
 
--- it has neither, and its elements are in no reading, whatever the prefixes stand for that are left out
+-- it has neither a fault nor 201 open elements, and its elements are in no reading, whatever the prefixes stand for that are left out
 pub record HasBadForm (text : List ℕ) : Type 0 where
   pub nodes : Nodes
   pub is_read : IsReadAs text nodes
   pub shallow : IsShallow (items_of_text text)
   pub no_file : (resolve : Resolver) (surface : WrittenSurface) → Extends resolve → IsFile resolve (elements_in [] nodes) surface → ⊥
 
--- a name of a class that is written at the tag
+-- a name that is written at the tag where that of a class stands
 pub data Writes (tag : Tag) : List ℕ → Type 0 where
   at_element : {written : List ℕ} → tag.local ≡ kind_text kind.Element → value_of (codes "name") tag.attributes ≡ Some written →
       Writes tag written

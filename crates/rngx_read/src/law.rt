@@ -1,23 +1,8 @@
 //! Laws of reading. Nothing here runs.
 
-ghost use Rattle.rngx_read.specs.Laws.{WhatIsFoundIsSaid, WhatStopsIsLeftOut, WhatIsSaidIsFound, ElementsSayOneThing};
-ghost use Rattle.rngx_read.specs.Laws.{ElementsAreReadOrRefused, MarkupIsReadAsOne, MarkupReadIsNotRefused, MarkupIsReadOrRefused};
+ghost use Rattle.rngx_read.specs.Laws.{ElementsSayOneThing};
+ghost use Rattle.rngx_read.specs.Laws.{ElementsAreReadOrRefused, MarkupIsReadAsOne, MarkupReadIsNotRefused, MarkupIsReadOrRefused, FaultsAreToldFirst, DepthIsToldNext};
 ghost use Rattle.rngx_read.specs.Laws.{TextsAreReadAsOne, WhatIsReadIsNotRefused, TextsAreReadOrRefused};
-
-/// What reading finds the elements say.
-pub fn what_is_found_is_said()
-    ensures { WhatIsFoundIsSaid }
-{}
-
-/// A prefix at which reading stops is left out.
-pub fn what_stops_is_left_out()
-    ensures { WhatStopsIsLeftOut }
-{}
-
-/// What the elements say is found.
-pub fn what_is_said_is_found()
-    ensures { WhatIsSaidIsFound }
-{}
 
 /// Elements say one thing at most, whatever prefixes stand for.
 pub fn elements_say_one_thing()
@@ -42,6 +27,16 @@ pub fn markup_read_is_not_refused()
 /// Each text in the XML syntax is read, or refused for some cause.
 pub fn markup_is_read_or_refused()
     ensures { MarkupIsReadOrRefused }
+{}
+
+/// A text with a fault is refused for the first one.
+pub fn faults_are_told_first()
+    ensures { FaultsAreToldFirst }
+{}
+
+/// A text without faults in which 201 elements are open at once is refused for that.
+pub fn depth_is_told_next()
+    ensures { DepthIsToldNext }
 {}
 
 /// The text of a file, in either syntax, is read as one surface at most.
