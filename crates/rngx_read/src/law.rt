@@ -1,6 +1,6 @@
 //! Laws of reading. Nothing here runs.
 
-ghost use Rattle.rngx_read.specs.Laws.{WhatIsFoundIsSaid, WhatStopsIsLeftOut, WhatIsSaidIsFound, ElementsSayOneThing};
+ghost use Rattle.rngx_read.specs.Laws.{WhatIsFoundIsSaid, WhatStopsIsLeftOut, WhatIsSaidIsFound, ElementsSayOneThing, WhatIsSaidLeavesNoPrefixOut};
 ghost use Rattle.rngx_read.specs.Laws.{ElementsAreReadOrRefused, TextsAreReadAsOne, WhatIsReadIsNotRefused, TextsAreReadOrRefused};
 
 use nx_document::law::well_formed_is_document;
@@ -24,6 +24,11 @@ pub fn what_is_said_is_found()
 /// Elements say one thing at most, whatever prefixes stand for.
 pub fn elements_say_one_thing()
     ensures { ElementsSayOneThing }
+{}
+
+/// Elements that say something leave no prefix out.
+pub fn what_is_said_leaves_no_prefix_out()
+    ensures { WhatIsSaidLeavesNoPrefixOut }
 {}
 
 /// Elements say something, have no form, or leave a prefix out.

@@ -8,6 +8,7 @@ use Rattle.rngx_read.specs.Reading.{read}
 use Rattle.rngx_read.specs.Views.{context_of, patterns_of, parts_of}
 use Rattle.rngx_read.proofs.Loops.{went_on, stopped, over, list_in_front, items_in_front, replacements_in_front, by_patterns, by_items, by_replacements}
 use Rattle.rngx_read.proofs.Loops.{parts_went_on, parts_stopped, parts_over}
+use Rattle.rngx_read.proofs.Rows.{include_seen}
 use Rattle.rngx_read.proofs.+pattern.Goals as goal
 
 pub pattern::patterns-returns-in_err-next : goal.pattern::patterns-returns-in_err-next
@@ -86,3 +87,6 @@ grammar::replacements-returns t c =
     over replacement_then (by_replacements bound_in (context_of c.args.context.now)) c.args.elements.now (map replacement_of c.loop-element.replacements.items) c.loop-element.element-index
     c.loop-element-test.false c.loop-element.invariant
     ∙ ap read (replacements_in_front c.loop-element.replacements.items)
+
+pub grammar::include-returns-in-Ok : goal.grammar::include-returns-in-Ok
+grammar::include-returns-in-Ok t c = rw (c.in_ok-file.ensures, c.in-Ok.ensures) (ap read (include_seen c.in_ok-file.file c.in-Ok.replacements))
