@@ -1,5 +1,5 @@
 -- The children of an element, as the list that the program has.
-use Rattle.std.proofs.Common.{◌≡◌, ℕ, ◌≤◌, List, [], ◌∷◌, length, refl, sym, ap, ◌∙◌, arith}
+use Rattle.std.proofs.Common.{◌≡◌, ◌≤◌, List, [], ◌∷◌, length, refl, sym, ap, ◌∙◌, arith}
 use Rattle.rnc_parse.specs.Written.{WrittenClass}
 use Rattle.rngx_read.specs.declared.element.Element.{Element}
 use Rattle.rngx_read.specs.declared.element.Element as elements

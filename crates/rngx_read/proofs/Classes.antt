@@ -1,9 +1,9 @@
 -- What reading finds of name classes is in the relation, and what is in the relation is read.
-use Rattle.std.proofs.Common.{◌≡◌, ◌≢◌, ℕ, Bool, true, false, cond, List, [], ◌∷◌, Option, Some, None, refl, sym, ap, subst, ◌∙◌, ◌⊎◌, inl, inr}
+use Rattle.std.proofs.Common.{◌≡◌, ◌≢◌, ℕ, List, [], ◌∷◌, Option, Some, None, refl, sym, ap, ◌∙◌, ◌⊎◌, inl, inr}
 use Rattle.nx_base.specs.declared.name.Name.{Name}
 use Rattle.nx_events.specs.Names.{is_qname, prefix_of, local_of}
 use Rattle.rnc_parse.specs.declared.surface.Namespace.{Namespace}
-use Rattle.rnc_parse.specs.Written.{WrittenClass, every_name, names_in, without, either, joined}
+use Rattle.rnc_parse.specs.Written.{WrittenClass, every_name, names_in, without}
 use Rattle.rngx_read.specs.declared.element.Tag.{Tag}
 use Rattle.rngx_read.specs.declared.kind.Kind.{Kind}
 use Rattle.rngx_read.specs.declared.kind.Kind.TheVariants as kind
@@ -11,11 +11,11 @@ use Rattle.rngx_read.specs.Classes.{IsClass, a_name, any_name, ns_name, a_choice
 use Rattle.rngx_read.specs.Contexts.{Context, inside}
 use Rattle.rngx_read.specs.Elements.{Elements, no_elements, element_then}
 use Rattle.rngx_read.specs.Names.{Resolver, trimmed, IsNamed, without_prefix, with_prefix, IsClassName}
-use Rattle.rngx_read.specs.Reading.{Reading, read, no_form, no_prefix, ◌>>=◌}
-use Rattle.rngx_read.specs.ReadingClasses.{ClassReadings, either_of, either_at, excepted_by, all_but_by, named_by, named_at, class_name_at, lone_name_at, class_by, class_readings, class_at}
+use Rattle.rngx_read.specs.Reading.{Reading, read, no_form, ◌>>=◌}
+use Rattle.rngx_read.specs.ReadingClasses.{either_of, either_at, excepted_by, all_but_by, named_by, named_at, class_name_at, lone_name_at, class_by, class_readings, class_at}
 use Rattle.rngx_read.specs.Reads.{Writes, in_name, NeedsPrefix, LeavesOut, here, within, behind}
 use Rattle.rngx_read.specs.Tags.{IsTag, form_of}
-use Rattle.rngx_read.proofs.Sounding.{Sounds, finds, ends, stops, sound_bind, sound_weaker, sound_cond, Below, same, stopped, below_bind, below_cond}
+use Rattle.rngx_read.proofs.Sounding.{Sounds, finds, ends, stops, sound_bind, sound_weaker, sound_cond}
 use Rattle.rngx_read.proofs.Tags.{form_is, form_found}
 
 module _ (resolve : Resolver) where

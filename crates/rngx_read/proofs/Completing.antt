@@ -1,30 +1,23 @@
 -- What stands in the relation of patterns and grammars is read.
-use Rattle.std.proofs.Common.{◌≡◌, ◌≢◌, ℕ, Bool, true, false, cond, List, [], ◌∷◌, ◌++◌, Option, Some, None, refl, sym, ap, subst, ◌∙◌, codes, append_assoc}
-use Rattle.std.specs.List.{list_any}
+use Rattle.std.proofs.Common.{◌≡◌, ℕ, Bool, true, false, cond, List, [], ◌∷◌, ◌++◌, Option, Some, None, refl, sym, ap, ◌∙◌, codes, append_assoc}
 use Rattle.std.specs.Str.{bytes_eq}
-use Rattle.std.proofs.lemmas.Bool.{cases_Bool}
 use Rattle.std.proofs.lemmas.List.{append-nil}
 use Rattle.std.proofs.lemmas.Slice.Eq.{bytes_eq-Decides}
 use Rattle.rnc_parse.specs.declared.surface.TypeName.{TypeName}
 use Rattle.rnc_parse.specs.declared.surface.Param.{Param}
 use Rattle.rnc_parse.specs.declared.surface.FileReference.{FileReference}
-use Rattle.rnc_parse.specs.declared.surface.Defined.{Defined}
 use Rattle.rnc_parse.specs.declared.surface.Combine.{Combine}
-use Rattle.rnc_parse.specs.declared.surface.Combine.TheVariants as combine
-use Rattle.rnc_parse.specs.Parts.{built_in}
-use Rattle.rnc_parse.specs.Written.{WrittenClass, WrittenPattern, element, attribute, value, typed, typed_but, external, grammar, choice, group, interleave, joined}
-use Rattle.rnc_parse.specs.Written.{WrittenItem, define, div, include, WrittenItems, item_then, WrittenReplacement, define_anew, div_anew, WrittenReplacements, replacement_then, WrittenSurface, a_pattern, a_grammar}
+use Rattle.rnc_parse.specs.Written.{WrittenClass, WrittenPattern, element, attribute, value, external, grammar, choice, group, interleave, joined}
+use Rattle.rnc_parse.specs.Written.{WrittenItem, div, include, WrittenItems, item_then, WrittenReplacement, div_anew, WrittenReplacements, replacement_then, WrittenSurface, a_pattern, a_grammar}
 use Rattle.rngx_read.specs.declared.element.Tag.{Tag}
-use Rattle.rngx_read.specs.declared.kind.Kind.{Kind}
 use Rattle.rngx_read.specs.declared.kind.Kind.TheVariants as kind
 use Rattle.rngx_read.specs.Contexts.{Context, inside, outermost, own_namespace}
 use Rattle.rngx_read.specs.Elements.{Elements, no_elements, element_then}
-use Rattle.rngx_read.specs.Names.{Resolver, trimmed, name_in, simple_name}
+use Rattle.rngx_read.specs.Names.{Resolver, name_in, simple_name}
 use Rattle.rngx_read.specs.Patterns as p
 use Rattle.rngx_read.specs.Patterns.{Joins, Makes, Refers, IsLeaf, HasClass, IsType, AreParams, IsReference, IsCombine, IsPattern, IsValue, IsRow, ArePatterns, IsDefinition, IsItem, AreItems, IsReplacement, AreReplacements, is_number_sign}
-use Rattle.rngx_read.specs.Reading.{Reading, read, no_form, no_prefix, ◌>>=◌}
-use Rattle.rngx_read.specs.ReadingClasses.{childless, class_name_at, class_at}
-use Rattle.rngx_read.specs.ReadingPatterns.{needed, name_at, type_at, literal_type_by, reference_by, reference_at, combine_by, combine_at, row_of, value_of_row, one_of_row, Parts, no_parts, typed_of, Readings, row_at, param_at, part_of, part_by, first_class_at, has_class_by, content_by, element_by, attribute_by, pattern_by, definition_by, item_by, replacement_by, readings, pattern_at, grammar_file_by, lone_surface, surface_at}
+use Rattle.rngx_read.specs.Reading.{Reading, read, ◌>>=◌}
+use Rattle.rngx_read.specs.ReadingPatterns.{needed, name_at, type_at, literal_type_by, reference_at, combine_by, combine_at, row_of, Parts, no_parts, typed_of, row_at, element_by, attribute_by, pattern_by, item_by, replacement_by, readings, pattern_at, grammar_file_by, surface_at}
 use Rattle.rngx_read.specs.Reads.{IsFile, pattern_file, grammar_file}
 use Rattle.rngx_read.specs.Tags.{value_of, IsTag, form_of}
 use Rattle.rngx_read.proofs.Tags.{form_found}

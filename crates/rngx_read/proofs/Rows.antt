@@ -10,7 +10,7 @@ use Rattle.rnc_parse.specs.declared.surface.Replacement.{Replacement}
 use Rattle.rnc_parse.specs.declared.surface.Replacement as replacement
 use Rattle.rnc_parse.specs.declared.surface.FileReference.{FileReference}
 use Rattle.rnc_parse.specs.Views.{class_of, pattern_of, item_of, items_in, replacement_of, replacements_in}
-use Rattle.rnc_parse.specs.Written.{WrittenClass, WrittenPattern, no_name, either, empty, not_allowed, choice, group, interleave, joined_or, grammar, div, include, div_anew}
+use Rattle.rnc_parse.specs.Written.{WrittenPattern, no_name, either, empty, not_allowed, choice, group, interleave, joined_or, grammar, div, include, div_anew}
 use Rattle.rnc_parse.proofs.ClassViews.{class_of-Choice}
 use Rattle.rnc_parse.proofs.PatternViews.{pattern_of-Choice, pattern_of-Group, pattern_of-Interleave, pattern_of-Grammar, item_of-Div, item_of-Include, replacement_of-Div}
 use Rattle.rngx_read.specs.Reading.{read}

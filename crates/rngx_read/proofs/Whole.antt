@@ -1,5 +1,5 @@
 -- What elements say leaves no prefix out.
-use Rattle.std.proofs.Common.{◌≡◌, ◌≢◌, ℕ, List, [], ◌∷◌, Option, Some, None, refl, sym, ap, subst, ◌∙◌, ◌⊎◌, inl, inr, codes}
+use Rattle.std.proofs.Common.{◌≡◌, ◌≢◌, ℕ, List, [], ◌∷◌, Some, None, refl, sym, ap, ◌∙◌, ◌⊎◌, inl, inr, codes}
 use Rattle.nx_base.specs.declared.name.Name.{Name}
 use Rattle.nx_events.specs.Names.{prefix_of, local_of}
 use Rattle.rnc_parse.specs.declared.surface.Namespace.{Namespace}

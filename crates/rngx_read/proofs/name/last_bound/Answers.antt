@@ -1,4 +1,4 @@
-use Rattle.std.proofs.Common.{option_copied, Some, sym, ap, ◌∙◌}
+use Rattle.std.proofs.Common.{option_copied, Some, ap, ◌∙◌}
 use Rattle.rngx_read.proofs.Prefixes.{bound_here, bound_elsewhere, all_bound}
 use Rattle.rngx_read.proofs.name.last_bound.Goals as goal
 use Rattle.rngx_read.proofs.name.last_bound.Goals.{then-eq, else-eq}
