@@ -72,8 +72,8 @@ module _ (resolve : Resolver) where
 
   either_is : (context : Context) (elements : Elements) (classes : List WrittenClass) → AreClasses resolve context elements classes →
       Sounds (IsEither resolve context elements) (λ prefix. LeavesOut resolve prefix elements) (either_of classes)
-  either_is context elements [] are = ends
-  either_is context elements (first ∷ more) are = finds (any_of are refl)
+  either_is context _ [] are = ends
+  either_is context _ (first ∷ more) are = finds (any_of are refl)
 
   either_sound : (context : Context) (elements : Elements) → ClassSound elements →
       Sounds (IsEither resolve context elements) (λ prefix. LeavesOut resolve prefix elements) (either_at (class_readings resolve elements) context)

@@ -101,8 +101,8 @@ module _ (resolve : Resolver) where
 
   row_is : (join : WrittenPattern → WrittenPattern → WrittenPattern) (context : Context) (elements : Elements) (ps : List WrittenPattern) →
       ArePatterns resolve context elements ps → Sounds (IsRow resolve join context elements) (Out elements) (row_of join ps)
-  row_is join context elements [] are = ends
-  row_is join context elements (first ∷ more) are = finds (p.row_of are refl)
+  row_is join context _ [] are = ends
+  row_is join context _ (first ∷ more) are = finds (p.row_of are refl)
 
   row_sound : (join : WrittenPattern → WrittenPattern → WrittenPattern) (context : Context) (elements : Elements) → RowSound elements →
       Sounds (IsRow resolve join context elements) (Out elements) (row_at join (readings resolve elements) context)

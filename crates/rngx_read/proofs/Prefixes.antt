@@ -20,7 +20,7 @@ module _ (prefix : List ℕ) (scope : List Name) (i : ℕ) (pair : Name) (found 
   unfolding last_bound
   bound_here same e =
       let pair_first : last_bound (drop i scope) prefix ≡ or_else (last_bound (drop (i + 1) scope) prefix) (Some pair.ns) =
-          at_drop_more (λ pairs. last_bound pairs prefix) scope i pair within ∙ rw (← is, same) refl in
+      at_drop_more (λ pairs. last_bound pairs prefix) scope i pair within ∙ rw (← is, same) refl in
       ap (or_else (last_bound (drop (i + 1) scope) prefix)) e
       ∙ sym (found_here (last_bound (drop (i + 1) scope) prefix) found pair.ns)
       ∙ ap (λ later. or_else later found) (sym pair_first)
@@ -30,7 +30,7 @@ module _ (prefix : List ℕ) (scope : List Name) (i : ℕ) (pair : Name) (found 
   unfolding last_bound
   bound_elsewhere other e =
       let pair_first : last_bound (drop i scope) prefix ≡ or_else (last_bound (drop (i + 1) scope) prefix) None =
-          at_drop_more (λ pairs. last_bound pairs prefix) scope i pair within ∙ rw (← is, other) refl in
+      at_drop_more (λ pairs. last_bound pairs prefix) scope i pair within ∙ rw (← is, other) refl in
       ap (or_else (last_bound (drop (i + 1) scope) prefix)) e
       ∙ sym (passed_over (last_bound (drop (i + 1) scope) prefix) found)
       ∙ ap (λ later. or_else later found) (sym pair_first)
