@@ -14,7 +14,8 @@ found_here : {A : Type 0} (later found : Option A) (x : A) → or_else (or_else 
 found_here None found x = refl
 found_here (Some y) found x = refl
 
-module _ (prefix : List ℕ) (scope : List Name) (i : ℕ) (pair : Name) (found now total : Option (List ℕ)) (within : i < length scope) (is : pair ≡ get_or scope i pair)
+module _ (prefix : List ℕ) (scope : List Name) (i : ℕ) (pair : Name) (found now total : Option (List ℕ)) (within : i < length scope)
+    (is : pair ≡ get_or scope i pair)
     (kept : or_else (last_bound (drop i scope) prefix) found ≡ total) where
   pub bound_here : bytes_eq pair.local prefix ≡ true → now ≡ Some pair.ns → or_else (last_bound (drop (i + 1) scope) prefix) now ≡ total
   unfolding last_bound
