@@ -45,7 +45,9 @@ WhatIsReadIsNotRefused = (text : List ℕ) (surface : WrittenSurface) → Reads 
 
 -- each text is read, or refused for some cause
 abbrev pub IsRefused : List ℕ → Type 0
-IsRefused text = ((at : ℕ) × HasBadMarkup text at) ⊎ (((at : ℕ) × IsTooDeep text at) ⊎ (HasBadForm text ⊎ ((prefix : List ℕ) × HasUndeclared text prefix)))
+IsRefused text =
+    ((at : ℕ) × HasBadMarkup text at)
+    ⊎ (((at : ℕ) × IsTooDeep text at) ⊎ (HasBadForm text ⊎ ((prefix : List ℕ) × HasUndeclared text prefix)))
 
 abbrev pub TextsAreReadOrRefused : Type 0
 TextsAreReadOrRefused = (text : List ℕ) → IsUtf8 text → ((surface : WrittenSurface) × Reads text surface) ⊎ IsRefused text
