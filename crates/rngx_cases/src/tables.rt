@@ -1,4 +1,7 @@
-//! Schema files in the XML syntax, and what each says, worked out by hand from the table of the syntax.
+//! Schema files in the XML syntax, and what each says by the table of the syntax (ISO/IEC 19757-2, section 3).
+//!
+//! The first 47 lines were what the reader wrote, and were held against the table by hand afterwards; the others were worked out from it
+//! by hand. All of them are also what a second reader says, which was written apart from this one, from the table alone.
 
 /// Schemas, each with what `told` makes of it behind `=> `, and a blank line between them. `@` stands for the declaration of the
 /// schema's namespace.

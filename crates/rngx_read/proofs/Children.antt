@@ -1,5 +1,5 @@
 -- The children of an element, as the list that the program has.
-use Rattle.std.proofs.Common.{◌≡◌, ℕ, ◌≤◌, List, [], ◌∷◌, length, refl, sym, ap, ◌∙◌, arith}
+use Rattle.std.proofs.Common.{◌≡◌, ◌≤◌, List, [], ◌∷◌, length, refl, sym, ap, ◌∙◌, arith}
 use Rattle.rnc_parse.specs.Written.{WrittenClass}
 use Rattle.rngx_read.specs.declared.element.Element.{Element}
 use Rattle.rngx_read.specs.declared.element.Element as elements
@@ -14,8 +14,8 @@ row_listed : (n : _) (row : elements.Row_of-Element n) → row_of row ≡ listed
 row_listed n elements.end_of-Element = refl
 row_listed n (elements.more_of-Element first row) = ap (element_then (tag_of first) (children_of first)) (row_listed _ row)
 
-pub children_seen : (element : Element) → children_of element ≡ listed (elements.out-Element element).children.items
-children_seen (elements.Element' tag at shape row) =
+pub children_are : (element : Element) → children_of element ≡ listed (elements.out-Element element).children.items
+children_are (elements.Element' tag at shape row) =
     row_listed _ row
     ∙ ap listed (sym (elements.items_shown-the_row-Element-0 shape row))
     ∙ ap (λ (element : elements.Element-F Element). listed element.children.items) (sym (elements.outs-Element' tag at shape row))

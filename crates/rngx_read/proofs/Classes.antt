@@ -1,21 +1,23 @@
 -- What reading finds of name classes is in the relation, and what is in the relation is read.
-use Rattle.std.proofs.Common.{◌≡◌, ◌≢◌, ℕ, Bool, true, false, cond, List, [], ◌∷◌, Option, Some, None, refl, sym, ap, subst, ◌∙◌, ◌⊎◌, inl, inr}
+use Rattle.std.proofs.Common.{◌≡◌, ◌≢◌, ℕ, List, [], ◌∷◌, Option, Some, None, refl, sym, ap, ◌∙◌, ◌⊎◌, inl, inr}
 use Rattle.nx_base.specs.declared.name.Name.{Name}
 use Rattle.nx_events.specs.Names.{is_qname, prefix_of, local_of}
 use Rattle.rnc_parse.specs.declared.surface.Namespace.{Namespace}
-use Rattle.rnc_parse.specs.Written.{WrittenClass, every_name, names_in, without, either, joined}
+use Rattle.rnc_parse.specs.Written.{WrittenClass, every_name, names_in, without}
 use Rattle.rngx_read.specs.declared.element.Tag.{Tag}
 use Rattle.rngx_read.specs.declared.kind.Kind.{Kind}
 use Rattle.rngx_read.specs.declared.kind.Kind.TheVariants as kind
-use Rattle.rngx_read.specs.Classes.{IsClass, a_name, any_name, ns_name, a_choice, IsAllBut, all_of_them, all_but, IsEither, any_of, AreClasses, no_class, next_class}
+use Rattle.rngx_read.specs.Classes.{IsClass, a_name, any_name, ns_name, a_choice, IsAllBut, all_of_them, all_but, IsEither, any_of, AreClasses}
+use Rattle.rngx_read.specs.Classes.{no_class, next_class}
 use Rattle.rngx_read.specs.Contexts.{Context, inside}
 use Rattle.rngx_read.specs.Elements.{Elements, no_elements, element_then}
 use Rattle.rngx_read.specs.Names.{Resolver, trimmed, IsNamed, without_prefix, with_prefix, IsClassName}
-use Rattle.rngx_read.specs.Reading.{Reading, read, no_form, no_prefix, ◌>>=◌}
-use Rattle.rngx_read.specs.ReadingClasses.{ClassReadings, either_of, either_at, excepted_by, all_but_by, named_by, named_at, class_name_at, lone_name_at, class_by, class_readings, class_at}
+use Rattle.rngx_read.specs.Reading.{Reading, read, no_form, ◌>>=◌}
+use Rattle.rngx_read.specs.ReadingClasses.{either_of, either_at, excepted_by, all_but_by, named_by, named_at, class_name_at, lone_name_at, class_by}
+use Rattle.rngx_read.specs.ReadingClasses.{class_readings, class_at}
 use Rattle.rngx_read.specs.Reads.{Writes, in_name, NeedsPrefix, LeavesOut, here, within, behind}
 use Rattle.rngx_read.specs.Tags.{IsTag, form_of}
-use Rattle.rngx_read.proofs.Sounding.{Sounds, finds, ends, stops, sound_bind, sound_weaker, sound_cond, Below, same, stopped, below_bind, below_cond}
+use Rattle.rngx_read.proofs.Sounding.{Sounds, finds, ends, stops, sound_bind, sound_weaker, sound_cond}
 use Rattle.rngx_read.proofs.Tags.{form_is, form_found}
 
 module _ (resolve : Resolver) where
@@ -33,14 +35,22 @@ module _ (resolve : Resolver) where
       by_uri None e = stops (refl, (λ none. cc), e)
 
   pub class_name_sound : (tag : Tag) (unprefixed : Namespace) (written : List ℕ) → Writes tag written →
-      Sounds (IsClassName resolve tag.scope unprefixed written) (λ prefix. NeedsPrefix resolve tag prefix) (class_name_at resolve unprefixed tag.scope written)
+      Sounds (IsClassName resolve tag.scope unprefixed written) (λ prefix. NeedsPrefix resolve tag prefix)
+      (class_name_at resolve unprefixed tag.scope written)
   unfolding class_name_at
   class_name_sound tag unprefixed written writes =
       sound_cond (is_qname (trimmed written)) _ no_form
       (λ qualified. sound_weaker (named_at resolve tag.scope unprefixed (prefix_of (trimmed written)) (local_of (trimmed written)))
       (named_sound tag.scope unprefixed (prefix_of (trimmed written)) (local_of (trimmed written)))
       (λ class named. record { qualified = qualified; named = named })
-      (λ prefix left. record { written = written; writes = writes; qualified = qualified; prefix_is = sym left.0; some_prefix = left.1; undeclared = left.2 }))
+      (λ prefix left. record {
+        written = written;
+        writes = writes;
+        qualified = qualified;
+        prefix_is = sym left.0;
+        some_prefix = left.1;
+        undeclared = left.2;
+      }))
       (λ _. ends)
 
   named_read : (scope : List Name) (unprefixed : Namespace) (prefix local : List ℕ) (class : WrittenClass) →
@@ -60,7 +70,8 @@ module _ (resolve : Resolver) where
   abbrev pub OutAt : Tag → Elements → List ℕ → Type 0
   OutAt tag children prefix = NeedsPrefix resolve tag prefix ⊎ LeavesOut resolve prefix children
 
-  pub out_first : (tag : Tag) (children rest : Elements) (prefix : List ℕ) → OutAt tag children prefix → LeavesOut resolve prefix (element_then tag children rest)
+  pub out_first : (tag : Tag) (children rest : Elements) (prefix : List ℕ) → OutAt tag children prefix →
+      LeavesOut resolve prefix (element_then tag children rest)
   out_first tag children rest prefix (inl needs) = here needs
   out_first tag children rest prefix (inr left) = within left
 
@@ -72,13 +83,14 @@ module _ (resolve : Resolver) where
 
   either_is : (context : Context) (elements : Elements) (classes : List WrittenClass) → AreClasses resolve context elements classes →
       Sounds (IsEither resolve context elements) (λ prefix. LeavesOut resolve prefix elements) (either_of classes)
-  either_is context elements [] are = ends
-  either_is context elements (first ∷ more) are = finds (any_of are refl)
+  either_is context _ [] are = ends
+  either_is context _ (first ∷ more) are = finds (any_of are refl)
 
   either_sound : (context : Context) (elements : Elements) → ClassSound elements →
       Sounds (IsEither resolve context elements) (λ prefix. LeavesOut resolve prefix elements) (either_at (class_readings resolve elements) context)
   either_sound context elements sound =
-      sound_bind ((class_readings resolve elements).classes context) either_of (sound.classes context) (λ classes are. either_is context elements classes are)
+      sound_bind ((class_readings resolve elements).classes context) either_of (sound.classes context)
+      (λ classes are. either_is context elements classes are)
 
   lone_name_sound : (context : Context) (tag : Tag) (children : Elements) → IsTag kind.Name tag →
       Sounds (IsClass resolve context tag children) (OutAt tag children) (lone_name_at resolve (inside context tag) tag children)
@@ -89,12 +101,14 @@ module _ (resolve : Resolver) where
 
   class_by_sound : (context : Context) (tag : Tag) (children : Elements) → ClassSound children → (form : Option Kind) →
       ((k : Kind) → form ≡ Some k → IsTag k tag) →
-      Sounds (IsClass resolve context tag children) (OutAt tag children) (class_by resolve (inside context tag) tag children (class_readings resolve children) form)
+      Sounds (IsClass resolve context tag children) (OutAt tag children)
+      (class_by resolve (inside context tag) tag children (class_readings resolve children) form)
   class_by_sound context tag children sound (Some kind.Name) is = lone_name_sound context tag children (is kind.Name refl)
   class_by_sound context tag children sound (Some kind.AnyName) is =
       sound_weaker _ (sound.except (inside context tag) every_name) (λ class but. any_name (is kind.AnyName refl) but) (λ prefix left. inr left)
   class_by_sound context tag children sound (Some kind.NsName) is =
-      sound_weaker _ (sound.except (inside context tag) (names_in (inside context tag).namespace)) (λ class but. ns_name (is kind.NsName refl) but) (λ prefix left. inr left)
+      sound_weaker _ (sound.except (inside context tag) (names_in (inside context tag).namespace)) (λ class but. ns_name (is kind.NsName refl) but)
+      (λ prefix left. inr left)
   class_by_sound context tag children sound (Some kind.Choice) is =
       sound_weaker _ (either_sound (inside context tag) children sound) (λ class any. a_choice (is kind.Choice refl) any) (λ prefix left. inr left)
   class_by_sound context tag children sound _ is = ends
@@ -126,7 +140,8 @@ module _ (resolve : Resolver) where
         classes = λ context.
             sound_bind (class_by resolve (inside context tag) tag children (class_readings resolve children) (form_of tag))
             (λ class. (class_readings resolve rest).classes context >>= λ classes. read (class ∷ classes))
-            (sound_weaker _ (class_by_sound context tag children inner (form_of tag) (form_is tag)) (λ class is. is) (λ prefix out. out_first tag children rest prefix out))
+            (sound_weaker _ (class_by_sound context tag children inner (form_of tag) (form_is tag)) (λ class is. is)
+            (λ prefix out. out_first tag children rest prefix out))
             (λ class is. sound_bind ((class_readings resolve rest).classes context) (λ classes. read (class ∷ classes))
             (sound_weaker _ (others.classes context) (λ classes are. are) (λ prefix left. behind left))
             (λ classes are. finds (next_class is are)));
@@ -147,7 +162,8 @@ module _ (resolve : Resolver) where
         class_at resolve context tag children ≡ read class
     class_read context tag _ class (a_name is named) =
         rw (form_found tag kind.Name is) (class_name_read tag.scope (inside context tag).namespace tag.text class named)
-    class_read context tag children class (any_name is but) = rw (form_found tag kind.AnyName is) (but_read (inside context tag) every_name children class but)
+    class_read context tag children class (any_name is but) =
+        rw (form_found tag kind.AnyName is) (but_read (inside context tag) every_name children class but)
     class_read context tag children class (ns_name is but) =
         rw (form_found tag kind.NsName is) (but_read (inside context tag) (names_in (inside context tag).namespace) children class but)
     class_read context tag children class (a_choice is any) = rw (form_found tag kind.Choice is) (either_read (inside context tag) children class any)
@@ -156,7 +172,8 @@ module _ (resolve : Resolver) where
         (class_readings resolve elements).except context all ≡ read class
     but_read context all _ _ all_of_them = refl
     but_read context all _ _ (all_but {except = except} {tag = tag} {children = children} is any) =
-        rw (form_found tag kind.Except is) (ap (λ (x : Reading WrittenClass). x >>= λ e. read (without all e)) (either_read (inside context tag) children except any))
+        rw (form_found tag kind.Except is)
+        (ap (λ (x : Reading WrittenClass). x >>= λ e. read (without all e)) (either_read (inside context tag) children except any))
 
     either_read : (context : Context) (elements : Elements) (class : WrittenClass) → IsEither resolve context elements class →
         either_at (class_readings resolve elements) context ≡ read class
@@ -167,5 +184,6 @@ module _ (resolve : Resolver) where
         (class_readings resolve elements).classes context ≡ read classes
     classes_read context _ _ no_class = refl
     classes_read context _ _ (next_class {tag = tag} {children = children} {rest = rest} {class = class} {classes = classes} is are) =
-        ap (λ (x : Reading WrittenClass). x >>= λ c. (class_readings resolve rest).classes context >>= λ cs. read (c ∷ cs)) (class_read context tag children class is)
+        ap (λ (x : Reading WrittenClass). x >>= λ c. (class_readings resolve rest).classes context >>= λ cs. read (c ∷ cs))
+        (class_read context tag children class is)
         ∙ ap (λ (x : Reading (List WrittenClass)). x >>= λ cs. read (class ∷ cs)) (classes_read context rest classes are)

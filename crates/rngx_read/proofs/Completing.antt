@@ -1,30 +1,27 @@
 -- What stands in the relation of patterns and grammars is read.
-use Rattle.std.proofs.Common.{◌≡◌, ◌≢◌, ℕ, Bool, true, false, cond, List, [], ◌∷◌, ◌++◌, Option, Some, None, refl, sym, ap, subst, ◌∙◌, codes, append_assoc}
-use Rattle.std.specs.List.{list_any}
+use Rattle.std.proofs.Common.{◌≡◌, ℕ, Bool, true, false, cond, List, [], ◌∷◌, ◌++◌, Option, Some, None, refl, sym, ap, ◌∙◌, codes, append_assoc}
 use Rattle.std.specs.Str.{bytes_eq}
-use Rattle.std.proofs.lemmas.Bool.{cases_Bool}
 use Rattle.std.proofs.lemmas.List.{append-nil}
 use Rattle.std.proofs.lemmas.Slice.Eq.{bytes_eq-Decides}
 use Rattle.rnc_parse.specs.declared.surface.TypeName.{TypeName}
 use Rattle.rnc_parse.specs.declared.surface.Param.{Param}
 use Rattle.rnc_parse.specs.declared.surface.FileReference.{FileReference}
-use Rattle.rnc_parse.specs.declared.surface.Defined.{Defined}
 use Rattle.rnc_parse.specs.declared.surface.Combine.{Combine}
-use Rattle.rnc_parse.specs.declared.surface.Combine.TheVariants as combine
-use Rattle.rnc_parse.specs.Parts.{built_in}
-use Rattle.rnc_parse.specs.Written.{WrittenClass, WrittenPattern, element, attribute, value, typed, typed_but, external, grammar, choice, group, interleave, joined}
-use Rattle.rnc_parse.specs.Written.{WrittenItem, define, div, include, WrittenItems, item_then, WrittenReplacement, define_anew, div_anew, WrittenReplacements, replacement_then, WrittenSurface, a_pattern, a_grammar}
+use Rattle.rnc_parse.specs.Written.{WrittenClass, WrittenPattern, element, attribute, value, external, grammar, choice, group, interleave, joined}
+use Rattle.rnc_parse.specs.Written.{WrittenItem, div, include, WrittenItems, item_then, WrittenReplacement, div_anew, WrittenReplacements}
+use Rattle.rnc_parse.specs.Written.{replacement_then, WrittenSurface, a_pattern, a_grammar}
 use Rattle.rngx_read.specs.declared.element.Tag.{Tag}
-use Rattle.rngx_read.specs.declared.kind.Kind.{Kind}
 use Rattle.rngx_read.specs.declared.kind.Kind.TheVariants as kind
 use Rattle.rngx_read.specs.Contexts.{Context, inside, outermost, own_namespace}
 use Rattle.rngx_read.specs.Elements.{Elements, no_elements, element_then}
-use Rattle.rngx_read.specs.Names.{Resolver, trimmed, name_in, simple_name}
+use Rattle.rngx_read.specs.Names.{Resolver, name_in, simple_name}
 use Rattle.rngx_read.specs.Patterns as p
-use Rattle.rngx_read.specs.Patterns.{Joins, Makes, Refers, IsLeaf, HasClass, IsType, AreParams, IsReference, IsCombine, IsPattern, IsValue, IsRow, ArePatterns, IsDefinition, IsItem, AreItems, IsReplacement, AreReplacements, is_number_sign}
-use Rattle.rngx_read.specs.Reading.{Reading, read, no_form, no_prefix, ◌>>=◌}
-use Rattle.rngx_read.specs.ReadingClasses.{childless, class_name_at, class_at}
-use Rattle.rngx_read.specs.ReadingPatterns.{needed, name_at, type_at, literal_type_by, reference_by, reference_at, combine_by, combine_at, row_of, value_of_row, one_of_row, Parts, no_parts, typed_of, Readings, row_at, param_at, part_of, part_by, first_class_at, has_class_by, content_by, element_by, attribute_by, pattern_by, definition_by, item_by, replacement_by, readings, pattern_at, grammar_file_by, lone_surface, surface_at}
+use Rattle.rngx_read.specs.Patterns.{Joins, Makes, Refers, IsLeaf, HasClass, IsType, AreParams, IsReference, IsCombine, IsPattern, IsValue, IsRow}
+use Rattle.rngx_read.specs.Patterns.{ArePatterns, IsDefinition, IsItem, AreItems, IsReplacement, AreReplacements, is_number_sign}
+use Rattle.rngx_read.specs.Reading.{Reading, read, ◌>>=◌}
+use Rattle.rngx_read.specs.ReadingPatterns.{needed, name_at, type_at, literal_type_by, reference_at, combine_by, combine_at, row_of, Parts, no_parts}
+use Rattle.rngx_read.specs.ReadingPatterns.{typed_of, row_at, element_by, attribute_by, pattern_by, item_by, replacement_by, readings, pattern_at}
+use Rattle.rngx_read.specs.ReadingPatterns.{grammar_file_by, surface_at}
 use Rattle.rngx_read.specs.Reads.{IsFile, pattern_file, grammar_file}
 use Rattle.rngx_read.specs.Tags.{value_of, IsTag, form_of}
 use Rattle.rngx_read.proofs.Tags.{form_found}
@@ -66,30 +63,36 @@ in_element : (class : WrittenClass) (q first : WrittenPattern) (more : List Writ
     found ≡ read (first ∷ more) → q ≡ joined group first more →
     (found >>= λ ps. row_of group ps >>= λ r. read (element class r)) ≡ read (element class q)
 in_element class q first more found e joins =
-    ap (λ (x : Reading (List WrittenPattern)). x >>= λ ps. row_of group ps >>= λ r. read (element class r)) e ∙ ap (λ r. read (element class r)) (sym joins)
+    ap (λ (x : Reading (List WrittenPattern)). x >>= λ ps. row_of group ps >>= λ r. read (element class r)) e
+    ∙ ap (λ r. read (element class r)) (sym joins)
 
 module _ (resolve : Resolver) where
   params_read : (context : Context) (elements : Elements) (before params : List Param) → AreParams elements params no_elements →
-      (readings resolve elements).parts context (record { params = before; except = None }) ≡ read (record { params = before ++ params; except = None })
+      (readings resolve elements).parts context (record { params = before; except = None })
+      ≡ read (record { params = before ++ params; except = None })
   unfolding readings
   params_read context _ before _ p.no_param = ap (λ (l : List Param). read (record { params = l; except = None })) (sym (append-nil before))
   params_read context _ before _ (p.next_param {tag = tag} {others = others} {param = param} {params = params} is name_is value_is are) =
       rw (form_found tag kind.Param is, name_is)
-      (ap (λ v. (readings resolve others).parts context (record { params = before ++ (record { name = param.name; value = v }) ∷ []; except = None })) (sym value_is)
+      (ap (λ v. (readings resolve others).parts context (record { params = before ++ (record { name = param.name; value = v }) ∷ []; except = None }))
+      (sym value_is)
       ∙ params_read context others (before ++ param ∷ []) params are
       ∙ ap (λ (l : List Param). read (record { params = l; except = None })) (append_assoc before (param ∷ []) params))
 
   except_read : (context : Context) (elements : Elements) (before params : List Param) (tag : Tag) (within : Elements) (q : WrittenPattern) →
       AreParams elements params (element_then tag within no_elements) → IsTag kind.Except tag →
       row_at choice (readings resolve within) (inside context tag) ≡ read q →
-      (readings resolve elements).parts context (record { params = before; except = None }) ≡ read (record { params = before ++ params; except = Some q })
+      (readings resolve elements).parts context (record { params = before; except = None })
+      ≡ read (record { params = before ++ params; except = Some q })
   unfolding readings
   except_read context _ before _ tag within q p.no_param is row =
       rw (form_found tag kind.Except is, row)
       (ap (λ (l : List Param). read (record { params = l; except = Some q })) (sym (append-nil before)))
-  except_read context _ before _ tag within q (p.next_param {tag = first} {others = others} {param = param} {params = params} is_param name_is value_is are) is row =
+  except_read context _ before _ tag within q
+      (p.next_param {tag = first} {others = others} {param = param} {params = params} is_param name_is value_is are) is row =
       rw (form_found first kind.Param is_param, name_is)
-      (ap (λ v. (readings resolve others).parts context (record { params = before ++ (record { name = param.name; value = v }) ∷ []; except = None })) (sym value_is)
+      (ap (λ v. (readings resolve others).parts context (record { params = before ++ (record { name = param.name; value = v }) ∷ []; except = None }))
+      (sym value_is)
       ∙ except_read context others (before ++ param ∷ []) params tag within q are is row
       ∙ ap (λ (l : List Param). read (record { params = l; except = Some q })) (append_assoc before (param ∷ []) params))
 
@@ -102,19 +105,27 @@ module _ (resolve : Resolver) where
         rw (form_found tag kind.Element is) (element_read (inside context tag) tag children content class q has row)
     pattern_read context tag children _ (p.an_attribute {content = content} {class = class} {p = q} is has one) =
         rw (form_found tag kind.Attribute is) (attribute_read (inside context tag) tag children content class q has one)
-    pattern_read context tag children q (p.a_row p.by_group is row) = rw (form_found tag kind.Group is) (row_read group (inside context tag) children q row)
-    pattern_read context tag children q (p.a_row p.by_interleave is row) = rw (form_found tag kind.Interleave is) (row_read interleave (inside context tag) children q row)
-    pattern_read context tag children q (p.a_row p.by_choice is row) = rw (form_found tag kind.Choice is) (row_read choice (inside context tag) children q row)
+    pattern_read context tag children q (p.a_row p.by_group is row) =
+        rw (form_found tag kind.Group is) (row_read group (inside context tag) children q row)
+    pattern_read context tag children q (p.a_row p.by_interleave is row) =
+        rw (form_found tag kind.Interleave is) (row_read interleave (inside context tag) children q row)
+    pattern_read context tag children q (p.a_row p.by_choice is row) =
+        rw (form_found tag kind.Choice is) (row_read choice (inside context tag) children q row)
     pattern_read context tag children _ (p.made {make = make} {p = q} p.by_optional is row) =
-        rw (form_found tag kind.Optional is) (ap (λ (x : Reading WrittenPattern). x >>= λ r. read (make r)) (row_read group (inside context tag) children q row))
+        rw (form_found tag kind.Optional is)
+        (ap (λ (x : Reading WrittenPattern). x >>= λ r. read (make r)) (row_read group (inside context tag) children q row))
     pattern_read context tag children _ (p.made {make = make} {p = q} p.by_zero_or_more is row) =
-        rw (form_found tag kind.ZeroOrMore is) (ap (λ (x : Reading WrittenPattern). x >>= λ r. read (make r)) (row_read group (inside context tag) children q row))
+        rw (form_found tag kind.ZeroOrMore is)
+        (ap (λ (x : Reading WrittenPattern). x >>= λ r. read (make r)) (row_read group (inside context tag) children q row))
     pattern_read context tag children _ (p.made {make = make} {p = q} p.by_one_or_more is row) =
-        rw (form_found tag kind.OneOrMore is) (ap (λ (x : Reading WrittenPattern). x >>= λ r. read (make r)) (row_read group (inside context tag) children q row))
+        rw (form_found tag kind.OneOrMore is)
+        (ap (λ (x : Reading WrittenPattern). x >>= λ r. read (make r)) (row_read group (inside context tag) children q row))
     pattern_read context tag children _ (p.made {make = make} {p = q} p.by_list is row) =
-        rw (form_found tag kind.List is) (ap (λ (x : Reading WrittenPattern). x >>= λ r. read (make r)) (row_read group (inside context tag) children q row))
+        rw (form_found tag kind.List is)
+        (ap (λ (x : Reading WrittenPattern). x >>= λ r. read (make r)) (row_read group (inside context tag) children q row))
     pattern_read context tag children _ (p.made {make = make} {p = q} p.by_mixed is row) =
-        rw (form_found tag kind.Mixed is) (ap (λ (x : Reading WrittenPattern). x >>= λ r. read (make r)) (row_read group (inside context tag) children q row))
+        rw (form_found tag kind.Mixed is)
+        (ap (λ (x : Reading WrittenPattern). x >>= λ r. read (make r)) (row_read group (inside context tag) children q row))
     pattern_read context tag _ _ (p.a_reference {refer = refer} {name = name} p.by_ref is e) =
         rw (form_found tag kind.Ref is) (ap (λ (x : Reading (List ℕ)). x >>= λ n. read (refer n)) (name_read tag name e))
     pattern_read context tag _ _ (p.a_reference {refer = refer} {name = name} p.by_parent_ref is e) =
@@ -127,18 +138,25 @@ module _ (resolve : Resolver) where
         rw (form_found tag kind.Value is) (literal_read (inside context tag) tag type is_type)
     pattern_read context tag children _ (p.a_type {type = type} {params = params} is is_type are) =
         rw (form_found tag kind.Data is)
-        (ap (λ (x : Reading TypeName). x >>= λ t. (readings resolve children).parts (inside context tag) no_parts >>= λ parts. read (typed_of t parts))
+        (ap (λ (x : Reading TypeName). x >>= λ t. (readings resolve children).parts (inside context tag) no_parts
+        >>= λ parts. read (typed_of t parts))
         (type_read (inside context tag) tag type is_type)
         ∙ ap (λ (x : Reading Parts). x >>= λ parts. read (typed_of type parts)) (params_read (inside context tag) children [] params are))
-    pattern_read context tag children _ (p.a_type_but {except = except} {within = within} {type = type} {params = params} {p = q} is is_type are but row) =
+    pattern_read context tag children _
+        (p.a_type_but {except = except} {within = within} {type = type} {params = params} {p = q} is is_type are but row) =
         rw (form_found tag kind.Data is)
-        (ap (λ (x : Reading TypeName). x >>= λ t. (readings resolve children).parts (inside context tag) no_parts >>= λ parts. read (typed_of t parts))
+        (ap (λ (x : Reading TypeName). x >>= λ t. (readings resolve children).parts (inside context tag) no_parts
+        >>= λ parts. read (typed_of t parts))
         (type_read (inside context tag) tag type is_type)
-        ∙ ap (λ (x : Reading Parts). x >>= λ parts. read (typed_of type parts)) (except_read (inside context tag) children [] params except within q are but (row_read choice (inside (inside context tag) except) within q row)))
+        ∙ ap (λ (x : Reading Parts). x >>= λ parts. read (typed_of type parts))
+        (except_read (inside context tag) children [] params except within q are but
+        (row_read choice (inside (inside context tag) except) within q row)))
     pattern_read context tag _ _ (p.an_external {file = file} is refers) =
-        rw (form_found tag kind.ExternalRef is) (ap (λ (x : Reading FileReference). x >>= λ f. read (external f)) (reference_read (inside context tag) tag file refers))
+        rw (form_found tag kind.ExternalRef is)
+        (ap (λ (x : Reading FileReference). x >>= λ f. read (external f)) (reference_read (inside context tag) tag file refers))
     pattern_read context tag children _ (p.a_grammar_of {items = items} is are) =
-        rw (form_found tag kind.Grammar is) (ap (λ (x : Reading WrittenItems). x >>= λ l. read (grammar l)) (items_read (inside context tag) children items are))
+        rw (form_found tag kind.Grammar is)
+        (ap (λ (x : Reading WrittenItems). x >>= λ l. read (grammar l)) (items_read (inside context tag) children items are))
 
     element_read : (inner : Context) (tag : Tag) (children content : Elements) (class : WrittenClass) (q : WrittenPattern) →
         HasClass resolve inner inner.namespace tag children class content → IsRow resolve group inner content q →
@@ -146,7 +164,8 @@ module _ (resolve : Resolver) where
     element_read inner tag children _ class q (p.by_attribute {written = written} e named) (p.row_of {first = first} {more = more} are joins) =
         rw (e, class_name_read resolve tag.scope inner.namespace written class named)
         (in_element class q first more ((readings resolve children).patterns inner) (patterns_read inner children (first ∷ more) are) joins)
-    element_read inner tag _ _ class q (p.by_child {first = head} {within = within} {rest = rest} e is) (p.row_of {first = first} {more = more} are joins) =
+    element_read inner tag _ _ class q (p.by_child {first = head} {within = within} {rest = rest} e is)
+        (p.row_of {first = first} {more = more} are joins) =
         rw (e, class_read resolve inner head within class is)
         (in_element class q first more ((readings resolve rest).patterns inner) (patterns_read inner rest (first ∷ more) are) joins)
 
@@ -159,7 +178,8 @@ module _ (resolve : Resolver) where
         rw (e, class_read resolve inner head within class is) refl
     attribute_read inner tag _ _ class q (p.by_attribute {written = written} e named) (p.this_value {tag = one} {children = children} is) =
         rw (e, class_name_read resolve tag.scope (own_namespace tag) written class named, pattern_read inner one children q is) refl
-    attribute_read inner tag _ _ class q (p.by_child {first = head} {within = within} e is_class) (p.this_value {tag = one} {children = children} is) =
+    attribute_read inner tag _ _ class q (p.by_child {first = head} {within = within} e is_class)
+        (p.this_value {tag = one} {children = children} is) =
         rw (e, class_read resolve inner head within class is_class, pattern_read inner one children q is) refl
 
     row_read : (join : WrittenPattern → WrittenPattern → WrittenPattern) (context : Context) (elements : Elements) (q : WrittenPattern) →
@@ -171,14 +191,16 @@ module _ (resolve : Resolver) where
         (readings resolve elements).patterns context ≡ read qs
     patterns_read context _ _ p.no_pattern = refl
     patterns_read context _ _ (p.next_pattern {tag = tag} {children = children} {rest = rest} {p = q} {ps = qs} is are) =
-        ap (λ (x : Reading WrittenPattern). x >>= λ r. (readings resolve rest).patterns context >>= λ rs. read (r ∷ rs)) (pattern_read context tag children q is)
+        ap (λ (x : Reading WrittenPattern). x >>= λ r. (readings resolve rest).patterns context >>= λ rs. read (r ∷ rs))
+        (pattern_read context tag children q is)
         ∙ ap (λ (x : Reading (List WrittenPattern)). x >>= λ rs. read (q ∷ rs)) (patterns_read context rest qs are)
 
     items_read : (context : Context) (elements : Elements) (items : WrittenItems) → AreItems resolve context elements items →
         (readings resolve elements).items context ≡ read items
     items_read context _ _ p.no_more_items = refl
     items_read context _ _ (p.next_item {tag = tag} {children = children} {rest = rest} {item = item} {items = items} is are) =
-        ap (λ (x : Reading WrittenItem). x >>= λ i. (readings resolve rest).items context >>= λ l. read (item_then i l)) (item_read context tag children item is)
+        ap (λ (x : Reading WrittenItem). x >>= λ i. (readings resolve rest).items context >>= λ l. read (item_then i l))
+        (item_read context tag children item is)
         ∙ ap (λ (x : Reading WrittenItems). x >>= λ l. read (item_then item l)) (items_read context rest items are)
 
     item_read : (context : Context) (tag : Tag) (children : Elements) (item : WrittenItem) → IsItem resolve context tag children item →
@@ -188,7 +210,8 @@ module _ (resolve : Resolver) where
     item_read context tag children _ (p.a_definition {how = how} {p = q} (p.a_define {name = name} is combines e row)) =
         rw (form_found tag kind.Define is, combine_read tag how combines, e, row_read group (inside context tag) children q row) refl
     item_read context tag children _ (p.a_div {items = items} is are) =
-        rw (form_found tag kind.Div is) (ap (λ (x : Reading WrittenItems). x >>= λ l. read (div l)) (items_read (inside context tag) children items are))
+        rw (form_found tag kind.Div is)
+        (ap (λ (x : Reading WrittenItems). x >>= λ l. read (div l)) (items_read (inside context tag) children items are))
     item_read context tag children _ (p.an_include {file = file} {replacements = rs} is refers are) =
         rw (form_found tag kind.Include is, reference_read (inside context tag) tag file refers)
         (ap (λ (x : Reading WrittenReplacements). x >>= λ l. read (include file l)) (replacements_read (inside context tag) children rs are))
@@ -196,18 +219,22 @@ module _ (resolve : Resolver) where
     replacements_read : (context : Context) (elements : Elements) (rs : WrittenReplacements) → AreReplacements resolve context elements rs →
         (readings resolve elements).replacements context ≡ read rs
     replacements_read context _ _ p.no_more_replacements = refl
-    replacements_read context _ _ (p.next_replacement {tag = tag} {children = children} {rest = rest} {replacement = one} {replacements = rs} is are) =
-        ap (λ (x : Reading WrittenReplacement). x >>= λ i. (readings resolve rest).replacements context >>= λ l. read (replacement_then i l)) (replacement_read context tag children one is)
+    replacements_read context _ _
+        (p.next_replacement {tag = tag} {children = children} {rest = rest} {replacement = one} {replacements = rs} is are) =
+        ap (λ (x : Reading WrittenReplacement). x >>= λ i. (readings resolve rest).replacements context >>= λ l. read (replacement_then i l))
+        (replacement_read context tag children one is)
         ∙ ap (λ (x : Reading WrittenReplacements). x >>= λ l. read (replacement_then one l)) (replacements_read context rest rs are)
 
-    replacement_read : (context : Context) (tag : Tag) (children : Elements) (one : WrittenReplacement) → IsReplacement resolve context tag children one →
+    replacement_read : (context : Context) (tag : Tag) (children : Elements) (one : WrittenReplacement) →
+        IsReplacement resolve context tag children one →
         replacement_by resolve (inside context tag) tag (readings resolve children) (form_of tag) ≡ read one
     replacement_read context tag _ _ (p.a_definition_anew {how = how} {p = q} (p.a_start {one = one} {within = within} is combines one_is)) =
         rw (form_found tag kind.Start is, combine_read tag how combines, pattern_read (inside context tag) one within q one_is) refl
     replacement_read context tag children _ (p.a_definition_anew {how = how} {p = q} (p.a_define {name = name} is combines e row)) =
         rw (form_found tag kind.Define is, combine_read tag how combines, e, row_read group (inside context tag) children q row) refl
     replacement_read context tag children _ (p.a_div_anew {replacements = rs} is are) =
-        rw (form_found tag kind.Div is) (ap (λ (x : Reading WrittenReplacements). x >>= λ l. read (div_anew l)) (replacements_read (inside context tag) children rs are))
+        rw (form_found tag kind.Div is)
+        (ap (λ (x : Reading WrittenReplacements). x >>= λ l. read (div_anew l)) (replacements_read (inside context tag) children rs are))
 
   pub surface_read : (elements : Elements) (s : WrittenSurface) → IsFile resolve elements s → surface_at resolve elements ≡ read s
   unfolding surface_at pattern_at
@@ -215,7 +242,8 @@ module _ (resolve : Resolver) where
       by_name (bytes_eq tag.local (codes "grammar")) refl
     where
       by_name : (b : Bool) → bytes_eq tag.local (codes "grammar") ≡ b →
-          cond b (grammar_file_by resolve tag children (form_of tag)) (pattern_at resolve outermost tag children >>= λ r. read (a_pattern r)) ≡ read (a_pattern q)
+          cond b (grammar_file_by resolve tag children (form_of tag)) (pattern_at resolve outermost tag children >>= λ r. read (a_pattern r))
+          ≡ read (a_pattern q)
       by_name true e = absurd (other ((bytes_eq-Decides tag.local (codes "grammar")).0 e))
       by_name false e = ap (λ (x : Reading WrittenPattern). x >>= λ r. read (a_pattern r)) (pattern_read outermost tag children q is)
   surface_read _ _ (grammar_file {tag = tag} {children = children} {items = items} is are) =

@@ -1,6 +1,5 @@
 mod Sounding
 mod Tags
-mod Attributes
 mod Classes
 mod Patterns
 mod Completing

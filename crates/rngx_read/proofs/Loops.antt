@@ -117,11 +117,13 @@ replacements_in_front [] = refl
 replacements_in_front (r ∷ rs) = ap (replacement_then (replacement_of r)) (replacements_in_front rs)
 
 module _ (resolve : Resolver) (context : Context) where
-  pub by_classes : IsByElements ◌∷◌ (λ e. class_at resolve context (tag_of e) (children_of e)) (λ es. (class_readings resolve (listed es)).classes context) []
+  pub by_classes : IsByElements ◌∷◌ (λ e. class_at resolve context (tag_of e) (children_of e))
+      (λ es. (class_readings resolve (listed es)).classes context) []
   unfolding class_at class_readings
   by_classes = record { ended = refl; went = λ first others. refl }
 
-  pub by_patterns : IsByElements ◌∷◌ (λ e. pattern_at resolve context (tag_of e) (children_of e)) (λ es. (readings resolve (listed es)).patterns context) []
+  pub by_patterns : IsByElements ◌∷◌ (λ e. pattern_at resolve context (tag_of e) (children_of e))
+      (λ es. (readings resolve (listed es)).patterns context) []
   unfolding pattern_at readings
   by_patterns = record { ended = refl; went = λ first others. refl }
 
@@ -153,15 +155,18 @@ module _ (resolve : Resolver) (context : Context) where
       ∙ ap (λ e. (readings resolve (listed (e ∷ drop (i + 1) elements))).parts context before) (sym is)
 
   pub parts_went_on : (elements : List Element) (i : ℕ) (element : Element) (before next : Parts) (total : Reading Parts) → i < length elements →
-      element ≡ get_or elements i element → part element before ≡ read next → (readings resolve (listed (drop i elements))).parts context before ≡ total →
+      element ≡ get_or elements i element → part element before ≡ read next → (readings resolve (listed (drop i elements))).parts context before
+      ≡ total →
       (readings resolve (listed (drop (i + 1) elements))).parts context next ≡ total
   parts_went_on elements i element before next total within is e kept =
       sym (ap (λ found. found >>= λ next. (readings resolve (listed (drop (i + 1) elements))).parts context next) e)
       ∙ sym (parts_here elements i element before within is)
       ∙ kept
 
-  pub parts_stopped : (elements : List Element) (i : ℕ) (element : Element) (before : Parts) (total : Reading Parts) (why : Stop) → i < length elements →
-      element ≡ get_or elements i element → Halts why (part element before) → (readings resolve (listed (drop i elements))).parts context before ≡ total →
+  pub parts_stopped : (elements : List Element) (i : ℕ) (element : Element) (before : Parts) (total : Reading Parts) (why : Stop) →
+      i < length elements →
+      element ≡ get_or elements i element → Halts why (part element before) → (readings resolve (listed (drop i elements))).parts context before
+      ≡ total →
       Halts why total
   parts_stopped elements i element before total why within is halts kept =
       halts_as why _ _ (sym (parts_here elements i element before within is) ∙ kept)

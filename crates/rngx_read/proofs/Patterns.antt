@@ -1,5 +1,5 @@
 -- What reading finds of patterns and grammars is in the relation.
-use Rattle.std.proofs.Common.{◌≡◌, ◌≢◌, ℕ, Bool, true, false, cond, List, [], ◌∷◌, ◌++◌, Option, Some, None, refl, sym, ap, subst, ◌∙◌, ◌⊎◌, inl, inr, codes}
+use Rattle.std.proofs.Common.{◌≡◌, ℕ, List, [], ◌∷◌, ◌++◌, Option, Some, None, refl, sym, ap, subst, ◌∙◌, inl, inr, codes}
 use Rattle.std.specs.List.{list_any}
 use Rattle.std.specs.Str.{bytes_eq}
 use Rattle.std.proofs.lemmas.List.{append-nil}
@@ -8,29 +8,30 @@ use Rattle.std.proofs.Common.{append_assoc}
 use Rattle.rnc_parse.specs.declared.surface.Namespace.{Namespace}
 use Rattle.rnc_parse.specs.declared.surface.TypeName.{TypeName}
 use Rattle.rnc_parse.specs.declared.surface.Param.{Param}
-use Rattle.rnc_parse.specs.declared.surface.FileReference.{FileReference}
-use Rattle.rnc_parse.specs.declared.surface.Defined.{Defined}
 use Rattle.rnc_parse.specs.declared.surface.Defined.TheVariants as defined
 use Rattle.rnc_parse.specs.declared.surface.Combine.{Combine}
-use Rattle.rnc_parse.specs.Parts.{built_in}
-use Rattle.rnc_parse.specs.Written.{WrittenClass, WrittenPattern, element, attribute, value, typed, typed_but, external, grammar, choice, group, interleave, optional, zero_or_more, one_or_more, list, mixed, ref, parent_ref, empty, any_text, not_allowed, joined}
-use Rattle.rnc_parse.specs.Written.{WrittenItem, define, div, include, WrittenItems, item_then, WrittenReplacement, define_anew, div_anew, WrittenReplacements, replacement_then, WrittenSurface, a_pattern, a_grammar}
+use Rattle.rnc_parse.specs.Written.{WrittenClass, WrittenPattern, element, attribute, value, external, grammar, choice, group, interleave, optional}
+use Rattle.rnc_parse.specs.Written.{zero_or_more, one_or_more, list, mixed, ref, parent_ref, empty, any_text, not_allowed}
+use Rattle.rnc_parse.specs.Written.{define, define_anew}
 use Rattle.rngx_read.specs.declared.element.Tag.{Tag}
 use Rattle.rngx_read.specs.declared.kind.Kind.{Kind}
 use Rattle.rngx_read.specs.declared.kind.Kind.TheVariants as kind
 use Rattle.rngx_read.specs.Classes.{IsClass}
 use Rattle.rngx_read.specs.Contexts.{Context, inside, outermost, own_namespace}
 use Rattle.rngx_read.specs.Elements.{Elements, no_elements, element_then}
-use Rattle.rngx_read.specs.Kinds.{kind_text}
-use Rattle.rngx_read.specs.Names.{Resolver, trimmed, simple_name, IsClassName}
+use Rattle.rngx_read.specs.Names.{Resolver, trimmed, simple_name}
 use Rattle.rngx_read.specs.Patterns as p
-use Rattle.rngx_read.specs.Patterns.{Joins, Makes, Refers, IsLeaf, HasClass, IsType, AreParams, IsReference, IsCombine, IsPattern, IsValue, IsRow, ArePatterns, IsDefinition, IsItem, AreItems, IsReplacement, AreReplacements, is_number_sign}
-use Rattle.rngx_read.specs.Reading.{Reading, read, no_form, no_prefix, ◌>>=◌}
+use Rattle.rngx_read.specs.Patterns.{Joins, Makes, Refers, IsLeaf, HasClass, IsType, AreParams, IsReference, IsCombine, IsPattern, IsValue, IsRow}
+use Rattle.rngx_read.specs.Patterns.{ArePatterns, IsDefinition, IsItem, AreItems, IsReplacement, AreReplacements, is_number_sign}
+use Rattle.rngx_read.specs.Reading.{Reading, read, no_form, ◌>>=◌}
 use Rattle.rngx_read.specs.ReadingClasses.{childless, class_name_at, class_at}
-use Rattle.rngx_read.specs.ReadingPatterns.{needed, name_at, type_at, literal_type_by, reference_by, reference_at, combine_by, combine_at, row_of, value_of_row, one_of_row, Parts, no_parts, typed_by, typed_of, Readings, row_at, param_at, part_of, part_by, first_class_at, has_class_by, content_by, element_by, attribute_by, pattern_by, definition_by, item_by, replacement_by, readings, pattern_at, grammar_file_by, lone_surface, surface_at}
-use Rattle.rngx_read.specs.Reads.{Writes, at_element, at_attribute, NeedsPrefix, LeavesOut, here, within, behind, IsFile, pattern_file, grammar_file}
+use Rattle.rngx_read.specs.ReadingPatterns.{needed, name_at, type_at, literal_type_by, reference_by, reference_at, combine_by, combine_at, row_of}
+use Rattle.rngx_read.specs.ReadingPatterns.{value_of_row, one_of_row, Parts, no_parts, typed_of, row_at, param_at, part_of, part_by, has_class_by}
+use Rattle.rngx_read.specs.ReadingPatterns.{content_by, element_by, attribute_by, pattern_by, definition_by, item_by, replacement_by, readings}
+use Rattle.rngx_read.specs.ReadingPatterns.{pattern_at, grammar_file_by, surface_at}
+use Rattle.rngx_read.specs.Reads.{Writes, at_element, at_attribute, LeavesOut, within, behind, IsFile, pattern_file, grammar_file}
 use Rattle.rngx_read.specs.Tags.{value_of, IsTag, form_of}
-use Rattle.rngx_read.proofs.Sounding.{Sounds, finds, ends, stops, sound_bind, sound_weaker, sound_cond}
+use Rattle.rngx_read.proofs.Sounding.{Sounds, finds, ends, sound_bind, sound_weaker, sound_cond}
 use Rattle.rngx_read.proofs.Tags.{form_is}
 use Rattle.rngx_read.proofs.Classes.{OutAt, out_first, class_name_sound, class_sound}
 
@@ -52,10 +53,12 @@ type_is context tag =
 reference_is : {Q : List ℕ → Type 0} (context : Context) (tag : Tag) → Sounds (IsReference context tag) Q (reference_at context tag)
 reference_is {Q} context tag = by_href (value_of (codes "href") tag.attributes) refl
   where
-    by_href : (found : Option (List ℕ)) → value_of (codes "href") tag.attributes ≡ found → Sounds (IsReference context tag) Q (reference_by context found)
+    by_href : (found : Option (List ℕ)) → value_of (codes "href") tag.attributes ≡ found →
+        Sounds (IsReference context tag) Q (reference_by context found)
     by_href None e = ends
     by_href (Some uri) e =
-        sound_cond (list_any is_number_sign uri) no_form _ (λ _. ends) (λ none. finds (record { uri_is = e; no_fragment = none; namespace_is = refl }))
+        sound_cond (list_any is_number_sign uri) no_form _ (λ _. ends)
+        (λ none. finds (record { uri_is = e; no_fragment = none; namespace_is = refl }))
 
 combine_is : {Q : List ℕ → Type 0} (tag : Tag) → Sounds (IsCombine tag) Q (combine_at tag)
 combine_is {Q} tag = by_word (value_of (codes "combine") tag.attributes) refl
@@ -98,15 +101,17 @@ module _ (resolve : Resolver) where
     pub patterns : (context : Context) → Sounds (ArePatterns resolve context elements) (Out elements) ((readings resolve elements).patterns context)
     pub behind : (context : Context) → Sounds (Behind context elements) (Out elements) ((readings resolve elements).behind context)
     pub items : (context : Context) → Sounds (AreItems resolve context elements) (Out elements) ((readings resolve elements).items context)
-    pub replacements : (context : Context) → Sounds (AreReplacements resolve context elements) (Out elements) ((readings resolve elements).replacements context)
-    pub parts : (context : Context) (before : Parts) → Sounds (PartsBehind context elements before) (Out elements) ((readings resolve elements).parts context before)
+    pub replacements : (context : Context) →
+        Sounds (AreReplacements resolve context elements) (Out elements) ((readings resolve elements).replacements context)
+    pub parts : (context : Context) (before : Parts) →
+        Sounds (PartsBehind context elements before) (Out elements) ((readings resolve elements).parts context before)
 
   -- ---- rows
 
   row_is : (join : WrittenPattern → WrittenPattern → WrittenPattern) (context : Context) (elements : Elements) (ps : List WrittenPattern) →
       ArePatterns resolve context elements ps → Sounds (IsRow resolve join context elements) (Out elements) (row_of join ps)
-  row_is join context elements [] are = ends
-  row_is join context elements (first ∷ more) are = finds (p.row_of are refl)
+  row_is join context _ [] are = ends
+  row_is join context _ (first ∷ more) are = finds (p.row_of are refl)
 
   row_sound : (join : WrittenPattern → WrittenPattern → WrittenPattern) (context : Context) (elements : Elements) → RowSound elements →
       Sounds (IsRow resolve join context elements) (Out elements) (row_at join (readings resolve elements) context)
@@ -122,12 +127,14 @@ module _ (resolve : Resolver) where
   -- ---- elements and attributes
 
   has_class_sound : (context : Context) (unprefixed : Namespace) (tag : Tag) (children : Elements) (name : Option (List ℕ)) →
-      value_of (codes "name") tag.attributes ≡ name → ((written : List ℕ) → value_of (codes "name") tag.attributes ≡ Some written → Writes tag written) →
+      value_of (codes "name") tag.attributes ≡ name →
+      ((written : List ℕ) → value_of (codes "name") tag.attributes ≡ Some written → Writes tag written) →
       {A : Type 0} (P : A → Type 0) (more : WrittenClass → List WrittenPattern → Reading A) → RowSound children →
       ((class : WrittenClass) (content : Elements) (ps : List WrittenPattern) → HasClass resolve context unprefixed tag children class content →
       ArePatterns resolve context content ps → Sounds P (OutAt resolve tag children) (more class ps)) →
       Sounds P (OutAt resolve tag children)
-      (has_class_by resolve context unprefixed tag children name >>= λ class. content_by resolve context (readings resolve children) name >>= λ ps. more class ps)
+      (has_class_by resolve context unprefixed tag children name >>= λ class. content_by resolve context (readings resolve children) name
+      >>= λ ps. more class ps)
   has_class_sound context unprefixed tag children (Some written) e writes P more sound h =
       sound_bind (class_name_at resolve unprefixed tag.scope written) _
       (sound_weaker _ (class_name_sound resolve tag unprefixed written (writes written e)) (λ class is. is) (λ prefix needs. inl needs))
@@ -142,7 +149,8 @@ module _ (resolve : Resolver) where
       (sound_weaker _ (sound.behind context) (λ ps are. are) (λ prefix left. inr left))
       (λ ps are. behind_it class is ps are))
     where
-      behind_it : (class : WrittenClass) → IsClass resolve context first inner class → (ps : List WrittenPattern) → Behind context (element_then first inner rest) ps →
+      behind_it : (class : WrittenClass) → IsClass resolve context first inner class → (ps : List WrittenPattern) →
+          Behind context (element_then first inner rest) ps →
           Sounds P (OutAt resolve tag (element_then first inner rest)) (more class ps)
       behind_it class is ps (behind_first are) = h class rest ps (p.by_child e is) are
 
@@ -151,7 +159,8 @@ module _ (resolve : Resolver) where
       (element_by resolve (inside context tag) tag children (readings resolve children) (value_of (codes "name") tag.attributes))
   element_sound context tag children sound is =
       has_class_sound (inside context tag) (inside context tag).namespace tag children (value_of (codes "name") tag.attributes) refl
-      (λ written e. at_element is.called e) (IsPattern resolve context tag children) (λ class ps. row_of group ps >>= λ q. read (element class q)) sound
+      (λ written e. at_element is.called e) (IsPattern resolve context tag children) (λ class ps. row_of group ps >>= λ q. read (element class q))
+      sound
       (λ class content ps has are. sound_bind (row_of group ps) (λ q. read (element class q))
       (sound_weaker {S = OutAt resolve tag children} _ (row_there content ps are) (λ q row. row) (λ prefix never. absurd never))
       (λ q row. finds (p.an_element is has row)))
@@ -166,18 +175,22 @@ module _ (resolve : Resolver) where
       (attribute_by resolve (inside context tag) tag children (readings resolve children) (value_of (codes "name") tag.attributes))
   attribute_sound context tag children sound is =
       has_class_sound (inside context tag) (own_namespace tag) tag children (value_of (codes "name") tag.attributes) refl
-      (λ written e. at_attribute is.called e) (IsPattern resolve context tag children) (λ class ps. value_of_row ps >>= λ q. read (attribute class q)) sound
+      (λ written e. at_attribute is.called e) (IsPattern resolve context tag children) (λ class ps. value_of_row ps >>= λ q. read (attribute class q))
+      sound
       (λ class content ps has are. sound_bind (value_of_row ps) (λ q. read (attribute class q))
       (value_is (inside context tag) content ps are) (λ q value. finds (p.an_attribute is has value)))
 
   -- ---- the other forms
 
-  rows_of : (context : Context) (tag : Tag) (children : Elements) (this : Kind) (join : WrittenPattern → WrittenPattern → WrittenPattern) → RowSound children → Joins this join →
-      IsTag this tag → Sounds (IsPattern resolve context tag children) (OutAt resolve tag children) (row_at join (readings resolve children) (inside context tag))
+  rows_of : (context : Context) (tag : Tag) (children : Elements) (this : Kind) (join : WrittenPattern → WrittenPattern → WrittenPattern) →
+      RowSound children → Joins this join →
+      IsTag this tag → Sounds (IsPattern resolve context tag children) (OutAt resolve tag children)
+      (row_at join (readings resolve children) (inside context tag))
   rows_of context tag children this join sound joins is =
       sound_weaker _ (row_sound join (inside context tag) children sound) (λ q row. p.a_row joins is row) (λ prefix left. inr left)
 
-  made_of : (context : Context) (tag : Tag) (children : Elements) (this : Kind) (make : WrittenPattern → WrittenPattern) → RowSound children → Makes this make →
+  made_of : (context : Context) (tag : Tag) (children : Elements) (this : Kind) (make : WrittenPattern → WrittenPattern) → RowSound children →
+      Makes this make →
       IsTag this tag → Sounds (IsPattern resolve context tag children) (OutAt resolve tag children)
       (row_at group (readings resolve children) (inside context tag) >>= λ q. read (make q))
   made_of context tag children this make sound makes is =
@@ -185,8 +198,10 @@ module _ (resolve : Resolver) where
       (sound_weaker _ (row_sound group (inside context tag) children sound) (λ q row. row) (λ prefix left. inr left))
       (λ q row. finds (p.made makes is row))
 
-  refers_by : (context : Context) (tag : Tag) (children : Elements) (this : Kind) (refer : List ℕ → WrittenPattern) → Refers this refer → IsTag this tag →
-      Sounds (IsPattern resolve context tag children) (OutAt resolve tag children) (childless children >>= λ _. name_at tag >>= λ name. read (refer name))
+  refers_by : (context : Context) (tag : Tag) (children : Elements) (this : Kind) (refer : List ℕ → WrittenPattern) → Refers this refer →
+      IsTag this tag →
+      Sounds (IsPattern resolve context tag children) (OutAt resolve tag children)
+      (childless children >>= λ _. name_at tag >>= λ name. read (refer name))
   refers_by context tag no_elements this refer refers is =
       sound_bind (name_at tag) (λ name. read (refer name)) (needed_is (simple_name (codes "name") tag)) (λ name e. finds (p.a_reference refers is e))
   refers_by context tag (element_then first inner rest) this refer refers is = ends
@@ -198,7 +213,8 @@ module _ (resolve : Resolver) where
 
   literal_of : (context : Context) (tag : Tag) (children : Elements) → IsTag kind.Value tag →
       Sounds (IsPattern resolve context tag children) (OutAt resolve tag children)
-      (childless children >>= λ _. literal_type_by (inside context tag) tag (value_of (codes "type") tag.attributes) >>= λ type. read (value type tag.text))
+      (childless children >>= λ _. literal_type_by (inside context tag) tag (value_of (codes "type") tag.attributes)
+      >>= λ type. read (value type tag.text))
   literal_of context tag (element_then first inner rest) is = ends
   literal_of context tag no_elements is = by_type (value_of (codes "type") tag.attributes) refl
     where
@@ -206,7 +222,8 @@ module _ (resolve : Resolver) where
           Sounds (IsPattern resolve context tag no_elements) (OutAt resolve tag no_elements)
           (literal_type_by (inside context tag) tag found >>= λ type. read (value type tag.text))
       by_type None e = finds (p.an_untyped_value is e)
-      by_type (Some written) e = sound_bind (type_at (inside context tag) tag) _ (type_is (inside context tag) tag) (λ type is_type. finds (p.a_value is is_type))
+      by_type (Some written) e =
+          sound_bind (type_at (inside context tag) tag) _ (type_is (inside context tag) tag) (λ type is_type. finds (p.a_value is is_type))
 
   external_of : (context : Context) (tag : Tag) (children : Elements) → IsTag kind.ExternalRef tag →
       Sounds (IsPattern resolve context tag children) (OutAt resolve tag children)
@@ -217,7 +234,8 @@ module _ (resolve : Resolver) where
 
   data_of : (context : Context) (tag : Tag) (children : Elements) → RowSound children → IsTag kind.Data tag →
       Sounds (IsPattern resolve context tag children) (OutAt resolve tag children)
-      (type_at (inside context tag) tag >>= λ type. (readings resolve children).parts (inside context tag) no_parts >>= λ parts. read (typed_of type parts))
+      (type_at (inside context tag) tag >>= λ type. (readings resolve children).parts (inside context tag) no_parts
+      >>= λ parts. read (typed_of type parts))
   data_of context tag children sound is =
       sound_bind (type_at (inside context tag) tag) _ (type_is (inside context tag) tag)
       (λ type is_type. sound_bind ((readings resolve children).parts (inside context tag) no_parts) (λ parts. read (typed_of type parts))
@@ -228,10 +246,12 @@ module _ (resolve : Resolver) where
           PartsBehind (inside context tag) elements before parts →
           Sounds (IsPattern resolve context tag elements) (OutAt resolve tag children) (read (typed_of type parts))
       of_parts type is_type elements _ _ none (params_alone {more = more} are e) =
-          finds (p.a_type is is_type (subst (λ (l : List Param). AreParams elements l no_elements) (sym (e ∙ ap (λ (l : Parts). l.params ++ more) none)) are))
+          finds (p.a_type is is_type
+          (subst (λ (l : List Param). AreParams elements l no_elements) (sym (e ∙ ap (λ (l : Parts). l.params ++ more) none)) are))
       of_parts type is_type elements _ _ none (params_but {inner = inner} {tag = except} {more = more} are but row e) =
           finds (p.a_type_but is is_type
-          (subst (λ (l : List Param). AreParams elements l (element_then except inner no_elements)) (sym (e ∙ ap (λ (l : Parts). l.params ++ more) none)) are) but row)
+          (subst (λ (l : List Param). AreParams elements l (element_then except inner no_elements))
+          (sym (e ∙ ap (λ (l : Parts). l.params ++ more) none)) are) but row)
       of_parts type is_type _ _ _ none (over {p = q} e) = let nothing = ap (λ (l : Parts). l.except) none in absurd cc
 
   grammar_of : (context : Context) (tag : Tag) (children : Elements) → RowSound children → IsTag kind.Grammar tag →
@@ -243,22 +263,32 @@ module _ (resolve : Resolver) where
 
   pattern_by_sound : (context : Context) (tag : Tag) (children : Elements) → RowSound children → (form : Option Kind) →
       ((k : Kind) → form ≡ Some k → IsTag k tag) →
-      Sounds (IsPattern resolve context tag children) (OutAt resolve tag children) (pattern_by resolve (inside context tag) tag children (readings resolve children) form)
+      Sounds (IsPattern resolve context tag children) (OutAt resolve tag children)
+      (pattern_by resolve (inside context tag) tag children (readings resolve children) form)
   pattern_by_sound context tag children sound (Some kind.Element) is = element_sound context tag children sound (is kind.Element refl)
   pattern_by_sound context tag children sound (Some kind.Attribute) is = attribute_sound context tag children sound (is kind.Attribute refl)
-  pattern_by_sound context tag children sound (Some kind.Group) is = rows_of context tag children kind.Group group sound p.by_group (is kind.Group refl)
-  pattern_by_sound context tag children sound (Some kind.Interleave) is = rows_of context tag children kind.Interleave interleave sound p.by_interleave (is kind.Interleave refl)
-  pattern_by_sound context tag children sound (Some kind.Choice) is = rows_of context tag children kind.Choice choice sound p.by_choice (is kind.Choice refl)
-  pattern_by_sound context tag children sound (Some kind.Optional) is = made_of context tag children kind.Optional optional sound p.by_optional (is kind.Optional refl)
-  pattern_by_sound context tag children sound (Some kind.ZeroOrMore) is = made_of context tag children kind.ZeroOrMore zero_or_more sound p.by_zero_or_more (is kind.ZeroOrMore refl)
-  pattern_by_sound context tag children sound (Some kind.OneOrMore) is = made_of context tag children kind.OneOrMore one_or_more sound p.by_one_or_more (is kind.OneOrMore refl)
+  pattern_by_sound context tag children sound (Some kind.Group) is =
+      rows_of context tag children kind.Group group sound p.by_group (is kind.Group refl)
+  pattern_by_sound context tag children sound (Some kind.Interleave) is =
+      rows_of context tag children kind.Interleave interleave sound p.by_interleave (is kind.Interleave refl)
+  pattern_by_sound context tag children sound (Some kind.Choice) is =
+      rows_of context tag children kind.Choice choice sound p.by_choice (is kind.Choice refl)
+  pattern_by_sound context tag children sound (Some kind.Optional) is =
+      made_of context tag children kind.Optional optional sound p.by_optional (is kind.Optional refl)
+  pattern_by_sound context tag children sound (Some kind.ZeroOrMore) is =
+      made_of context tag children kind.ZeroOrMore zero_or_more sound p.by_zero_or_more (is kind.ZeroOrMore refl)
+  pattern_by_sound context tag children sound (Some kind.OneOrMore) is =
+      made_of context tag children kind.OneOrMore one_or_more sound p.by_one_or_more (is kind.OneOrMore refl)
   pattern_by_sound context tag children sound (Some kind.List) is = made_of context tag children kind.List list sound p.by_list (is kind.List refl)
-  pattern_by_sound context tag children sound (Some kind.Mixed) is = made_of context tag children kind.Mixed mixed sound p.by_mixed (is kind.Mixed refl)
+  pattern_by_sound context tag children sound (Some kind.Mixed) is =
+      made_of context tag children kind.Mixed mixed sound p.by_mixed (is kind.Mixed refl)
   pattern_by_sound context tag children sound (Some kind.Ref) is = refers_by context tag children kind.Ref ref p.by_ref (is kind.Ref refl)
-  pattern_by_sound context tag children sound (Some kind.ParentRef) is = refers_by context tag children kind.ParentRef parent_ref p.by_parent_ref (is kind.ParentRef refl)
+  pattern_by_sound context tag children sound (Some kind.ParentRef) is =
+      refers_by context tag children kind.ParentRef parent_ref p.by_parent_ref (is kind.ParentRef refl)
   pattern_by_sound context tag children sound (Some kind.Empty) is = leaf_of context tag children kind.Empty empty p.is_empty (is kind.Empty refl)
   pattern_by_sound context tag children sound (Some kind.Text) is = leaf_of context tag children kind.Text any_text p.is_text (is kind.Text refl)
-  pattern_by_sound context tag children sound (Some kind.NotAllowed) is = leaf_of context tag children kind.NotAllowed not_allowed p.is_not_allowed (is kind.NotAllowed refl)
+  pattern_by_sound context tag children sound (Some kind.NotAllowed) is =
+      leaf_of context tag children kind.NotAllowed not_allowed p.is_not_allowed (is kind.NotAllowed refl)
   pattern_by_sound context tag children sound (Some kind.Value) is = literal_of context tag children (is kind.Value refl)
   pattern_by_sound context tag children sound (Some kind.Data) is = data_of context tag children sound (is kind.Data refl)
   pattern_by_sound context tag children sound (Some kind.ExternalRef) is = external_of context tag children (is kind.ExternalRef refl)
@@ -269,18 +299,21 @@ module _ (resolve : Resolver) where
 
   definition_by_sound : (context : Context) (tag : Tag) (children : Elements) → RowSound children → (form : Option Kind) →
       ((k : Kind) → form ≡ Some k → IsTag k tag) →
-      Sounds (λ d. IsDefinition resolve context tag children d.0 d.1 d.2) (Out children) (definition_by resolve (inside context tag) tag (readings resolve children) form)
+      Sounds (λ d. IsDefinition resolve context tag children d.0 d.1 d.2) (Out children)
+      (definition_by resolve (inside context tag) tag (readings resolve children) form)
   definition_by_sound context tag children sound (Some kind.Start) is =
       sound_bind (combine_at tag) _ (combine_is tag)
       (λ how combines. sound_bind ((readings resolve children).patterns (inside context tag) >>= one_of_row) _
-      (sound_bind ((readings resolve children).patterns (inside context tag)) one_of_row (sound.patterns (inside context tag)) (λ ps are. one_is ps how combines are))
+      (sound_bind ((readings resolve children).patterns (inside context tag)) one_of_row (sound.patterns (inside context tag))
+      (λ ps are. one_is ps how combines are))
       (λ q there. finds there))
     where
       one_is : (ps : List WrittenPattern) (how : Combine) → IsCombine tag how → ArePatterns resolve (inside context tag) children ps →
           Sounds (λ q. IsDefinition resolve context tag children defined.Start how q) (Out children) (one_of_row ps)
       one_is ps how combines are = start_is children ps how combines are
         where
-          start_is : (elements : Elements) (ps : List WrittenPattern) (how : Combine) → IsCombine tag how → ArePatterns resolve (inside context tag) elements ps →
+          start_is : (elements : Elements) (ps : List WrittenPattern) (how : Combine) → IsCombine tag how →
+              ArePatterns resolve (inside context tag) elements ps →
               Sounds (λ q. IsDefinition resolve context tag elements defined.Start how q) (Out children) (one_of_row ps)
           start_is _ _ how combines p.no_pattern = ends
           start_is _ _ how combines (p.next_pattern one p.no_pattern) = finds (p.a_start (is kind.Start refl) combines one)
@@ -297,14 +330,16 @@ module _ (resolve : Resolver) where
       Sounds (IsItem resolve context tag children) (Out children)
       (definition_by resolve (inside context tag) tag (readings resolve children) form >>= λ d. read (define d.0 d.1 d.2))
   defines context tag children sound form is =
-      sound_bind (definition_by resolve (inside context tag) tag (readings resolve children) form) _ (definition_by_sound context tag children sound form is)
+      sound_bind (definition_by resolve (inside context tag) tag (readings resolve children) form) _
+      (definition_by_sound context tag children sound form is)
       (λ d is_one. finds (p.a_definition is_one))
 
   item_by_sound : (context : Context) (tag : Tag) (children : Elements) → RowSound children → (form : Option Kind) →
       ((k : Kind) → form ≡ Some k → IsTag k tag) →
       Sounds (IsItem resolve context tag children) (Out children) (item_by resolve (inside context tag) tag (readings resolve children) form)
   item_by_sound context tag children sound (Some kind.Div) is =
-      sound_bind ((readings resolve children).items (inside context tag)) _ (sound.items (inside context tag)) (λ items are. finds (p.a_div (is kind.Div refl) are))
+      sound_bind ((readings resolve children).items (inside context tag)) _ (sound.items (inside context tag))
+      (λ items are. finds (p.a_div (is kind.Div refl) are))
   item_by_sound context tag children sound (Some kind.Include) is =
       sound_bind (reference_at (inside context tag) tag) _ (reference_is (inside context tag) tag)
       (λ file refers. sound_bind ((readings resolve children).replacements (inside context tag)) _ (sound.replacements (inside context tag))
@@ -316,14 +351,17 @@ module _ (resolve : Resolver) where
       Sounds (IsReplacement resolve context tag children) (Out children)
       (definition_by resolve (inside context tag) tag (readings resolve children) form >>= λ d. read (define_anew d.0 d.1 d.2))
   defines_anew context tag children sound form is =
-      sound_bind (definition_by resolve (inside context tag) tag (readings resolve children) form) _ (definition_by_sound context tag children sound form is)
+      sound_bind (definition_by resolve (inside context tag) tag (readings resolve children) form) _
+      (definition_by_sound context tag children sound form is)
       (λ d is_one. finds (p.a_definition_anew is_one))
 
   replacement_by_sound : (context : Context) (tag : Tag) (children : Elements) → RowSound children → (form : Option Kind) →
       ((k : Kind) → form ≡ Some k → IsTag k tag) →
-      Sounds (IsReplacement resolve context tag children) (Out children) (replacement_by resolve (inside context tag) tag (readings resolve children) form)
+      Sounds (IsReplacement resolve context tag children) (Out children)
+      (replacement_by resolve (inside context tag) tag (readings resolve children) form)
   replacement_by_sound context tag children sound (Some kind.Div) is =
-      sound_bind ((readings resolve children).replacements (inside context tag)) _ (sound.replacements (inside context tag)) (λ rs are. finds (p.a_div_anew (is kind.Div refl) are))
+      sound_bind ((readings resolve children).replacements (inside context tag)) _ (sound.replacements (inside context tag))
+      (λ rs are. finds (p.a_div_anew (is kind.Div refl) are))
   replacement_by_sound context tag children sound form is = defines_anew context tag children sound form is
 
   -- ---- parts of a `data`
@@ -338,13 +376,15 @@ module _ (resolve : Resolver) where
       params_but (p.next_param is name_is value_is are) but row (e ∙ append_assoc params (param ∷ []) more)
   further context tag rest param params _ is name_is value_is (over e) = absurd cc
 
-  excepted : (context : Context) (tag : Tag) (children rest : Elements) (params : List Param) (q : WrittenPattern) (after : Parts) → IsTag kind.Except tag →
+  excepted : (context : Context) (tag : Tag) (children rest : Elements) (params : List Param) (q : WrittenPattern) (after : Parts) →
+      IsTag kind.Except tag →
       IsRow resolve choice (inside context tag) children q → PartsBehind context rest (record { params = params; except = Some q }) after →
       PartsBehind context (element_then tag children rest) (record { params = params; except = None }) after
   excepted context tag children _ params q _ is row (over e) = params_but p.no_param is row (sym (append-nil params))
 
   param_sound : {Q : List ℕ → Type 0} (tag : Tag) (children : Elements) →
-      Sounds (λ param. (children ≡ no_elements) × (simple_name (codes "name") tag ≡ Some param.name) × (param.value ≡ tag.text)) Q (param_at tag children)
+      Sounds (λ param. (children ≡ no_elements) × (simple_name (codes "name") tag ≡ Some param.name) × (param.value ≡ tag.text)) Q
+      (param_at tag children)
   param_sound tag no_elements =
       sound_bind (name_at tag) _ (needed_is (simple_name (codes "name") tag)) (λ name e. finds (refl, e, refl))
   param_sound tag (element_then first inner rest) = ends
@@ -354,19 +394,23 @@ module _ (resolve : Resolver) where
       Sounds (PartsBehind context (element_then tag children rest) (record { params = params; except = None })) (Out (element_then tag children rest))
       (part_of (inside context tag) tag children (readings resolve children) form params >>= λ next. (readings resolve rest).parts context next)
   parts_sound context tag children rest inner others (Some kind.Param) is params =
-      sound_bind (part_of (inside context tag) tag children (readings resolve children) (Some kind.Param) params) (λ next. (readings resolve rest).parts context next)
+      sound_bind (part_of (inside context tag) tag children (readings resolve children) (Some kind.Param) params)
+      (λ next. (readings resolve rest).parts context next)
       (sound_bind {P = λ param. (children ≡ no_elements) × (simple_name (codes "name") tag ≡ Some param.name) × (param.value ≡ tag.text)}
       {R = λ (next : Parts). (param : Param) × (next ≡ record { params = params ++ param ∷ []; except = None }) × (children ≡ no_elements)
       × (simple_name (codes "name") tag ≡ Some param.name) × (param.value ≡ tag.text)}
       (param_at tag children) _ (param_sound tag children) (λ param there. finds (param, refl, there.0, there.1, there.2)))
       (λ next there. sound_weaker ((readings resolve rest).parts context next) (others.parts context next)
-      (λ after behind_it. subst (λ (c : Elements). PartsBehind context (element_then tag c rest) (record { params = params; except = None }) after) (sym there.2)
+      (λ after behind_it. subst (λ (c : Elements). PartsBehind context (element_then tag c rest) (record { params = params; except = None }) after)
+      (sym there.2)
       (further context tag rest there.0 params after (is kind.Param refl) there.3 there.4
       (subst (λ (before : Parts). PartsBehind context rest before after) there.1 behind_it)))
       (λ prefix left. behind left))
   parts_sound context tag children rest inner others (Some kind.Except) is params =
-      sound_bind (part_of (inside context tag) tag children (readings resolve children) (Some kind.Except) params) (λ next. (readings resolve rest).parts context next)
-      (sound_bind {R = λ (next : Parts). (q : WrittenPattern) × (next ≡ record { params = params; except = Some q }) × IsRow resolve choice (inside context tag) children q}
+      sound_bind (part_of (inside context tag) tag children (readings resolve children) (Some kind.Except) params)
+      (λ next. (readings resolve rest).parts context next)
+      (sound_bind {R = λ (next : Parts). (q : WrittenPattern) × (next ≡ record { params = params; except = Some q }) × IsRow resolve choice
+      (inside context tag) children q}
       (row_at choice (readings resolve children) (inside context tag)) _
       (sound_weaker _ (row_sound choice (inside context tag) children inner) (λ q row. row) (λ prefix left. within left))
       (λ q row. finds (q, refl, row)))
@@ -376,8 +420,10 @@ module _ (resolve : Resolver) where
       (λ prefix left. behind left))
   parts_sound context tag children rest inner others _ is params = ends
 
-  parts_by : (context : Context) (tag : Tag) (children rest : Elements) → RowSound children → RowSound rest → (params : List Param) (except : Option WrittenPattern) →
-      Sounds (PartsBehind context (element_then tag children rest) (record { params = params; except = except })) (Out (element_then tag children rest))
+  parts_by : (context : Context) (tag : Tag) (children rest : Elements) → RowSound children → RowSound rest →
+      (params : List Param) (except : Option WrittenPattern) →
+      Sounds (PartsBehind context (element_then tag children rest) (record { params = params; except = except }))
+      (Out (element_then tag children rest))
       (part_by (inside context tag) tag children (readings resolve children) params except >>= λ next. (readings resolve rest).parts context next)
   parts_by context tag children rest inner others params None = parts_sound context tag children rest inner others (form_of tag) (form_is tag) params
   parts_by context tag children rest inner others params (Some q) = ends
@@ -405,7 +451,8 @@ module _ (resolve : Resolver) where
       record {
         patterns = λ context.
             sound_bind (pattern_by resolve (inside context tag) tag children (readings resolve children) (form_of tag)) _
-            (sound_weaker _ (pattern_by_sound context tag children inner (form_of tag) (form_is tag)) (λ q is. is) (λ prefix out. out_first resolve tag children rest prefix out))
+            (sound_weaker _ (pattern_by_sound context tag children inner (form_of tag) (form_is tag)) (λ q is. is)
+            (λ prefix out. out_first resolve tag children rest prefix out))
             (λ q is. sound_bind ((readings resolve rest).patterns context) _
             (sound_weaker _ (others.patterns context) (λ ps are. are) (λ prefix left. behind left)) (λ ps are. finds (p.next_pattern is are)));
         behind = λ context. sound_weaker _ (others.patterns context) (λ ps are. behind_first are) (λ prefix left. behind left);
@@ -418,7 +465,8 @@ module _ (resolve : Resolver) where
             sound_bind (replacement_by resolve (inside context tag) tag (readings resolve children) (form_of tag)) _
             (sound_weaker _ (replacement_by_sound context tag children inner (form_of tag) (form_is tag)) (λ one is. is) (λ prefix left. within left))
             (λ one is. sound_bind ((readings resolve rest).replacements context) _
-            (sound_weaker _ (others.replacements context) (λ rs are. are) (λ prefix left. behind left)) (λ rs are. finds (p.next_replacement is are)));
+            (sound_weaker _ (others.replacements context) (λ rs are. are) (λ prefix left. behind left))
+            (λ rs are. finds (p.next_replacement is are)));
         parts = λ context before. parts_by context tag children rest inner others before.params before.except;
       }
 
@@ -430,7 +478,8 @@ module _ (resolve : Resolver) where
   pattern_sound context tag children = pattern_by_sound context tag children (rows_sound children) (form_of tag) (form_is tag)
 
   grammar_file_sound : (tag : Tag) (children : Elements) → (form : Option Kind) → ((k : Kind) → form ≡ Some k → IsTag k tag) →
-      Sounds (IsFile resolve (element_then tag children no_elements)) (Out (element_then tag children no_elements)) (grammar_file_by resolve tag children form)
+      Sounds (IsFile resolve (element_then tag children no_elements)) (Out (element_then tag children no_elements))
+      (grammar_file_by resolve tag children form)
   grammar_file_sound tag children (Some kind.Grammar) is =
       sound_bind ((readings resolve children).items (inside outermost tag)) _
       (sound_weaker _ ((rows_sound children).items (inside outermost tag)) (λ items are. are) (λ prefix left. within left))

@@ -10,9 +10,11 @@ use Rattle.rnc_parse.specs.declared.surface.Replacement.{Replacement}
 use Rattle.rnc_parse.specs.declared.surface.Replacement as replacement
 use Rattle.rnc_parse.specs.declared.surface.FileReference.{FileReference}
 use Rattle.rnc_parse.specs.Views.{class_of, pattern_of, item_of, items_in, replacement_of, replacements_in}
-use Rattle.rnc_parse.specs.Written.{WrittenClass, WrittenPattern, no_name, either, empty, not_allowed, choice, group, interleave, joined_or, grammar, div, include, div_anew}
+use Rattle.rnc_parse.specs.Written.{WrittenPattern, no_name, either, empty, not_allowed, choice, group, interleave, joined_or, grammar, div, include}
+use Rattle.rnc_parse.specs.Written.{div_anew}
 use Rattle.rnc_parse.proofs.ClassViews.{class_of-Choice}
-use Rattle.rnc_parse.proofs.PatternViews.{pattern_of-Choice, pattern_of-Group, pattern_of-Interleave, pattern_of-Grammar, item_of-Div, item_of-Include, replacement_of-Div}
+use Rattle.rnc_parse.proofs.PatternViews.{pattern_of-Choice, pattern_of-Group, pattern_of-Interleave, pattern_of-Grammar, item_of-Div}
+use Rattle.rnc_parse.proofs.PatternViews.{item_of-Include, replacement_of-Div}
 use Rattle.rngx_read.specs.Reading.{read}
 use Rattle.rngx_read.specs.ReadingClasses.{either_of}
 use Rattle.rngx_read.specs.ReadingPatterns.{row_of, one_of_row}
@@ -22,7 +24,8 @@ some_either : (classes : List NameClass) → length classes ≢ 0 → either_of 
 some_either [] some = absurd (some refl)
 some_either (first ∷ more) some = refl
 
-pub either_seen : (classes : Vec NameClass Global) → length classes.items ≢ 0 → either_of (classes_of classes.items) ≡ read (class_of (class.Choice classes))
+pub either_seen : (classes : Vec NameClass Global) → length classes.items ≢ 0 → either_of (classes_of classes.items)
+    ≡ read (class_of (class.Choice classes))
 either_seen classes some = some_either classes.items some ∙ ap read (sym (class_of-Choice classes))
 
 some_row : (join : WrittenPattern → WrittenPattern → WrittenPattern) (none : WrittenPattern) (patterns : List Pattern) → length patterns ≢ 0 →
@@ -45,7 +48,8 @@ one_row [] e = absurd cc
 one_row (one ∷ []) e = refl
 one_row (one ∷ other ∷ more) e = absurd cc
 
-pub one_seen : (patterns : Vec Pattern Global) → length patterns.items ≡ 1 → one_of_row (patterns_of patterns.items) ≡ read (pattern_of (pattern.Group patterns))
+pub one_seen : (patterns : Vec Pattern Global) → length patterns.items ≡ 1 → one_of_row (patterns_of patterns.items)
+    ≡ read (pattern_of (pattern.Group patterns))
 one_seen patterns one = one_row patterns.items one ∙ ap read (sym (pattern_of-Group patterns))
 
 -- items, as what is made of them
@@ -59,5 +63,6 @@ pub include_seen : (file : FileReference) (replacements : Vec Replacement Global
     include file (replacements_in replacements.items) ≡ item_of (item.Include file replacements)
 include_seen file replacements = sym (item_of-Include file replacements)
 
-pub div_anew_seen : (replacements : Vec Replacement Global) → div_anew (replacements_in replacements.items) ≡ replacement_of (replacement.Div replacements)
+pub div_anew_seen : (replacements : Vec Replacement Global) → div_anew (replacements_in replacements.items)
+    ≡ replacement_of (replacement.Div replacements)
 div_anew_seen replacements = sym (replacement_of-Div replacements)

@@ -13,7 +13,8 @@ not_blank [] last other = rw other refl
 not_blank (c ∷ front) last other =
     elim (cases_Bool (is_space c)) [ inl space ↦ rw (space, not_blank front last other) refl | inr none ↦ rw none refl ]
 
-same_before : (c : ℕ) (xs ys : List ℕ) → is_blank xs ≡ is_blank ys → before_spaces xs ≡ before_spaces ys → before_spaces (c ∷ xs) ≡ before_spaces (c ∷ ys)
+same_before : (c : ℕ) (xs ys : List ℕ) → is_blank xs ≡ is_blank ys → before_spaces xs ≡ before_spaces ys → before_spaces (c ∷ xs)
+    ≡ before_spaces (c ∷ ys)
 unfolding before_spaces
 same_before c xs ys blank same = rw (blank, same) refl
 

@@ -1,5 +1,5 @@
 -- What elements say leaves no prefix out.
-use Rattle.std.proofs.Common.{◌≡◌, ◌≢◌, ℕ, List, [], ◌∷◌, Option, Some, None, refl, sym, ap, subst, ◌∙◌, ◌⊎◌, inl, inr, codes}
+use Rattle.std.proofs.Common.{◌≡◌, ◌≢◌, ℕ, List, [], ◌∷◌, Some, None, refl, sym, ap, ◌∙◌, ◌⊎◌, inl, inr, codes}
 use Rattle.nx_base.specs.declared.name.Name.{Name}
 use Rattle.nx_events.specs.Names.{prefix_of, local_of}
 use Rattle.rnc_parse.specs.declared.surface.Namespace.{Namespace}
@@ -10,14 +10,17 @@ use Rattle.rnc_parse.specs.Written.{WrittenClass, WrittenPattern, WrittenItem, W
 use Rattle.rngx_read.specs.declared.element.Tag.{Tag}
 use Rattle.rngx_read.specs.declared.kind.Kind.{Kind}
 use Rattle.rngx_read.specs.declared.kind.Kind.TheVariants as kind
-use Rattle.rngx_read.specs.Classes.{IsClass, a_name, any_name, ns_name, a_choice, IsAllBut, all_of_them, all_but, IsEither, any_of, AreClasses, no_class, next_class}
+use Rattle.rngx_read.specs.Classes.{IsClass, a_name, any_name, ns_name, a_choice, IsAllBut, all_of_them, all_but, IsEither, any_of, AreClasses}
+use Rattle.rngx_read.specs.Classes.{no_class, next_class}
 use Rattle.rngx_read.specs.Contexts.{Context, inside, outermost}
 use Rattle.rngx_read.specs.Elements.{Elements, no_elements, element_then}
 use Rattle.rngx_read.specs.Kinds.{kind_text, kind_of}
 use Rattle.rngx_read.specs.Names.{Resolver, trimmed, IsNamed, without_prefix, with_prefix, IsClassName}
 use Rattle.rngx_read.specs.Patterns as p
-use Rattle.rngx_read.specs.Patterns.{Joins, Makes, Refers, IsLeaf, HasClass, AreParams, IsPattern, IsValue, IsRow, ArePatterns, IsDefinition, IsItem, AreItems, IsReplacement, AreReplacements}
-use Rattle.rngx_read.specs.Reads.{Writes, at_element, at_attribute, in_name, NeedsPrefix, LeavesOut, here, within, behind, IsFile, pattern_file, grammar_file}
+use Rattle.rngx_read.specs.Patterns.{Joins, Makes, Refers, IsLeaf, HasClass, AreParams, IsPattern, IsValue, IsRow, ArePatterns, IsDefinition, IsItem}
+use Rattle.rngx_read.specs.Patterns.{AreItems, IsReplacement, AreReplacements}
+use Rattle.rngx_read.specs.Reads.{Writes, at_element, at_attribute, in_name, NeedsPrefix, LeavesOut, here, within, behind, IsFile, pattern_file}
+use Rattle.rngx_read.specs.Reads.{grammar_file}
 use Rattle.rngx_read.specs.Tags.{value_of, IsTag}
 use Rattle.rngx_read.proofs.Tags.{kind_found}
 
@@ -46,16 +49,19 @@ module _ (resolve : Resolver) where
       cc
 
   writes_what : (tag : Tag) (k : Kind) (written : List ℕ) → IsTag k tag → Writes tag written →
-      (((k ≡ kind.Element) ⊎ (k ≡ kind.Attribute)) × (value_of (codes "name") tag.attributes ≡ Some written)) ⊎ ((k ≡ kind.Name) × (written ≡ tag.text))
+      (((k ≡ kind.Element) ⊎ (k ≡ kind.Attribute)) × (value_of (codes "name") tag.attributes ≡ Some written)) ⊎
+      ((k ≡ kind.Name) × (written ≡ tag.text))
   writes_what tag k written is (at_element called e) = inl (inl (same_kind tag k kind.Element is called), e)
   writes_what tag k written is (at_attribute called e) = inl (inr (same_kind tag k kind.Attribute is called), e)
   writes_what tag k _ is (in_name called) = inr (same_kind tag k kind.Name is called, refl)
 
   -- an element of another kind writes none
-  no_writer : (tag : Tag) (k : Kind) (prefix : List ℕ) → IsTag k tag → NeedsPrefix resolve tag prefix → k ≢ kind.Element → k ≢ kind.Attribute → k ≢ kind.Name → ⊥
+  no_writer : (tag : Tag) (k : Kind) (prefix : List ℕ) → IsTag k tag → NeedsPrefix resolve tag prefix → k ≢ kind.Element → k ≢ kind.Attribute →
+      k ≢ kind.Name → ⊥
   no_writer tag k prefix is needs no_element no_attribute no_name = by_kind (writes_what tag k needs.written is needs.writes)
     where
-      by_kind : (((k ≡ kind.Element) ⊎ (k ≡ kind.Attribute)) × (value_of (codes "name") tag.attributes ≡ Some needs.written)) ⊎ ((k ≡ kind.Name) × (needs.written ≡ tag.text)) → ⊥
+      by_kind : (((k ≡ kind.Element) ⊎ (k ≡ kind.Attribute)) × (value_of (codes "name") tag.attributes ≡ Some needs.written)) ⊎
+          ((k ≡ kind.Name) × (needs.written ≡ tag.text)) → ⊥
       by_kind (inl (inl e, v)) = no_element e
       by_kind (inl (inr e, v)) = no_attribute e
       by_kind (inr (e, v)) = no_name e
@@ -64,7 +70,8 @@ module _ (resolve : Resolver) where
   name_writes : (tag : Tag) (prefix : List ℕ) → IsTag kind.Name tag → (needs : NeedsPrefix resolve tag prefix) → needs.written ≡ tag.text
   name_writes tag prefix is needs = by_kind (writes_what tag kind.Name needs.written is needs.writes)
     where
-      by_kind : (((kind.Name ≡ kind.Element) ⊎ (kind.Name ≡ kind.Attribute)) × (value_of (codes "name") tag.attributes ≡ Some needs.written)) ⊎ ((kind.Name ≡ kind.Name) × (needs.written ≡ tag.text)) → needs.written ≡ tag.text
+      by_kind : (((kind.Name ≡ kind.Element) ⊎ (kind.Name ≡ kind.Attribute)) × (value_of (codes "name") tag.attributes ≡ Some needs.written)) ⊎
+          ((kind.Name ≡ kind.Name) × (needs.written ≡ tag.text)) → needs.written ≡ tag.text
       by_kind (inl (inl e, v)) = absurd cc
       by_kind (inl (inr e, v)) = absurd cc
       by_kind (inr (e, v)) = v
@@ -74,7 +81,8 @@ module _ (resolve : Resolver) where
       value_of (codes "name") tag.attributes ≡ Some needs.written
   attribute_writes tag k prefix is no_name needs = by_kind (writes_what tag k needs.written is needs.writes)
     where
-      by_kind : (((k ≡ kind.Element) ⊎ (k ≡ kind.Attribute)) × (value_of (codes "name") tag.attributes ≡ Some needs.written)) ⊎ ((k ≡ kind.Name) × (needs.written ≡ tag.text)) →
+      by_kind : (((k ≡ kind.Element) ⊎ (k ≡ kind.Attribute)) × (value_of (codes "name") tag.attributes ≡ Some needs.written)) ⊎
+          ((k ≡ kind.Name) × (needs.written ≡ tag.text)) →
           value_of (codes "name") tag.attributes ≡ Some needs.written
       by_kind (inl (e, v)) = v
       by_kind (inr (e, v)) = absurd (no_name e)
@@ -111,27 +119,36 @@ module _ (resolve : Resolver) where
   other_clean : (tag : Tag) (k : Kind) → IsTag k tag → k ≢ kind.Element → k ≢ kind.Attribute → k ≢ kind.Name → Clean tag
   other_clean tag k is e a n prefix needs = no_writer tag k prefix is needs e a n
 
-  name_clean : (tag : Tag) (unprefixed : Namespace) (class : WrittenClass) → IsTag kind.Name tag → IsClassName resolve tag.scope unprefixed tag.text class → Clean tag
-  name_clean tag unprefixed class is named prefix needs = class_name_whole tag unprefixed tag.text class prefix named needs (name_writes tag prefix is needs)
+  name_clean : (tag : Tag) (unprefixed : Namespace) (class : WrittenClass) → IsTag kind.Name tag →
+      IsClassName resolve tag.scope unprefixed tag.text class → Clean tag
+  name_clean tag unprefixed class is named prefix needs =
+      class_name_whole tag unprefixed tag.text class prefix named needs (name_writes tag prefix is needs)
 
   -- ---- classes
 
   mutual
-    class_clean : (context : Context) (tag : Tag) (children : Elements) (class : WrittenClass) → IsClass resolve context tag children class → Clean tag × Whole children
+    class_clean : (context : Context) (tag : Tag) (children : Elements) (class : WrittenClass) → IsClass resolve context tag children class →
+        Clean tag × Whole children
     class_clean context tag _ class (a_name is named) = (name_clean tag _ class is named, nothing_whole)
-    class_clean context tag children class (any_name is but) = (other_clean tag kind.AnyName is (λ e. cc) (λ e. cc) (λ e. cc), but_whole _ _ children class but)
-    class_clean context tag children class (ns_name is but) = (other_clean tag kind.NsName is (λ e. cc) (λ e. cc) (λ e. cc), but_whole _ _ children class but)
-    class_clean context tag children class (a_choice is any) = (other_clean tag kind.Choice is (λ e. cc) (λ e. cc) (λ e. cc), either_whole _ children class any)
+    class_clean context tag children class (any_name is but) =
+        (other_clean tag kind.AnyName is (λ e. cc) (λ e. cc) (λ e. cc), but_whole _ _ children class but)
+    class_clean context tag children class (ns_name is but) =
+        (other_clean tag kind.NsName is (λ e. cc) (λ e. cc) (λ e. cc), but_whole _ _ children class but)
+    class_clean context tag children class (a_choice is any) =
+        (other_clean tag kind.Choice is (λ e. cc) (λ e. cc) (λ e. cc), either_whole _ children class any)
 
-    but_whole : (context : Context) (all : WrittenClass) (elements : Elements) (class : WrittenClass) → IsAllBut resolve context all elements class → Whole elements
+    but_whole : (context : Context) (all : WrittenClass) (elements : Elements) (class : WrittenClass) → IsAllBut resolve context all elements class →
+        Whole elements
     but_whole context all _ _ all_of_them = nothing_whole
     but_whole context all _ _ (all_but {except = except} {tag = tag} {children = children} is any) =
-        whole_then tag children no_elements (other_clean tag kind.Except is (λ e. cc) (λ e. cc) (λ e. cc)) (either_whole _ children except any) nothing_whole
+        whole_then tag children no_elements (other_clean tag kind.Except is (λ e. cc) (λ e. cc) (λ e. cc)) (either_whole _ children except any)
+        nothing_whole
 
     either_whole : (context : Context) (elements : Elements) (class : WrittenClass) → IsEither resolve context elements class → Whole elements
     either_whole context elements class (any_of {first = first} {more = more} are e) = classes_whole context elements (first ∷ more) are
 
-    classes_whole : (context : Context) (elements : Elements) (classes : List WrittenClass) → AreClasses resolve context elements classes → Whole elements
+    classes_whole : (context : Context) (elements : Elements) (classes : List WrittenClass) → AreClasses resolve context elements classes →
+        Whole elements
     classes_whole context _ _ no_class = nothing_whole
     classes_whole context _ _ (next_class {tag = tag} {children = children} {rest = rest} {class = class} {classes = classes} is are) =
         let one = class_clean context tag children class is in
@@ -140,7 +157,8 @@ module _ (resolve : Resolver) where
   -- ---- names of elements and attributes
 
   -- neither the element nor its children leave a prefix out, where its class is read and what follows it leaves none out
-  has_class_clean : (context : Context) (unprefixed : Namespace) (tag : Tag) (k : Kind) (children content : Elements) (class : WrittenClass) → IsTag k tag → k ≢ kind.Name →
+  has_class_clean : (context : Context) (unprefixed : Namespace) (tag : Tag) (k : Kind) (children content : Elements) (class : WrittenClass) →
+      IsTag k tag → k ≢ kind.Name →
       HasClass resolve context unprefixed tag children class content → Whole content → Clean tag × Whole children
   has_class_clean context unprefixed tag k children _ class is no_name (p.by_attribute {written = written} e named) whole = (clean, whole)
     where
@@ -192,12 +210,14 @@ module _ (resolve : Resolver) where
   params_whole : (elements : Elements) (params : List Param) (rest : Elements) → AreParams elements params rest → Whole rest → Whole elements
   params_whole _ _ rest p.no_param whole = whole
   params_whole _ _ rest (p.next_param {tag = tag} {others = others} {params = params} is name_is value_is are) whole =
-      whole_then tag no_elements others (none_clean tag kind.Param is (λ e. cc, λ e. cc, λ e. cc)) nothing_whole (params_whole others params rest are whole)
+      whole_then tag no_elements others (none_clean tag kind.Param is (λ e. cc, λ e. cc, λ e. cc)) nothing_whole
+      (params_whole others params rest are whole)
 
   -- ---- patterns and grammars
 
   mutual
-    pattern_clean : (context : Context) (tag : Tag) (children : Elements) (q : WrittenPattern) → IsPattern resolve context tag children q → Clean tag × Whole children
+    pattern_clean : (context : Context) (tag : Tag) (children : Elements) (q : WrittenPattern) → IsPattern resolve context tag children q →
+        Clean tag × Whole children
     pattern_clean context tag children _ (p.an_element {content = content} {class = class} {p = q} is has row) =
         has_class_clean (inside context tag) (inside context tag).namespace tag kind.Element children content class is (λ e. cc) has
         (row_whole _ (inside context tag) content q row)
@@ -218,7 +238,8 @@ module _ (resolve : Resolver) where
     pattern_clean context tag children _ (p.a_type_but {except = except} {within = inner} {params = params} {p = q} is type are but row) = (
       none_clean tag kind.Data is (λ e. cc, λ e. cc, λ e. cc),
       params_whole children params (element_then except inner no_elements) are
-          (whole_then except inner no_elements (none_clean except kind.Except but (λ e. cc, λ e. cc, λ e. cc)) (row_whole _ _ inner q row) nothing_whole),
+          (whole_then except inner no_elements (none_clean except kind.Except but (λ e. cc, λ e. cc, λ e. cc)) (row_whole _ _ inner q row)
+          nothing_whole),
     )
     pattern_clean context tag _ _ (p.an_external is file) = (none_clean tag kind.ExternalRef is (λ e. cc, λ e. cc, λ e. cc), nothing_whole)
     pattern_clean context tag children _ (p.a_grammar_of {items = items} is are) =
@@ -247,7 +268,8 @@ module _ (resolve : Resolver) where
     definition_clean context tag children _ how q (p.a_define is combined named row) =
         (none_clean tag kind.Define is (λ e. cc, λ e. cc, λ e. cc), row_whole _ (inside context tag) children q row)
 
-    item_clean : (context : Context) (tag : Tag) (children : Elements) (item : WrittenItem) → IsItem resolve context tag children item → Clean tag × Whole children
+    item_clean : (context : Context) (tag : Tag) (children : Elements) (item : WrittenItem) → IsItem resolve context tag children item →
+        Clean tag × Whole children
     item_clean context tag children _ (p.a_definition {name = name} {how = how} {p = q} is) = definition_clean context tag children name how q is
     item_clean context tag children _ (p.a_div {items = items} is are) =
         (none_clean tag kind.Div is (λ e. cc, λ e. cc, λ e. cc), items_whole (inside context tag) children items are)
@@ -260,21 +282,27 @@ module _ (resolve : Resolver) where
         let one = item_clean context tag children item is in
         whole_then tag children rest one.0 one.1 (items_whole context rest items are)
 
-    replacement_clean : (context : Context) (tag : Tag) (children : Elements) (replacement : WrittenReplacement) → IsReplacement resolve context tag children replacement →
+    replacement_clean : (context : Context) (tag : Tag) (children : Elements) (replacement : WrittenReplacement) →
+        IsReplacement resolve context tag children replacement →
         Clean tag × Whole children
-    replacement_clean context tag children _ (p.a_definition_anew {name = name} {how = how} {p = q} is) = definition_clean context tag children name how q is
+    replacement_clean context tag children _ (p.a_definition_anew {name = name} {how = how} {p = q} is) =
+        definition_clean context tag children name how q is
     replacement_clean context tag children _ (p.a_div_anew {replacements = replacements} is are) =
         (none_clean tag kind.Div is (λ e. cc, λ e. cc, λ e. cc), replacements_whole (inside context tag) children replacements are)
 
-    replacements_whole : (context : Context) (elements : Elements) (replacements : WrittenReplacements) → AreReplacements resolve context elements replacements → Whole elements
+    replacements_whole : (context : Context) (elements : Elements) (replacements : WrittenReplacements) →
+        AreReplacements resolve context elements replacements → Whole elements
     replacements_whole context _ _ p.no_more_replacements = nothing_whole
-    replacements_whole context _ _ (p.next_replacement {tag = tag} {children = children} {rest = rest} {replacement = replacement} {replacements = replacements} is are) =
+    replacements_whole context _ _
+        (p.next_replacement {tag = tag} {children = children} {rest = rest} {replacement = replacement} {replacements = replacements} is are) =
         let one = replacement_clean context tag children replacement is in
         whole_then tag children rest one.0 one.1 (replacements_whole context rest replacements are)
 
   -- elements that say something leave no prefix out
-  pub file_whole : (elements : Elements) (surface : WrittenSurface) (prefix : List ℕ) → IsFile resolve elements surface → LeavesOut resolve prefix elements → ⊥
+  pub file_whole : (elements : Elements) (surface : WrittenSurface) (prefix : List ℕ) → IsFile resolve elements surface →
+      LeavesOut resolve prefix elements → ⊥
   file_whole _ _ prefix (pattern_file {tag = tag} {children = children} {p = q} other is) left =
       let one = pattern_clean outermost tag children q is in whole_then tag children no_elements one.0 one.1 nothing_whole prefix left
   file_whole _ _ prefix (grammar_file {tag = tag} {children = children} {items = items} is are) left =
-      whole_then tag children no_elements (none_clean tag kind.Grammar is (λ e. cc, λ e. cc, λ e. cc)) (items_whole (inside outermost tag) children items are) nothing_whole prefix left
+      whole_then tag children no_elements (none_clean tag kind.Grammar is (λ e. cc, λ e. cc, λ e. cc))
+      (items_whole (inside outermost tag) children items are) nothing_whole prefix left

@@ -20,6 +20,11 @@ abbrev pub ElementsSayOneThing : Type 0
 ElementsSayOneThing = (resolve : Resolver) (elements : Elements) (one other : WrittenSurface) →
     IsFile resolve elements one → IsFile resolve elements other → one ≡ other
 
+-- elements that say something leave no prefix out
+abbrev pub WhatIsSaidLeavesNoPrefixOut : Type 0
+WhatIsSaidLeavesNoPrefixOut = (resolve : Resolver) (elements : Elements) (surface : WrittenSurface) (prefix : List ℕ) →
+    IsFile resolve elements surface → LeavesOut resolve prefix elements → ⊥
+
 -- elements say something, have no form, or leave a prefix out
 abbrev pub ElementsAreReadOrRefused : Type 0
 ElementsAreReadOrRefused = (elements : Elements) → ((surface : WrittenSurface) × IsFile bound_in elements surface)

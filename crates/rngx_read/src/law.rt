@@ -1,12 +1,17 @@
 //! Laws of reading. Nothing here runs.
 
-ghost use Rattle.rngx_read.specs.Laws.{ElementsSayOneThing};
+ghost use Rattle.rngx_read.specs.Laws.{ElementsSayOneThing, WhatIsSaidLeavesNoPrefixOut};
 ghost use Rattle.rngx_read.specs.Laws.{ElementsAreReadOrRefused, MarkupIsReadAsOne, MarkupReadIsNotRefused, MarkupIsReadOrRefused, FaultsAreToldFirst, DepthIsToldNext};
 ghost use Rattle.rngx_read.specs.Laws.{TextsAreReadAsOne, WhatIsReadIsNotRefused, TextsAreReadOrRefused};
 
 /// Elements say one thing at most, whatever prefixes stand for.
 pub fn elements_say_one_thing()
     ensures { ElementsSayOneThing }
+{}
+
+/// Elements that say something leave no prefix out.
+pub fn what_is_said_leaves_no_prefix_out()
+    ensures { WhatIsSaidLeavesNoPrefixOut }
 {}
 
 /// Elements say something, have no form, or leave a prefix out.
