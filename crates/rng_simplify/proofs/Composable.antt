@@ -10,9 +10,10 @@ use Rattle.nx_host.specs.Files.{FileMap}
 use Rattle.nx_host.specs.Uri.{TextsJoinOrAreBad}
 use Rattle.rnc_parse.specs.declared.surface.Defined.{Defined}
 use Rattle.rnc_parse.specs.declared.surface.FileReference.{FileReference}
-use Rattle.rnc_parse.specs.Laws.{TextsAreReadOrRefused}
 use Rattle.rnc_parse.specs.Written.{WrittenPattern, WrittenItem, WrittenItems, WrittenReplacement, WrittenReplacements, WrittenSurface, a_pattern, a_grammar}
 use Rattle.rnc_parse.specs.Written as written
+use Rattle.rngx_read.specs.Files.{is_markup}
+use Rattle.rngx_read.specs.Laws.{TextsAreReadOrRefused}
 use Rattle.rng_core.specs.Patterns.{Pattern, Definition}
 use Rattle.rng_simplify.specs.Broken.{IsRefused, IsBroken}
 use Rattle.rng_simplify.specs.Classes.{class_in}
@@ -30,6 +31,7 @@ use Rattle.rng_simplify.proofs.Freely.{numbers_are_free}
 use Rattle.rng_simplify.proofs.Nodes.{in_none, in_cases, in_first, in_more}
 use Rattle.rng_simplify.proofs.Passed.{names_gathered}
 use Rattle.rng_simplify.proofs.Returning.{some_twice}
+use Rattle.rng_simplify.proofs.Unread.{refused_of_reading}
 
 -- ---- lists of URIs
 
@@ -124,13 +126,15 @@ module _ (joins_or_bad : TextsJoinOrAreBad) (read_or_refused : TextsAreReadOrRef
   refused_so cause.TooDeep h = (cause.TooDeep, h)
   refused_so cause.UndeclaredPrefix h = (cause.UndeclaredPrefix, h)
   refused_so cause.Twice h = (cause.Twice, h)
-  refused_so why h = absurd h.refused
+  refused_so cause.BadMarkup h = (cause.BadMarkup, h)
+  refused_so cause.BadForm h = (cause.BadForm, h)
+  refused_so why h = absurd (refused_of_reading (is_markup h.bytes) h.bytes why h.refused)
 
   -- what a file that is reached says
   said : (context : Context) → Reached files uri context → Or ((surface : WrittenSurface) × Says files context.uri surface)
   said context reached =
       let t = are.texts context reached in
-      elim (read_or_refused t.0) [
+      elim (read_or_refused t.0 t.2) [
         | inl h ↦ inl (h.0, record { bytes = t.0; there = t.1; is_text = t.2; reads = h.1 })
         | inr h ↦ inr (refused_so h.0
             (record { context = context; reached = reached; bytes = t.0; there = t.1; is_text = t.2; refused = h.1 }))

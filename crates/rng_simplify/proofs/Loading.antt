@@ -19,7 +19,7 @@ use Rattle.rng_simplify.specs.declared.mention.Mention.{Mention as Kept}
 use Rattle.rng_simplify.specs.Broken.{IsAbsent, IsNoText, HasBadUri, IsRefused, HasIncludeLoop}
 use Rattle.rng_simplify.specs.ComposedFiles.{Context, top, referred, Says, Opens}
 use Rattle.rng_simplify.specs.FileChains.{uris_of, IsLink, IsChain, no_link, further_link, IsUnderWay, IsAdded, NextUri}
-use Rattle.rng_simplify.specs.LoadedFiles.{Waiting, waiting_in, IsRead, AreRead, all_read, one_read, AllLoaded, IsNoTextAt, IsOfReading, IsRefusedText, Unreads, SaysBytes, Fetches, ReadsFile}
+use Rattle.rng_simplify.specs.LoadedFiles.{Waiting, waiting_in, IsRead, AreRead, all_read, one_read, AllLoaded, IsNoTextAt, IsOfReading, IsRefusedText, SaysIn, SaysBytes, Fetches, SaysFile}
 use Rattle.rng_simplify.specs.KeptMentions.{kept_of, kept_of_all}
 use Rattle.rng_simplify.specs.References.{Mention, Mentions, Reached, the_first, a_further, reference_of, mentions_of}
 use Rattle.rng_simplify.specs.Simplified.{IfTold, Answers}
@@ -44,7 +44,7 @@ told_always (Some files) A f = f files
 module _ (told : Option FileMap) (uri : List ℕ) where
   -- a file that is reached is refused
   pub refused_at : (context : Context) (before after : ℕ) (fault : SchemaFault) → IfTold told (λ files. Reached files uri context) →
-      IsUtf8 context.uri → ReadsFile told context.uri before after (Err fault) → Answers told uri before after (Err fault)
+      IsUtf8 context.uri → SaysFile told context.uri before after (Err fault) → Answers told uri before after (Err fault)
   refused_at context before after (Absent absent) reached is_text h = (
     subst (λ u. IsUtf8 u) (sym h.0) is_text,
     told_both told (λ files. Reached files uri context) (λ files. files context.uri ≡ None) (λ files. IsAbsent files uri absent)
@@ -83,12 +83,14 @@ module _ (told : Option FileMap) (uri : List ℕ) where
       refused cause.TooDeep of_reading broken same = (tt, broken, same)
       refused cause.UndeclaredPrefix of_reading broken same = (tt, broken, same)
       refused cause.Twice of_reading broken same = (tt, broken, same)
+      refused cause.BadMarkup of_reading broken same = (tt, broken, same)
+      refused cause.BadForm of_reading broken same = (tt, broken, same)
       refused why of_reading broken same = absurd of_reading
 
   -- ---- the chain
 
   -- the file is refused with which loading begins
-  pub first_refused : (before after : ℕ) (fault : SchemaFault) → IsUtf8 uri → ReadsFile told uri before after (Err fault) →
+  pub first_refused : (before after : ℕ) (fault : SchemaFault) → IsUtf8 uri → SaysFile told uri before after (Err fault) →
       Answers told uri before after (Err fault)
   first_refused before after fault is_text h =
       refused_at (top uri) before after fault (told_always told (λ files. Reached files uri (top uri)) (λ files. the_first)) is_text h
@@ -266,7 +268,7 @@ module _ (told : Option FileMap) (uri : List ℕ) where
 
     -- it is refused
     pub not_opened : (other : List ℕ) (before after : ℕ) (fault : SchemaFault) → Joins link.uri kept.text other →
-        IsUtf8 other → (Contains (link.uri ∷ uris_of outer) other → ⊥) → ReadsFile told other before after (Err fault) →
+        IsUtf8 other → (Contains (link.uri ∷ uris_of outer) other → ⊥) → SaysFile told other before after (Err fault) →
         Answers told uri before after (Err fault)
     not_opened other before after fault joins is_text no_loop h =
         refused_at told uri (referred next.context (reference_of next.mention) other) before after fault (inner_reached other joins no_loop)
@@ -320,15 +322,16 @@ module _ (told : Option FileMap) (uri : List ℕ) where
 
 -- ---- one file
 
--- a text is refused
-pub unread_is : (uri bytes : List ℕ) (fault : SchemaFault) → IsUtf8 bytes → Unreads bytes fault → SaysBytes uri bytes (Err fault)
-unread_is uri bytes (Unreadable why) is_text h = record { is_text = is_text; refused = h.0; of_reading = h.1 }
-unread_is uri bytes NoMemory is_text h = tt
-unread_is uri bytes fault is_text h = absurd h
+-- what a text says is what its bytes say
+pub says_text : (uri bytes : List ℕ) (result : Result Surface SchemaFault) → IsUtf8 bytes → SaysIn bytes result → SaysBytes uri bytes result
+says_text uri bytes (Ok surface) is_text h = record { is_text = is_text; reads = h.0; texts = h.1 }
+says_text uri bytes (Err (Unreadable why)) is_text h = record { is_text = is_text; refused = h.0; of_reading = h.1 }
+says_text uri bytes (Err NoMemory) is_text h = tt
+says_text uri bytes (Err fault) is_text h = absurd h
 
 -- what the bytes say is what the file says
 pub file_is : (told : Option FileMap) (uri bytes : List ℕ) (before after : ℕ) (result : Result Surface SchemaFault) →
-    Fetches told uri before after (Ok bytes) → SaysBytes uri bytes result → ReadsFile told uri before after result
+    Fetches told uri before after (Ok bytes) → SaysBytes uri bytes result → SaysFile told uri before after result
 file_is told uri bytes before after (Ok surface) fetched says = (
   told_with told (λ files. files uri ≡ Some bytes) (λ files. Says files uri (surface_of surface))
       (λ files there. record { bytes = bytes; there = there; is_text = says.is_text; reads = says.reads }) fetched.0,

@@ -7,10 +7,10 @@ use Rattle.nx_host.specs.Uri.{JoinsIsDecided}
 use Rattle.rnc_parse.specs.declared.surface.FileReference.{FileReference}
 use Rattle.rnc_parse.specs.declared.surface.Defined.{Defined}
 use Rattle.rnc_parse.specs.declared.surface.Combine.{Combine}
-use Rattle.rnc_parse.specs.Reads.{Reads}
 use Rattle.rnc_parse.specs.Written.{WrittenPattern, WrittenItem, WrittenItems, WrittenReplacement, WrittenReplacements, WrittenSurface, a_pattern, a_grammar}
 use Rattle.rnc_parse.specs.Written as written
-use Rattle.rnc_parse.proofs.WholeTexts.{read_as_one}
+use Rattle.rngx_read.specs.Files.{ReadsFile}
+use Rattle.rngx_read.proofs.WholeFiles.{read_as_one}
 use Rattle.rng_simplify.specs.Classes.{class_in}
 use Rattle.rng_simplify.specs.Composed.{Composed, Clauses, end_of_clauses, clause_then, then_clauses, same_defined, defines, but_for, names_of}
 use Rattle.rng_simplify.specs.Composed as composed
@@ -22,7 +22,7 @@ use Rattle.rng_simplify.specs.Unnumbered.{unnumbered, unnumbered_in}
 -- a file says one thing
 pub says_one : (files : FileMap) (uri : List ℕ) (one other : WrittenSurface) → Says files uri one → Says files uri other → one ≡ other
 says_one files uri one other is also =
-    let P : List ℕ → Type 0 = λ bytes. Reads bytes one in
+    let P : List ℕ → Type 0 = λ bytes. ReadsFile bytes one in
     read_as_one also.bytes one other (subst P (same_Some is.bytes also.bytes (sym is.there ∙ also.there)) is.reads) also.reads
 
 -- a reference leads to one file, which says one thing

@@ -7,10 +7,10 @@ use Rattle.nx_base.specs.declared.cause.Cause.{Cause}
 use Rattle.nx_host.specs.Files.{FileMap}
 use Rattle.nx_host.specs.Uri.{IsBadUri, JoinsIsDecided}
 use Rattle.rnc_parse.specs.declared.surface.Defined.{Defined}
-use Rattle.rnc_parse.specs.Reads.{Refuses}
 use Rattle.rnc_parse.specs.Written.{WrittenPattern, WrittenItem, WrittenItems, WrittenReplacement, WrittenReplacements, WrittenSurface, a_pattern, a_grammar}
 use Rattle.rnc_parse.specs.Written as written
-use Rattle.rnc_parse.proofs.WholeTexts.{read_not_refused}
+use Rattle.rngx_read.specs.Files.{RefusesFile}
+use Rattle.rngx_read.proofs.WholeFiles.{read_not_refused}
 use Rattle.rng_simplify.specs.Unambiguous.{ArePassed}
 use Rattle.rng_simplify.specs.Broken.{IsAbsent, IsNoText, HasBadUri, IsRefused, HasIncludeLoop, IncludesOther, ReplacesNothing}
 use Rattle.rng_simplify.specs.Composed.{Composed, Clauses, end_of_clauses, clause_then, then_clauses, defines, names_of}
@@ -217,7 +217,7 @@ module _ (files : FileMap) where
     refused_never why h =
         let good = good_file h.reached in
         let same : h.bytes ≡ good.says.bytes = same_Some h.bytes good.says.bytes (sym h.there ∙ good.says.there) in
-        let P : List ℕ → Type 0 = λ bytes. Refuses bytes why in
+        let P : List ℕ → Type 0 = λ bytes. RefusesFile bytes why in
         read_not_refused good.says.bytes good.surface why good.says.reads (subst P same h.refused)
 
     loop_never : HasIncludeLoop files uri → ⊥

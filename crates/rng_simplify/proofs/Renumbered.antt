@@ -347,6 +347,8 @@ module _ (decided : JoinsIsDecided) (files : FileMap) (uri : List ℕ) (start : 
   never_broken cause.TooDeep h = passed.none_refused cause.TooDeep h
   never_broken cause.UndeclaredPrefix h = passed.none_refused cause.UndeclaredPrefix h
   never_broken cause.Twice h = passed.none_refused cause.Twice h
+  never_broken cause.BadMarkup h = passed.none_refused cause.BadMarkup h
+  never_broken cause.BadForm h = passed.none_refused cause.BadForm h
   never_broken cause.NotGrammar h = passed.grammars_included h
   never_broken cause.IncludeLoop h = passed.no_loop h
   never_broken cause.NoDefinition (inl h) = passed.replaced_defined h

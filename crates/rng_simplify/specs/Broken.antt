@@ -17,7 +17,7 @@ use Rattle.rnc_parse.specs.declared.surface.Defined.TheVariants as defined
 use Rattle.rnc_parse.specs.declared.surface.Combine.{Combine}
 use Rattle.rnc_parse.specs.declared.surface.Combine.TheVariants as combine
 use Rattle.rnc_parse.specs.Written.{WrittenItems, WrittenReplacements, WrittenSurface}
-use Rattle.rnc_parse.specs.Reads.{Refuses}
+use Rattle.rngx_read.specs.Files.{RefusesFile}
 use Rattle.rng_simplify.specs.Classes.{has_bad_except, names_declarations, names_declarations_of_attribute}
 use Rattle.rng_simplify.specs.Composed.{Composed, Clauses, defines, defining, combines, numbers}
 use Rattle.rng_simplify.specs.Composed as composed
@@ -63,7 +63,7 @@ pub record IsRefused (files : FileMap) (uri : List ℕ) (why : Cause) : Type 0 w
   pub bytes : List ℕ
   pub there : files context.uri ≡ Some bytes
   pub is_text : IsUtf8 bytes
-  pub refused : Refuses bytes why
+  pub refused : RefusesFile bytes why
 
 -- one refers to a file that leads to it
 pub record HasIncludeLoop (files : FileMap) (uri : List ℕ) : Type 0 where
@@ -256,6 +256,8 @@ IsBroken files uri cause.Syntax = IsRefused files uri cause.Syntax
 IsBroken files uri cause.TooDeep = IsRefused files uri cause.TooDeep
 IsBroken files uri cause.UndeclaredPrefix = IsRefused files uri cause.UndeclaredPrefix
 IsBroken files uri cause.Twice = IsRefused files uri cause.Twice
+IsBroken files uri cause.BadMarkup = IsRefused files uri cause.BadMarkup
+IsBroken files uri cause.BadForm = IsRefused files uri cause.BadForm
 IsBroken files uri cause.NotGrammar = IncludesOther files uri
 IsBroken files uri cause.IncludeLoop = HasIncludeLoop files uri
 IsBroken files uri cause.NoDefinition = ReplacesNothing files uri ⊎ PieceIsBroken files uri cause.NoDefinition

@@ -10,7 +10,7 @@ use Rattle.rnc_parse.specs.declared.surface.TypeName.{TypeName}
 use Rattle.rnc_parse.specs.declared.surface.Param.{Param}
 use Rattle.rnc_parse.specs.Written.{WrittenClass, WrittenPattern, WrittenItems, WrittenReplacements, WrittenSurface, a_pattern, a_grammar}
 use Rattle.rnc_parse.specs.Written as written
-use Rattle.rnc_parse.specs.Reads.{Reads}
+use Rattle.rngx_read.specs.Files.{ReadsFile}
 use Rattle.rng_simplify.specs.Classes.{namespace_in, class_in}
 use Rattle.rng_simplify.specs.Composed.{Composed, Clauses, end_of_clauses, clause_then, then_clauses, defines, but_for, names_of}
 use Rattle.rng_simplify.specs.Composed as composed
@@ -39,7 +39,7 @@ pub record Says (files : FileMap) (uri : List ℕ) (surface : WrittenSurface) : 
   pub bytes : List ℕ
   pub there : files uri ≡ Some bytes
   pub is_text : IsUtf8 bytes
-  pub reads : Reads bytes surface
+  pub reads : ReadsFile bytes surface
 
 -- the reference leads to a file that says this, and that isn't one of those that lead here: sections 7.6 to 7.8
 pub record Opens (files : FileMap) (context : Context) (reference : FileReference) (inner : Context)

@@ -16,7 +16,7 @@ use Rattle.rng_simplify.specs.declared.mention.Mention.{Mention as Kept}
 use Rattle.rng_simplify.specs.declared.names.Names.{Names}
 use Rattle.rng_simplify.specs.ComposedFiles.{Context, Says}
 use Rattle.rng_simplify.specs.NameTables.{kept_named}
-use Rattle.rng_simplify.specs.LoadedFiles.{Waiting, waiting_in, AreRead, AllLoaded, ReadsFile}
+use Rattle.rng_simplify.specs.LoadedFiles.{Waiting, waiting_in, AreRead, AllLoaded, SaysFile}
 use Rattle.rng_simplify.specs.KeptMentions.{kept_of_all, AreTextMentions}
 use Rattle.rng_simplify.specs.References.{Mention, Mentions, mentions_of}
 use Rattle.rng_simplify.specs.Simplified.{IfTold, Answers}
@@ -72,7 +72,7 @@ OpensFile told uri inherited before after old_links new_links old_loaded new_loa
     (surface : Surface) × IfTold told (λ files. Says files uri (surface_of surface)) × HasUtf8Texts (surface_of surface)
     × IsAdded uri inherited surface old_links new_links old_loaded new_loaded × (after ≡ before)
 OpensFile told uri inherited before after old_links new_links old_loaded new_loaded (Err fault) =
-    ReadsFile told uri before after (Err fault)
+    SaysFile told uri before after (Err fault)
 
 -- ---- the URI of the next file
 

@@ -1,5 +1,5 @@
 -- Files as they are loaded: in the order in which they are mentioned, each before those that it mentions.
-use Rattle.std.specs.Prelude.{◌≡◌, ℕ, List, [], ◌∷◌, ◌++◌, Option, Some, None, Result, Ok, Err, IsUtf8, reverse, map, Vec}
+use Rattle.std.specs.Prelude.{◌≡◌, ℕ, Bool, List, [], ◌∷◌, ◌++◌, Option, Some, None, Result, Ok, Err, IsUtf8, reverse, map, Vec}
 use Rattle.std.specs.declared.alloc.Global.{Global}
 use Rattle.nx_base.specs.declared.cause.Cause.{Cause}
 use Rattle.nx_base.specs.declared.cause.Cause.TheVariants as cause
@@ -10,9 +10,11 @@ use Rattle.rnc_lex.specs.declared.fault.LexFault.TheVariants as lex
 use Rattle.rnc_parse.specs.declared.read.ReadFault.{ReadFault}
 use Rattle.rnc_parse.specs.declared.read.ReadFault.TheVariants as read
 use Rattle.rnc_parse.specs.declared.surface.Surface.{Surface}
-use Rattle.rnc_parse.specs.Reads.{Reads, Refuses}
 use Rattle.rnc_parse.specs.Texts.{HasUtf8Texts}
 use Rattle.rnc_parse.specs.Views.{surface_of}
+use Rattle.rngx_read.specs.Files.{is_markup, ReadsAs, ReadsFile, RefusesAs, RefusesFile}
+use Rattle.rngx_read.specs.declared.read.XReadFault.{XReadFault}
+use Rattle.rngx_read.specs.declared.read.XReadFault.TheVariants as markup
 use Rattle.rng_simplify.specs.declared.fault.SchemaFault.{SchemaFault}
 use Rattle.rng_simplify.specs.declared.fault.SchemaFault.TheVariants.{Absent, NotUtf8, BadUri, Failed, NoMemory, Unreadable}
 use Rattle.rng_simplify.specs.declared.load.Loaded.{Loaded}
@@ -79,19 +81,21 @@ IsOfReading cause.Syntax = Unit {0}
 IsOfReading cause.TooDeep = Unit {0}
 IsOfReading cause.UndeclaredPrefix = Unit {0}
 IsOfReading cause.Twice = Unit {0}
+IsOfReading cause.BadMarkup = Unit {0}
+IsOfReading cause.BadForm = Unit {0}
 IsOfReading why = ⊥
 
 pub record IsRefusedText (bytes : List ℕ) (why : Cause) : Type 0 where
   pub is_text : IsUtf8 bytes
-  pub refused : Refuses bytes why
+  pub refused : RefusesFile bytes why
   pub of_reading : IsOfReading why
 
 pub record SaysText (bytes : List ℕ) (surface : Surface) : Type 0 where
   pub is_text : IsUtf8 bytes
-  pub reads : Reads bytes (surface_of surface)
+  pub reads : ReadsFile bytes (surface_of surface)
   pub texts : HasUtf8Texts (surface_of surface)
 
--- the refusal of a text that isn't read
+-- the refusal of a text in the compact syntax that isn't read
 abbrev pub unread_as : ReadFault → SchemaFault
 unread_as (read.Lex (lex.BadEscape at)) = Unreadable cause.BadEscape
 unread_as (read.Lex (lex.BadLiteral at)) = Unreadable cause.BadLiteral
@@ -103,11 +107,24 @@ unread_as (read.UndeclaredPrefix prefix) = Unreadable cause.UndeclaredPrefix
 unread_as (read.Twice prefix) = Unreadable cause.Twice
 unread_as read.NoMemory = NoMemory
 
--- it says why the text isn't read
-abbrev pub Unreads : List ℕ → SchemaFault → Type 0
-Unreads text (Unreadable why) = Refuses text why × IsOfReading why
-Unreads text NoMemory = Unit {0}
-Unreads text other = ⊥
+-- the refusal of a text in the XML syntax that isn't read
+abbrev pub unread_markup_as : XReadFault → SchemaFault
+unread_markup_as (markup.BadMarkup at) = Unreadable cause.BadMarkup
+unread_markup_as (markup.TooDeep at) = Unreadable cause.TooDeep
+unread_markup_as (markup.BadForm at) = Unreadable cause.BadForm
+unread_markup_as (markup.UndeclaredPrefix prefix) = Unreadable cause.UndeclaredPrefix
+unread_markup_as markup.NoMemory = NoMemory
+
+-- what a text says, or why it isn't read, in the XML syntax or the compact one
+abbrev pub SaysAs : Bool → List ℕ → Result Surface SchemaFault → Type 0
+SaysAs in_markup text (Ok surface) = ReadsAs in_markup text (surface_of surface) × HasUtf8Texts (surface_of surface)
+SaysAs in_markup text (Err (Unreadable why)) = RefusesAs in_markup text why × IsOfReading why
+SaysAs in_markup text (Err NoMemory) = Unit {0}
+SaysAs in_markup text (Err other) = ⊥
+
+-- the same in the syntax that it is written in
+abbrev pub SaysIn : List ℕ → Result Surface SchemaFault → Type 0
+SaysIn text result = SaysAs (is_markup text) text result
 
 -- what the bytes under a URI say
 abbrev pub SaysBytes : List ℕ → List ℕ → Result Surface SchemaFault → Type 0
@@ -132,14 +149,14 @@ Fetches told uri before after (Err NoMemory) = after ≡ before
 Fetches told uri before after (Err other) = ⊥
 
 -- what the file of a URI says
-abbrev pub ReadsFile : Option FileMap → List ℕ → ℕ → ℕ → Result Surface SchemaFault → Type 0
-ReadsFile told uri before after (Ok surface) =
+abbrev pub SaysFile : Option FileMap → List ℕ → ℕ → ℕ → Result Surface SchemaFault → Type 0
+SaysFile told uri before after (Ok surface) =
     IfTold told (λ files. Says files uri (surface_of surface)) × HasUtf8Texts (surface_of surface) × (after ≡ before)
-ReadsFile told uri before after (Err (Absent absent)) = (absent ≡ uri) × IfTold told (λ files. files uri ≡ None) × (after ≡ before)
-ReadsFile told uri before after (Err (NotUtf8 wrong at)) =
+SaysFile told uri before after (Err (Absent absent)) = (absent ≡ uri) × IfTold told (λ files. files uri ≡ None) × (after ≡ before)
+SaysFile told uri before after (Err (NotUtf8 wrong at)) =
     (wrong ≡ uri) × IfTold told (λ files. (bytes : List ℕ) × (files uri ≡ Some bytes) × IsNoTextAt bytes at) × (after ≡ before)
-ReadsFile told uri before after (Err (Unreadable why)) =
+SaysFile told uri before after (Err (Unreadable why)) =
     IsOfReading why × IfTold told (λ files. (bytes : List ℕ) × (files uri ≡ Some bytes) × IsRefusedText bytes why) × (after ≡ before)
-ReadsFile told uri before after (Err Failed) = Rose before after
-ReadsFile told uri before after (Err NoMemory) = after ≡ before
-ReadsFile told uri before after (Err (BadUri text)) = ⊥
+SaysFile told uri before after (Err Failed) = Rose before after
+SaysFile told uri before after (Err NoMemory) = after ≡ before
+SaysFile told uri before after (Err (BadUri text)) = ⊥

@@ -8,7 +8,7 @@ ghost use Rattle.rng_simplify.specs.Composition.{MadeIsComposed, RefusedIsBroken
 ghost use Rattle.rng_simplify.specs.SuppliedPieces.{PatternsAreComposed};
 
 use nx_host::uri::{joins_is_decided, texts_join_or_are_bad};
-use rnc_parse::law::texts_are_read_or_refused;
+use rngx_read::law::texts_are_read_or_refused;
 
 /// What is made of a pattern, with pieces for the files that it mentions, is that pattern in one piece.
 pub fn patterns_are_composed()

@@ -2,7 +2,8 @@
 //!
 //! `simplify` goes through these steps. None of them goes from file to file or from reference to reference by recursion.
 //!
-//! 1. `load`: files are fetched and read, depth first, with those that they mention (`mention`).
+//! 1. `load`: files are fetched and read, each in the syntax that its first character tells, depth first, with those that they
+//!    mention (`mention`).
 //! 2. `compose`: they are put into one piece of numbered nodes (`node`). There each name has its namespace (`class`), what is
 //!    short is written out, and definitions that an include replaces are left out (`replace`).
 //! 3. `resolve`: definitions of one name in one grammar are combined (`names`), and references lead to them. Name classes that

@@ -1,10 +1,10 @@
 //! Files fetched and read: the first one, and all that are reached from it, depth first in the order of the references.
 
-ghost use Rattle.std.specs.Prelude.{◌≡◌, ◌∷◌, ◌++◌, [], List, ℕ, reverse, Err, IfOk, IsUtf8};
+ghost use Rattle.std.specs.Prelude.{◌≡◌, ◌∷◌, ◌++◌, ◌≤◌, [], List, ℕ, true, false, reverse, Err, IfOk, IsUtf8};
 ghost use Rattle.std.specs.List.{list_any};
 ghost use Rattle.std.specs.Str.{bytes_eq};
 ghost use Rattle.rng_simplify.specs.declared.load.Link.{Link as TheLink};
-ghost use Rattle.rng_simplify.specs.LoadedFiles.{Loads, unread_as, SaysBytes, IsAbsence, Fetches, ReadsFile};
+ghost use Rattle.rng_simplify.specs.LoadedFiles.{Loads, unread_as, unread_markup_as, SaysAs, SaysIn, SaysBytes, IsAbsence, Fetches, SaysFile};
 ghost use Rattle.rng_simplify.specs.KeptMentions.{IsTextMention};
 ghost use Rattle.rng_simplify.specs.FileChains.{IsAdded, IsUnderWay, uris_of, MakesUri, IsBadText, NextUri, OpensFile};
 ghost use Rattle.rng_simplify.specs.FileChains.{GoesOn, Follows, IsTextLink, AreTextLinks, AreOpened};
@@ -15,13 +15,16 @@ use crate::names::Names;
 use nx_base::cause::Cause;
 use nx_base::memory::NoMemory;
 use nx_base::sequence::{Bytes, TryCopy};
+use nx_base::steps::Steps;
 use nx_host::files::{FileFault, Files};
 use nx_host::uri::{self, UriFault};
 use nx_host::utf8::{text_front, text_of};
 use rnc_lex::fault::LexFault;
 use rnc_parse::read::{ReadFault, read};
 use rnc_parse::surface::Surface;
+use rngx_read::read::{self as markup, XReadFault, is_markup};
 use std::alloc::Global;
+use std::sync::ledger::Ledger;
 
 /// A file that was read.
 #[derive(Drop)]
@@ -52,13 +55,15 @@ struct Loader {
 
 /// The file and all that it leads to. They are read in the order in which they are mentioned, an outer file before those that
 /// it mentions; the answer has them the other way round, the first one last.
-pub(crate) fn load<F: Files>(
+pub(crate) fn load<F: Files, L: Ledger>(
     alloc: Global,
     uri: &str,
     files: &mut F,
+    steps: &mut Steps<L>,
 ) -> Result<Vec<Loaded>, SchemaFault>
     ensures loads { Loads (F.told files.old) uri.now (F.faults files.old) (F.faults files.new) result }
     ensures map { F.told files.new ≡ F.told files.old }
+    ensures steps { steps.old ≤ steps.new }
 {
     let mut loader = Loader {
         alloc,
@@ -67,23 +72,80 @@ pub(crate) fn load<F: Files>(
         opened: Names::new(alloc),
     };
     let first = Bytes::from_vec(Vec::from_slice(alloc, uri.as_bytes())?);
-    loader.open(first, Bytes::new(alloc), files)?;
-    loader.follow(files)?;
+    loader.open(first, Bytes::new(alloc), files, steps)?;
+    loader.follow(files, steps)?;
     let Loader { mut loaded, .. } = loader;
     loaded.reverse();
     Ok(loaded)
 }
 
 /// What the bytes of a file say.
-fn surface_of(alloc: Global, uri: &Bytes, bytes: &Bytes) -> Result<Surface, SchemaFault>
-    ensures { SaysBytes uri.now bytes.now result }
+fn surface_of<L: Ledger>(
+    alloc: Global,
+    uri: &Bytes,
+    bytes: &Bytes,
+    steps: &mut Steps<L>,
+) -> Result<Surface, SchemaFault>
+    ensures said { SaysBytes uri.now bytes.now result }
+    ensures steps { steps.old ≤ steps.new }
 {
     match str::from_utf8(bytes.as_slice()) {
-        Ok(text) => match read(alloc, text) {
-            Ok(surface) => Ok(surface),
-            Err(fault) => Err(unread(fault)),
-        },
+        Ok(text) => surface_in(alloc, text, steps),
         Err(_) => Err(not_utf8(uri, bytes)),
+    }
+}
+
+/// What a text says, in the syntax that it is written in.
+fn surface_in<L: Ledger>(
+    alloc: Global,
+    text: &str,
+    steps: &mut Steps<L>,
+) -> Result<Surface, SchemaFault>
+    ensures said { SaysIn text.now result }
+    ensures steps { steps.old ≤ steps.new }
+{
+    if is_markup(text) {
+        surface_in_markup(alloc, text, steps)
+    } else {
+        surface_in_compact(alloc, text)
+    }
+}
+
+/// What a text in the XML syntax says.
+fn surface_in_markup<L: Ledger>(
+    alloc: Global,
+    text: &str,
+    steps: &mut Steps<L>,
+) -> Result<Surface, SchemaFault>
+    ensures said { SaysAs true text.now result }
+    ensures steps { steps.old ≤ steps.new }
+{
+    match markup::read(alloc, text, steps) {
+        Ok(surface) => Ok(surface),
+        Err(fault) => Err(unread_markup(fault)),
+    }
+}
+
+/// What a text in the compact syntax says.
+fn surface_in_compact(alloc: Global, text: &str) -> Result<Surface, SchemaFault>
+    ensures { SaysAs false text.now result }
+{
+    match read(alloc, text) {
+        Ok(surface) => Ok(surface),
+        Err(fault) => Err(unread(fault)),
+    }
+}
+
+/// The refusal of a file in the XML syntax that can't be read.
+fn unread_markup(fault: XReadFault) -> SchemaFault
+    ensures { result ≡ unread_markup_as fault }
+{
+    match fault {
+        XReadFault::BadMarkup(_) => SchemaFault::Unreadable(Cause::BadMarkup),
+        XReadFault::TooDeep(_) => SchemaFault::Unreadable(Cause::TooDeep),
+        XReadFault::BadForm(_) => SchemaFault::Unreadable(Cause::BadForm),
+        XReadFault::UndeclaredPrefix(_) => SchemaFault::Unreadable(Cause::UndeclaredPrefix),
+        XReadFault::NoMemory => SchemaFault::NoMemory,
     }
 }
 
@@ -98,7 +160,7 @@ fn not_utf8(uri: &Bytes, bytes: &Bytes) -> SchemaFault
     }
 }
 
-/// The refusal of a file that can't be read.
+/// The refusal of a file in the compact syntax that can't be read.
 fn unread(fault: ReadFault) -> SchemaFault
     ensures { result ≡ unread_as fault }
 {
@@ -140,13 +202,19 @@ fn absent(uri: &Bytes) -> SchemaFault
 }
 
 /// What the file of a URI says.
-fn file_at<F: Files>(alloc: Global, uri: &Bytes, files: &mut F) -> Result<Surface, SchemaFault>
+fn file_at<F: Files, L: Ledger>(
+    alloc: Global,
+    uri: &Bytes,
+    files: &mut F,
+    steps: &mut Steps<L>,
+) -> Result<Surface, SchemaFault>
     requires { IsUtf8 uri.now }
-    ensures file { ReadsFile (F.told files.old) uri.now (F.faults files.old) (F.faults files.new) result }
+    ensures file { SaysFile (F.told files.old) uri.now (F.faults files.old) (F.faults files.new) result }
     ensures map { F.told files.new ≡ F.told files.old }
+    ensures steps { steps.old ≤ steps.new }
 {
     let bytes = fetched(alloc, uri, files)?;
-    surface_of(alloc, uri, &bytes)
+    surface_of(alloc, uri, &bytes, steps)
 }
 
 /// The URI that the text denotes in the file of that URI.
@@ -174,11 +242,12 @@ fn bad_uri(text: &Bytes) -> SchemaFault
 
 impl Loader {
     /// Fetches and reads a file, and adds it to the chain.
-    fn open<F: Files>(
+    fn open<F: Files, L: Ledger>(
         &mut self,
         uri: Bytes,
         inherited: Bytes,
         files: &mut F,
+        steps: &mut Steps<L>,
     ) -> Result<(), SchemaFault>
         requires text { IsUtf8 uri }
         requires known { AreOpened self.old.opened (reverse self.old.chain.items) }
@@ -186,8 +255,9 @@ impl Loader {
         ensures opened { OpensFile (F.told files.old) uri inherited (F.faults files.old)
             (F.faults files.new) self.old.chain.items self.new.chain.items self.old.loaded.items self.new.loaded.items result }
         ensures map { F.told files.new ≡ F.told files.old }
+        ensures steps { steps.old ≤ steps.new }
     {
-        let surface = file_at(self.alloc, &uri, files)?;
+        let surface = file_at(self.alloc, &uri, files, steps)?;
         self.add(uri, Loaded { inherited, surface })?;
         Ok(())
     }
@@ -228,24 +298,34 @@ impl Loader {
 
     /// Reads what the files of the chain mention, and what that leads to. Each turn reads a file or ends one, and a file
     /// takes memory.
-    fn follow<F: Files>(&mut self, files: &mut F) -> Result<(), SchemaFault>
+    fn follow<F: Files, L: Ledger>(
+        &mut self,
+        files: &mut F,
+        steps: &mut Steps<L>,
+    ) -> Result<(), SchemaFault>
         requires texts { AreTextLinks (reverse self.old.chain.items) }
         requires known { AreOpened self.old.opened (reverse self.old.chain.items) }
         ensures followed { (uri : List ℕ) → IsUnderWay (F.told files.old) uri (reverse self.old.chain.items) self.old.loaded.items
             → Follows (F.told files.old) uri (F.faults files.old) (F.faults files.new) self.new.loaded.items result }
         ensures map { F.told files.new ≡ F.told files.old }
+        ensures steps { steps.old ≤ steps.new }
     {
         for _turn in 0..u64::MAX {
             let Some(link) = self.chain.pop() else {
                 return Ok(());
             };
-            self.go_on(link, files)?;
+            self.go_on(link, files, steps)?;
         }
         Err(SchemaFault::NoMemory)
     }
 
     /// Reads the next file that this one mentions, or ends it.
-    fn go_on<F: Files>(&mut self, link: Link, files: &mut F) -> Result<(), SchemaFault>
+    fn go_on<F: Files, L: Ledger>(
+        &mut self,
+        link: Link,
+        files: &mut F,
+        steps: &mut Steps<L>,
+    ) -> Result<(), SchemaFault>
         requires link { IsTextLink link }
         requires chain { AreTextLinks (reverse self.old.chain.items) }
         requires known { AreOpened self.old.opened (link ∷ reverse self.old.chain.items) }
@@ -256,20 +336,22 @@ impl Loader {
             (reverse self.new.chain.items) self.new.loaded.items result }
         ensures faults { IfOk result (λ _. F.faults files.new ≡ F.faults files.old) }
         ensures map { F.told files.new ≡ F.told files.old }
+        ensures steps { steps.old ≤ steps.new }
     {
         let Link { uri, mut waiting } = link;
         match waiting.pop() {
-            Some(mention) => self.open_mention(Link { uri, waiting }, mention, files),
+            Some(mention) => self.open_mention(Link { uri, waiting }, mention, files, steps),
             None => Ok(()),
         }
     }
 
     /// Reads a file that this one mentions.
-    fn open_mention<F: Files>(
+    fn open_mention<F: Files, L: Ledger>(
         &mut self,
         link: Link,
         mention: Mention,
         files: &mut F,
+        steps: &mut Steps<L>,
     ) -> Result<(), SchemaFault>
         requires link { IsTextLink link }
         requires mention { IsTextMention mention }
@@ -284,10 +366,11 @@ impl Loader {
             (reverse self.new.chain.items) self.new.loaded.items result }
         ensures faults { IfOk result (λ _. F.faults files.new ≡ F.faults files.old) }
         ensures map { F.told files.new ≡ F.told files.old }
+        ensures steps { steps.old ≤ steps.new }
     {
         let uri = self.next_uri(&link.uri, &mention.text)?;
         self.chain.push(link)?;
-        self.open(uri, mention.inherited, files)
+        self.open(uri, mention.inherited, files, steps)
     }
 
     /// The URI that the text denotes in the file of that URI, which is the last one behind the chain.

@@ -1,6 +1,6 @@
 //! The grammar that schema files define.
 
-ghost use Rattle.std.specs.Prelude.{◌≡◌};
+ghost use Rattle.std.specs.Prelude.{◌≡◌, ◌≤◌};
 ghost use Rattle.rng_simplify.specs.Refusals.{cells_of};
 ghost use Rattle.rng_simplify.specs.CellTexts.{AreTexts};
 ghost use Rattle.rng_simplify.specs.Composition.{GivesWhole};
@@ -19,26 +19,42 @@ use crate::load::load;
 use crate::order::order;
 use crate::resolve::resolve;
 use crate::types::types_of;
+use nx_base::steps::Steps;
 use nx_host::files::Files;
 use rng_core::grammar::Grammar;
 use std::alloc::Global;
+use std::sync::ledger::Ledger;
 
-/// The grammar that the file of the URI defines, with those that it leads to. They are fetched depth first, in the order of
-/// their references, an outer file before those that it refers to, and a file that is named twice is fetched twice.
-pub fn simplify<F: Files>(alloc: Global, uri: &str, files: &mut F) -> Result<Grammar, SchemaFault>
+/// The grammar that the file of the URI defines, with those that it leads to (ISO/IEC 19757-2, section 7). They are fetched depth
+/// first, in the order of their references, an outer file before those that it refers to, and a file that is named twice is
+/// fetched twice. Each is read in the syntax that its first character tells, the compact one or XML; the tokens of the latter
+/// are counted.
+pub fn simplify<F: Files, L: Ledger>(
+    alloc: Global,
+    uri: &str,
+    files: &mut F,
+    steps: &mut Steps<L>,
+) -> Result<Grammar, SchemaFault>
     ensures answers { Answers (F.told files.old) uri.now (F.faults files.old) (F.faults files.new) result }
     ensures map { F.told files.new ≡ F.told files.old }
+    ensures steps { steps.old ≤ steps.new }
 {
-    let whole = whole_schema(alloc, uri, files)?;
+    let whole = whole_schema(alloc, uri, files, steps)?;
     grammar_of(alloc, &whole)
 }
 
 /// The files that are reached from the URI, in one piece.
-fn whole_schema<F: Files>(alloc: Global, uri: &str, files: &mut F) -> Result<Whole, SchemaFault>
+fn whole_schema<F: Files, L: Ledger>(
+    alloc: Global,
+    uri: &str,
+    files: &mut F,
+    steps: &mut Steps<L>,
+) -> Result<Whole, SchemaFault>
     ensures gives { GivesWhole (F.told files.old) uri.now (F.faults files.old) (F.faults files.new) result }
     ensures map { F.told files.new ≡ F.told files.old }
+    ensures steps { steps.old ≤ steps.new }
 {
-    let loaded = load(alloc, uri, files)?;
+    let loaded = load(alloc, uri, files, steps)?;
     compose(alloc, loaded)
 }
 
