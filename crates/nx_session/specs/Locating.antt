@@ -52,7 +52,7 @@ IsRefusedAuto old before after cause =
     × IsRefusedFor before.map uri before.faults after.faults cause)
 
 -- the document is held against the schema that the rules give for it, or against none where they give none, and the reply tells
--- which; a refused command leaves all as it was. How many tokens are cut to locate it isn't said
+-- which; a refused command leaves all as it was. How many tokens are cut to locate it, and to read it, isn't said
 abbrev pub SchemaAutoStep : EditorState → FilesState → Reply → EditorState → FilesState → Type 0
 SchemaAutoStep old before (Located (Some uri)) new after =
     LocatesFor old before before.faults (Ok (Some uri)) × HoldsFile uri old before new after

@@ -102,7 +102,8 @@ abbrev pub HoldsFile : List ℕ → EditorState → FilesState → EditorState �
 HoldsFile uri old before new after =
     (schema : Grammar) × GivesSchema before.map uri schema × (new ≡ with_schema old (Some schema)) × (after ≡ before)
 
--- the document is held against the schema of the file; a refused command leaves all as it was, the schema that was held before, too
+-- the document is held against the schema of the file; a refused command leaves all as it was, the schema that was held before, too.
+-- How many tokens are cut to read schemas in the XML syntax isn't said
 abbrev pub SchemaFileStep : List ℕ → EditorState → FilesState → Reply → EditorState → FilesState → Type 0
 SchemaFileStep uri_text old before Silent new after =
     (uri : List ℕ) × Joins work_folder uri_text uri × HoldsFile uri old before new after

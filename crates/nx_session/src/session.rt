@@ -223,7 +223,7 @@ impl Session {
             Command::Errors => self.errors(views, steps),
             Command::Slice(count) => self.slice(*count, steps),
             Command::Stats => Ok(Reply::Taken(self.marks.taken())),
-            Command::SchemaFile(uri) => self.hold_schema_file(uri, files),
+            Command::SchemaFile(uri) => self.hold_schema_file(uri, files, steps),
             Command::SchemaNone => self.hold_none(),
             Command::SchemaAuto => self.locate_schema(files, steps),
             Command::Complete(at) => self.complete(*at, steps),

@@ -31,7 +31,7 @@ impl Session {
     {
         match self.located(files, steps)? {
             Some(uri) => {
-                self.hold_file(text_of(&uri), files)?;
+                self.hold_file(text_of(&uri), files, steps)?;
                 Ok(Reply::Located(Some(uri)))
             }
             None => {

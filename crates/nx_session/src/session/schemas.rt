@@ -20,6 +20,7 @@ use deriv_pool::pool::Pool;
 use nx_base::cause::Cause;
 use nx_base::memory::NoMemory;
 use nx_base::sequence::Bytes;
+use nx_base::steps::Steps;
 use nx_host::files::Files;
 use nx_host::uri::{self, WORK_FOLDER};
 use nx_host::utf8::text_of;
@@ -35,6 +36,7 @@ use rng_simplify::fault::SchemaFault;
 use rng_simplify::simplify::simplify;
 use std::alloc::Global;
 use std::mem;
+use std::sync::ledger::Ledger;
 
 /// Why a schema is refused that the files don't define.
 fn undefined(fault: SchemaFault) -> Refusal
@@ -93,12 +95,17 @@ fn usable(alloc: Global, grammar: Grammar) -> Result<Schema, Refusal>
 }
 
 /// The schema of the file under the URI.
-fn schema_at<F: Files>(alloc: Global, uri: &str, files: &mut F) -> Result<Schema, Refusal>
+fn schema_at<F: Files, L: Ledger>(
+    alloc: Global,
+    uri: &str,
+    files: &mut F,
+    steps: &mut Steps<L>,
+) -> Result<Schema, Refusal>
     ensures answers { SchemaAnswers (F.told files.old) uri.now (F.faults files.old) (F.faults files.new) result }
     ensures map { F.told files.new ≡ F.told files.old }
     ensures text { IfErr result RefusalIsText }
 {
-    match simplify(alloc, uri, files) {
+    match simplify(alloc, uri, files, steps) {
         Ok(grammar) => usable(alloc, grammar),
         Err(fault) => Err(undefined(fault)),
     }
@@ -106,10 +113,11 @@ fn schema_at<F: Files>(alloc: Global, uri: &str, files: &mut F) -> Result<Schema
 
 impl Session {
     /// Holds the document against the schema of the file from now on.
-    pub(super) fn hold_schema_file<F: Files>(
+    pub(super) fn hold_schema_file<F: Files, L: Ledger>(
         &mut self,
         uri_text: &Bytes,
         files: &mut F,
+        steps: &mut Steps<L>,
     ) -> Result<Reply, Refusal>
         requires { IsUtf8 uri_text.now }
         ensures step { SchemaFileStep uri_text.now self.old.editor (files_state (F.told files.old) (F.faults files.old)) (reply_of result)
@@ -118,7 +126,7 @@ impl Session {
         ensures text { ReplyIsText (reply_of result) }
     {
         let uri = uri::join(self.alloc, WORK_FOLDER, text_of(uri_text))?;
-        self.hold_file(text_of(&uri), files)?;
+        self.hold_file(text_of(&uri), files, steps)?;
         Ok(Reply::Silent)
     }
 
@@ -133,7 +141,12 @@ impl Session {
     }
 
     /// Holds the document against the schema of the file under the URI from now on.
-    pub(super) fn hold_file<F: Files>(&mut self, uri: &str, files: &mut F) -> Result<(), Refusal>
+    pub(super) fn hold_file<F: Files, L: Ledger>(
+        &mut self,
+        uri: &str,
+        files: &mut F,
+        steps: &mut Steps<L>,
+    ) -> Result<(), Refusal>
         ensures held { OnOk result (HoldsFile uri.now self.old.editor (files_state (F.told files.old) (F.faults files.old))
             self.new.editor (files_state (F.told files.new) (F.faults files.new))) }
         ensures marks { OnOk result (self.new.marks ≡ started (rules_for self.new.editor.schema).first) }
@@ -142,7 +155,7 @@ impl Session {
         ensures map { F.told files.new ≡ F.told files.old }
         ensures text { IfErr result RefusalIsText }
     {
-        let schema = schema_at(self.alloc, uri, files)?;
+        let schema = schema_at(self.alloc, uri, files, steps)?;
         let matcher = Pool::new(self.alloc, schema)?;
         self.hold_schema(Some(matcher))?;
         Ok(())
