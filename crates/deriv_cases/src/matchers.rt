@@ -1,5 +1,6 @@
 //! The matchers that the cases are played against.
 
+ghost use Rattle.std.specs.Prelude.{◌≡◌, ◌<◌};
 ghost use Rattle.rng_core.specs.Soundness.{IsSound};
 ghost use Rattle.rng_kept.specs.Live.{IsLive};
 ghost use Rattle.rng_live.specs.Schemas.{schema_language};
@@ -7,6 +8,7 @@ ghost use Rattle.rng_live.specs.Schemas.{schema_language};
 use deriv_plain::plain::Plain;
 use deriv_pool::pool::Pool;
 use nx_base::memory::NoMemory;
+use nx_base::steps::Steps;
 use nx_host::memory_files::SureFiles;
 use rng_core::grammar::Grammar;
 use rng_live::matcher::Matcher;
@@ -15,6 +17,8 @@ use rng_live::schema::Schema;
 use rng_restrict::check::check;
 use rng_simplify::simplify::simplify;
 use std::alloc::Global;
+use std::marker::Brand;
+use std::sync::ledger::{Blank, Ledger};
 
 const FILE: &str = "file:///work/case.rnc";
 
@@ -50,12 +54,22 @@ fn matcher_of_grammar<M: Made>(alloc: Global, grammar: Grammar) -> Option<M>
     }
 }
 
-/// The matcher of a schema that is written in the compact syntax; none where it can't be used.
-pub(crate) fn matcher_of<M: Made>(alloc: Global, text: &str) -> Option<M> {
+/// The matcher of a schema, with a count of tokens that are cut; none where it can't be used.
+fn matcher_by<M: Made, L: Ledger>(alloc: Global, text: &str, blank: Blank) -> Option<M>
+    requires name { blank.name ≡ L.name }
+    requires parts { blank.parts ≡ L.parts }
+    requires some { 0 < L.parts }
+{
     let mut files = SureFiles::new(alloc);
     files.add(FILE, text.as_bytes()).ok()?;
-    match simplify(alloc, FILE, &mut files) {
+    let mut steps = Steps::<L>::new(blank);
+    match simplify(alloc, FILE, &mut files, &mut steps) {
         Ok(grammar) => matcher_of_grammar(alloc, grammar),
         Err(_) => None,
     }
+}
+
+/// The matcher of a schema that is written in the compact syntax; none where it can't be used.
+pub(crate) fn matcher_of<M: Made>(alloc: Global, text: &str) -> Option<M> {
+    matcher_by::<M, Brand>(alloc, text, Blank::new(1))
 }

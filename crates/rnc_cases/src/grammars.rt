@@ -1,8 +1,11 @@
 //! Files of schemas, and the grammar that they define or why they define none.
 
+ghost use Rattle.std.specs.Prelude.{◌≡◌, ◌<◌};
+
 use crate::is_told;
 use nx_base::memory::NoMemory;
 use nx_base::sequence::Bytes;
+use nx_base::steps::Steps;
 use nx_host::files::Files;
 use nx_host::memory_files::{MemFiles, SureFiles};
 use rng_core::grammar::{Def, Grammar, Pat};
@@ -11,7 +14,9 @@ use rng_simplify::fault::SchemaFault;
 use rng_simplify::simplify::simplify;
 use rng_types::datatype::Except;
 use std::alloc::Global;
+use std::marker::Brand;
 use std::process::Abort;
+use std::sync::ledger::{Blank, Ledger};
 use std::test::Fail;
 
 /// A grammar as one line: the start, and then each definition by its number. Of a type only the excepts are told.
@@ -232,9 +237,28 @@ fn let_go(_answer: Result<Grammar, SchemaFault>) {}
 /// The first file of each schema.
 const FIRST: &str = "file:///work/m.rnc";
 
-/// The grammar that these files define, or why they define none.
-fn told<F: Files>(alloc: Global, files: &mut F) -> Result<String, NoMemory> {
-    let answer = simplify(alloc, FIRST, files);
+/// What simplification answers, with a count of tokens that are cut.
+fn simplified_by<F: Files, L: Ledger>(
+    alloc: Global,
+    first: &str,
+    files: &mut F,
+    blank: Blank,
+) -> Result<Grammar, SchemaFault>
+    requires name { blank.name ≡ L.name }
+    requires parts { blank.parts ≡ L.parts }
+    requires some { 0 < L.parts }
+{
+    let mut steps = Steps::<L>::new(blank);
+    simplify(alloc, first, files, &mut steps)
+}
+
+fn simplified<F: Files>(alloc: Global, first: &str, files: &mut F) -> Result<Grammar, SchemaFault> {
+    simplified_by::<F, Brand>(alloc, first, files, Blank::new(1))
+}
+
+/// The grammar that these files define, of which this is the first, or why they define none.
+fn told<F: Files>(alloc: Global, first: &str, files: &mut F) -> Result<String, NoMemory> {
+    let answer = simplified(alloc, first, files);
     let told = written(alloc, &answer);
     let_go(answer);
     told
@@ -242,7 +266,7 @@ fn told<F: Files>(alloc: Global, files: &mut F) -> Result<String, NoMemory> {
 
 /// Whether they define a grammar, or why not.
 fn ending_of_files(alloc: Global, files: &mut SureFiles) -> Result<String, NoMemory> {
-    let answer = simplify(alloc, FIRST, files);
+    let answer = simplified(alloc, FIRST, files);
     let told = ending_written(alloc, &answer);
     let_go(answer);
     told
@@ -268,20 +292,29 @@ fn add_named(alloc: Global, files: &mut SureFiles, part: &str) -> Result<(), NoM
 }
 
 /// Adds files behind one another: the first one, and each other one behind `# ` and its name in a line of its own.
-fn add_all(alloc: Global, files: &mut SureFiles, schema: &str) -> Result<(), NoMemory> {
-    let (first, others) = schema.split_once("\n# ").unwrap_or((schema, ""));
-    files.add(FIRST, first.as_bytes())?;
+fn add_all(
+    alloc: Global,
+    files: &mut SureFiles,
+    first: &str,
+    schema: &str,
+) -> Result<(), NoMemory> {
+    let (text, others) = schema.split_once("\n# ").unwrap_or((schema, ""));
+    files.add(first, text.as_bytes())?;
     for other in others.split("\n# ") {
         add_named(alloc, files, other)?;
     }
     Ok(())
 }
 
-/// The grammar of a schema, or why there is none.
-fn told_of(alloc: Global, schema: &str) -> Result<String, NoMemory> {
+/// The grammar of a schema whose first file has this URI, or why there is none.
+pub(crate) fn told_under(alloc: Global, first: &str, schema: &str) -> Result<String, NoMemory> {
     let mut files = SureFiles::new(alloc);
-    add_all(alloc, &mut files, schema)?;
-    told(alloc, &mut files)
+    add_all(alloc, &mut files, first, schema)?;
+    told(alloc, first, &mut files)
+}
+
+fn told_of(alloc: Global, schema: &str) -> Result<String, NoMemory> {
+    told_under(alloc, FIRST, schema)
 }
 
 /// Compares what is told of each schema with what stands behind `=> `. Between rows is a blank line.
@@ -293,7 +326,7 @@ fn compare(rt: &impl Abort, alloc: Global, rows: &str) {
 }
 
 /// Files that are included or external.
-const FILES: &str = r##"include "i.rnc" { start = element a { x } }
+pub(crate) const FILES: &str = r##"include "i.rnc" { start = element a { x } }
 # i.rnc
 start = element b { x }
 x = element c { empty }
@@ -442,7 +475,7 @@ element
 => Syntax"##;
 
 /// Definitions and references.
-const DEFINITIONS: &str = r#"
+pub(crate) const DEFINITIONS: &str = r#"
 => NoStart
 
 x = empty
@@ -511,7 +544,7 @@ element a { element b { text }*, mixed { attribute c { text }? }, element d { no
 => #2; #0 b = text; #1 d = none; #2 a = (((empty|#0+),(text&(empty|@c text))),#1+)"#;
 
 /// What is short for something else, what is not allowed, and what is empty.
-const NORMAL_FORMS: &str = r#"text?
+pub(crate) const NORMAL_FORMS: &str = r#"text?
 => (empty|text)
 
 text*
@@ -605,7 +638,7 @@ text* & attribute a { empty }
 => ((empty|text+)&@a empty)"#;
 
 /// Classes of names.
-const CLASSES: &str = r#"namespace u = "v"
+pub(crate) const CLASSES: &str = r#"namespace u = "v"
 element a | u:b | (u:* - (u:c | d)) { empty }
 => #0; #0 ((a|v:b)|(v:*-(v:c|d))) = empty
 
@@ -656,7 +689,7 @@ element * - (a | u:*) { empty }
 => XmlnsName"#;
 
 /// Datatypes and what is taken from them.
-const TYPES: &str = r#"element n { xsd:int { minInclusive = "5" maxInclusive = "4" } }
+pub(crate) const TYPES: &str = r#"element n { xsd:int { minInclusive = "5" maxInclusive = "4" } }
 => #0; #0 n = type
 
 start = empty x = xsd:QName
@@ -771,7 +804,7 @@ fn types_are_found(rt: HostRuntime) {
 
 /// What is told of no files.
 fn told_of_none(alloc: Global) -> Result<String, NoMemory> {
-    told(alloc, &mut SureFiles::new(alloc))
+    told(alloc, FIRST, &mut SureFiles::new(alloc))
 }
 
 /// What is told where the second file ends being text at its offset 11, behind two bytes that begin a character.
@@ -779,7 +812,7 @@ fn told_of_bytes(alloc: Global) -> Result<String, NoMemory> {
     let mut files = SureFiles::new(alloc);
     files.add(FIRST, b"external \"p.rnc\"")?;
     files.add("file:///work/p.rnc", b"element a\xE2\x82A")?;
-    told(alloc, &mut files)
+    told(alloc, FIRST, &mut files)
 }
 
 #[test]
@@ -805,7 +838,7 @@ fn told_with_fault(alloc: Global, failing: u64) -> Result<String, NoMemory> {
         "file:///work/i.rnc",
         b"start = element b { x }\nx = element c { empty }",
     )?;
-    told(alloc, &mut files)
+    told(alloc, FIRST, &mut files)
 }
 
 #[test]
@@ -1042,7 +1075,7 @@ fn definitions_of(answer: &Result<Grammar, SchemaFault>) -> usize {
 
 /// How many definitions the grammar of the files has, and 0 where there is none.
 fn definitions(alloc: Global, files: &mut SureFiles) -> usize {
-    let answer = simplify(alloc, FIRST, files);
+    let answer = simplified(alloc, FIRST, files);
     let count = definitions_of(&answer);
     let_go(answer);
     count

@@ -1,11 +1,14 @@
-//! Cases for the compact syntax: schema files, as tokens, as what they say, and as the grammar that they define.
+//! Cases for the compact syntax: schema files, as tokens, as what they say, and as the grammar that they define, the last beside the
+//! same schemas in the XML syntax.
 //!
 //! Tests alone, so that the crates that they call are proved once: a crate that holds tests is proved a second time with them.
-//! Each module holds those of one crate: `tokens` of rnc_lex, `surfaces` of rnc_parse, `grammars` of rng_simplify.
+//! Each module holds those of one crate: `tokens` of rnc_lex, `surfaces` of rnc_parse, `grammars` and `markup` of rng_simplify.
 #![tactic(auto)]
 
 #[cfg(test)]
 mod grammars;
+#[cfg(test)]
+mod markup;
 #[cfg(test)]
 mod surfaces;
 #[cfg(test)]
