@@ -7,7 +7,7 @@ use std::alloc::Global;
 pub(crate) const SCRIPT: &str = "file:///work/run.nxs";
 
 /// Documents, of which two are no text, rules and schemas.
-const DOCUMENTS: [(&str, &[u8]); 38] = [
+const DOCUMENTS: [(&str, &[u8]); 46] = [
     ("file:///work/b.xml", b"a\xE2\x82A"),
     ("file:///work/c.xml", b"a\xE2\x82"),
     ("file:///work/d.xml", b"<d/>\n"),
@@ -109,6 +109,23 @@ const DOCUMENTS: [(&str, &[u8]); 38] = [
         "file:///work/row.rnc",
         b"element a { element b { empty }, element c { empty }?, element d { empty }, element e { empty } }",
     ),
+    ("file:///work/s1.rng", SECTIONS_IN_MARKUP),
+    (
+        "file:///work/bogus.rng",
+        b"<element name=\"a\" xmlns=\"http://relaxng.org/ns/structure/1.0\"><bogus/></element>",
+    ),
+    ("file:///work/cut.rng", b"<grammar"),
+    (
+        "file:///work/m.rng",
+        b"<grammar xmlns=\"http://relaxng.org/ns/structure/1.0\"><include href=\"s1.rnc\"/></grammar>",
+    ),
+    ("file:///work/both.rnc", b"include \"s1.rng\""),
+    ("file:///work/e/schemas.xml", RULES_OF_MARKUP),
+    (
+        "file:///work/e/page.rng",
+        b"<element name=\"page\" xmlns=\"http://relaxng.org/ns/structure/1.0\"><empty/></element>",
+    ),
+    ("file:///work/e/page.xml", b"<page/>\n"),
 ];
 
 const LOOPING_RULES: &[u8] =
@@ -123,6 +140,14 @@ pub(crate) const RULES: &[u8] =
 <typeId id=\"DocBook\" uri=\"docbook.rnc\"/>\n\
 </locatingRules>";
 
+/// Rules that name files in the XML syntax.
+const RULES_OF_MARKUP: &[u8] =
+    b"<locatingRules xmlns=\"http://thaiopensource.com/ns/locating-rules/1.0\">\n\
+<transformURI fromPattern=\"*.xml\" toPattern=\"*.rng\"/>\n\
+<uri pattern=\"*.rng\" typeId=\"RELAX NG\"/>\n\
+<typeId id=\"RELAX NG\" uri=\"../m.rng\"/>\n\
+</locatingRules>";
+
 /// Names of 15, 16 and 17 bytes, and a longer value.
 const LONG_NAMES: &[u8] =
     b"element abcdefghijklmno { element abcdefghijklmnop { element abcdefghijklmnopq { \
@@ -130,6 +155,12 @@ attribute abcdefghijklmnopq { \"on\" | \"a longer value\" }, element b { empty }
 
 const SECTIONS: &[u8] =
     b"start = element doc { attribute id { xsd:NCName }, element title { text }, element para { (text | element em { text })* }* }";
+
+/// A schema in the XML syntax, of a `doc` that holds a `title` alone.
+const SECTIONS_IN_MARKUP: &[u8] =
+    b"<grammar xmlns=\"http://relaxng.org/ns/structure/1.0\" datatypeLibrary=\"http://www.w3.org/2001/XMLSchema-datatypes\">\
+<start><element name=\"doc\"><attribute name=\"id\"><data type=\"NCName\"/></attribute>\
+<element name=\"title\"><text/></element></element></start></grammar>";
 
 /// The script, and documents beside it.
 pub(crate) fn files_with(alloc: Global, script: &[u8]) -> Result<SureFiles, NoMemory> {

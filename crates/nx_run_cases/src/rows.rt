@@ -171,7 +171,7 @@ pub(crate) const EDITED: [Row; 29] = [
 ];
 
 /// Documents that are held against schemas.
-pub(crate) const VALIDATED: [Row; 37] = [
+pub(crate) const VALIDATED: [Row; 43] = [
     (
         RUN,
         "schema \"s1.rnc\"\nerrors\n",
@@ -355,7 +355,7 @@ pub(crate) const VALIDATED: [Row; 37] = [
     (
         RUN,
         "schema \"a.rnc\"\nschema \"http://[\"\nschema \"none.rnc\"\nschema \"b.xml\"\nschema \"gone.rnc\"\nschema \"d.xml\"\ninsert 0 \"<n/>\"\nerrors\n",
-        "line 2 refused: BadUri\nline 3 refused: Absent file:///work/none.rnc\nline 4 refused: NotUtf8 file:///work/b.xml 3\nline 5 refused: BadUri\nline 6 refused: Unreadable BadCharacter\nerrors: 1\n0-4 Unknown n\n",
+        "line 2 refused: BadUri\nline 3 refused: Absent file:///work/none.rnc\nline 4 refused: NotUtf8 file:///work/b.xml 3\nline 5 refused: BadUri\nline 6 refused: Unreadable BadForm\nerrors: 1\n0-4 Unknown n\n",
         Status::Refused,
     ),
     (
@@ -396,6 +396,42 @@ pub(crate) const VALIDATED: [Row; 37] = [
         "schema \"row.rnc\"\ninsert 0 \"<a><e/></a>\"\nerrors\n",
         "errors: 1\n3-7 NotYet e needs b d\n",
         Status::Done,
+    ),
+    (
+        RUN,
+        "schema \"s1.rng\"\ninsert 0 \"<doc><title/></doc>\"\nerrors\n",
+        "errors: 1\n0-5 MissingAttributes id\n",
+        Status::Done,
+    ),
+    (
+        RUN,
+        "schema \"bogus.rng\"\n",
+        "line 1 refused: Unreadable BadForm\n",
+        Status::Refused,
+    ),
+    (
+        RUN,
+        "schema \"cut.rng\"\n",
+        "line 1 refused: Unreadable BadMarkup\n",
+        Status::Refused,
+    ),
+    (
+        RUN,
+        "schema \"m.rng\"\ninsert 0 \"<doc id='1a'><title/><para/></doc>\"\nerrors\n",
+        "errors: 1\n9-11 BadValue id\n",
+        Status::Done,
+    ),
+    (
+        RUN,
+        "schema \"both.rnc\"\ninsert 0 \"<doc id='a'><title/><para/></doc>\"\nerrors\n",
+        "errors: 1\n20-27 Unknown para\n",
+        Status::Done,
+    ),
+    (
+        &["--schema", "s1.rng", "run.nxs"],
+        "schema \"bogus.rng\"\ninsert 0 \"<doc id='a'><title/></doc>\"\nerrors\n",
+        "line 1 refused: Unreadable BadForm\nerrors: 0\n",
+        Status::Refused,
     ),
 ];
 
@@ -624,7 +660,7 @@ pub(crate) const MARKED: [Row; 6] = [
 ];
 
 /// Words with options, and schemas that are located by rules.
-pub(crate) const ASKED: [Row; 16] = [
+pub(crate) const ASKED: [Row; 17] = [
     (
         &["--schema=s1.rnc", "run.nxs"],
         "errors\n",
@@ -683,6 +719,12 @@ pub(crate) const ASKED: [Row; 16] = [
         &["--rules", "d/schemas.xml", "run.nxs"],
         "schema \"own.rnc\"\nschema auto\ninsert 0 \"<x/>\"\nerrors\n",
         "schema none\nerrors: 0\n",
+        Status::Done,
+    ),
+    (
+        &["--rules", "e/schemas.xml", "run.nxs"],
+        "open \"e/page.xml\"\nschema auto\nerrors\nopen \"e/page.rng\"\nschema auto\nerrors\n",
+        "schema file:///work/e/page.rng\nerrors: 0\nschema file:///work/m.rng\nerrors: 1\n0-65 Unknown {http://relaxng.org/ns/structure/1.0}element\n",
         Status::Done,
     ),
     (

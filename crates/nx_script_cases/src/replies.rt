@@ -208,6 +208,8 @@ fn refusal_of(word: &str, uri: Bytes) -> Refusal {
         },
         "uri" => Refusal::BadUri,
         "schema" => Refusal::Unreadable(Cause::NothingValid),
+        "markup" => Refusal::Unreadable(Cause::BadMarkup),
+        "form" => Refusal::Unreadable(Cause::BadForm),
         "view" => Refusal::NoView(7),
         "failed" => Refusal::Failed,
         "memory" => Refusal::NoMemory,
@@ -244,6 +246,8 @@ command||line 3 refused: BadCommand
 place||line 3 refused: BadPosition 999999999999999999 2
 uri||line 3 refused: BadUri
 schema||line 3 refused: Unreadable NothingValid
+markup||line 3 refused: Unreadable BadMarkup
+form||line 3 refused: Unreadable BadForm
 view||line 3 refused: NoView 7
 failed||line 3 refused: Failed
 memory||line 3 refused: NoMemory
