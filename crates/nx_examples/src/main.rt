@@ -1,8 +1,8 @@
-//! Runs the example scripts, one behind another, as `nxml` would, and tells of each example schema whether it can be used, and
-//! how much of it documents can use.
+//! Runs the example scripts, one behind another, as `nxml` would, and tells of each example schema whether it can be used, how
+//! much of it documents can use, and whether it defines the same grammar in the XML syntax.
 #![tactic(auto)]
 
-ghost use Rattle.std.specs.Prelude.{◌≡◌, ◌<◌};
+ghost use Rattle.std.specs.Prelude.{◌≡◌, ◌<◌, IfOk};
 ghost use Rattle.rng_core.specs.Soundness.{IsSound};
 
 use nx_base::sequence::Bytes;
@@ -12,7 +12,7 @@ use nx_run::run::run;
 use nx_run::status::Status;
 use nx_views::pane::{FaultPane, LimitedPane};
 use nx_views::view::View;
-use rng_core::grammar::Grammar;
+use rng_core::grammar::{Def, Grammar};
 use rng_live::prune::prune;
 use rng_restrict::check::check;
 use rng_simplify::fault::SchemaFault;
@@ -39,26 +39,33 @@ const SCRIPTS: [&str; 8] = [
 /// The words of a whole session, in which rules find the schema. The script stands last.
 const SESSION: [&str; 3] = ["--rules", "examples/schemas.xml", "examples/session.nxs"];
 
-/// The schemas, there, too. Each element that is left in a schema has a definition: 12 of manual-inlines.rnc, 12 of
-/// manual-blocks.rnc, each but for the one that is replaced, and 15 of manual.rnc; 10 of config.rnc; 2 of languages.rnc. The
-/// parts of a schema have no start. Of dead.rnc one definition in five lives: an element that has to hold itself is dead, so is one that has to
-/// hold a number that is none, and nothing leads to the last. Those below `refused` break a restriction each, but for
-/// nothing-valid.rnc, which no document can meet.
+/// Those of a session on schemas in the XML syntax, in which rules find the schema of schemas.
+const MARKUP: [&str; 3] = ["--rules", "examples/schemas.xml", "examples/relaxng.nxs"];
+
+/// The schemas, there, too, each as a file in the compact syntax and one in the XML syntax. Each element that is left in a schema
+/// has a definition: 12 of manual-inlines, 12 of manual-blocks, each but for the one that is replaced, and 15 of manual; 10 of
+/// config; 2 of languages. The parts of a schema have no start. Of dead one definition in five lives: an element that has to hold
+/// itself is dead, so is one that has to hold a number that is none, and nothing leads to the last. Those below `refused` break a
+/// restriction each, but for nothing-valid, which no document can meet.
 const SCHEMAS: [&str; 13] = [
-    "examples/schemas/manual.rnc",
-    "examples/schemas/manual-blocks.rnc",
-    "examples/schemas/manual-inlines.rnc",
-    "examples/schemas/config.rnc",
-    "examples/schemas/languages.rnc",
-    "examples/schemas/dead.rnc",
-    "examples/schemas/refused/path.rnc",
-    "examples/schemas/refused/mixture.rnc",
-    "examples/schemas/refused/attribute-overlap.rnc",
-    "examples/schemas/refused/wildcard-once.rnc",
-    "examples/schemas/refused/interleave-overlap.rnc",
-    "examples/schemas/refused/text-twice.rnc",
-    "examples/schemas/refused/nothing-valid.rnc",
+    "examples/schemas/manual",
+    "examples/schemas/manual-blocks",
+    "examples/schemas/manual-inlines",
+    "examples/schemas/config",
+    "examples/schemas/languages",
+    "examples/schemas/dead",
+    "examples/schemas/refused/path",
+    "examples/schemas/refused/mixture",
+    "examples/schemas/refused/attribute-overlap",
+    "examples/schemas/refused/wildcard-once",
+    "examples/schemas/refused/interleave-overlap",
+    "examples/schemas/refused/text-twice",
+    "examples/schemas/refused/nothing-valid",
 ];
+
+/// The schema of schemas in the XML syntax. It has 21 elements, and two of other vocabularies: those that stand in one of them, and
+/// those that stand in these.
+const SCHEMA_OF_SCHEMAS: &str = "examples/relaxng.rng";
 
 fn main(rt: HostRuntime) -> io::Result<()> {
     for script in &SCRIPTS {
@@ -66,11 +73,12 @@ fn main(rt: HostRuntime) -> io::Result<()> {
         run_script(&rt, script, &[script])?;
     }
     run_script(&rt, "examples/session.nxs", &SESSION)?;
+    run_script(&rt, "examples/relaxng.nxs", &MARKUP)?;
     for schema in &SCHEMAS {
         let schema = *schema;
-        judge_schema(&rt, schema)?;
+        judge_pair::<Brand>(&rt, schema, Blank::new(1))?;
     }
-    Ok(())
+    judge_file::<Brand>(&rt, SCHEMA_OF_SCHEMAS, Blank::new(1))
 }
 
 /// Runs the script as `nxml` would that is called with these words, and prints how it ended.
@@ -101,11 +109,81 @@ fn run_here<L: Ledger>(rt: &HostRuntime, words: &[Bytes], blank: Blank) -> io::R
     Ok(run(alloc, words, &mut files, &mut out, &mut views, &mut steps))
 }
 
-/// Prints what becomes of the schema.
-fn judge_schema(rt: &HostRuntime, schema: &str) -> io::Result<()> {
+/// What the file of the schema, in the folder that the program is called in, defines.
+fn simplified<L: Ledger>(
+    rt: &HostRuntime,
+    schema: &str,
+    steps: &mut Steps<L>,
+) -> Result<Grammar, SchemaFault>
+    ensures { IfOk result IsSound }
+{
     let uri = format!(in rt.alloc(); "file:///work/{schema}")?;
     let mut files = DiskFiles::new(rt);
-    match simplify(rt.alloc(), uri.as_str(), &mut files) {
+    simplify(rt.alloc(), uri.as_str(), &mut files, steps)
+}
+
+/// Prints what becomes of the schema in a file.
+fn judge_file<L: Ledger>(rt: &HostRuntime, schema: &str, blank: Blank) -> io::Result<()>
+    requires name { blank.name ≡ L.name }
+    requires parts { blank.parts ≡ L.parts }
+    requires some { 0 < L.parts }
+{
+    let mut steps = Steps::<L>::new(blank);
+    judge(rt, schema, simplified(rt, schema, &mut steps))
+}
+
+/// Prints what becomes of a schema in the compact syntax, and whether that in the XML syntax is the same.
+fn judge_pair<L: Ledger>(rt: &HostRuntime, schema: &str, blank: Blank) -> io::Result<()>
+    requires name { blank.name ≡ L.name }
+    requires parts { blank.parts ≡ L.parts }
+    requires some { 0 < L.parts }
+{
+    let mut steps = Steps::<L>::new(blank);
+    let compact = format!(in rt.alloc(); "{schema}.rnc")?;
+    let markup = format!(in rt.alloc(); "{schema}.rng")?;
+    let first = simplified(rt, compact.as_str(), &mut steps);
+    let second = simplified(rt, markup.as_str(), &mut steps);
+    let word = compared(&first, &second);
+    let_go(second);
+    judge(rt, compact.as_str(), first)?;
+    println!(rt; "{markup}: {word}")
+}
+
+/// Lets an answer go. That is dear to prove, for its many forms, so it is done here alone.
+fn let_go(_answer: Result<Grammar, SchemaFault>) {}
+
+/// A word for whether both define the same grammar, or none for the same cause.
+fn compared(a: &Result<Grammar, SchemaFault>, b: &Result<Grammar, SchemaFault>) -> &'static str {
+    if is_same(a, b) { "the same" } else { "another" }
+}
+
+fn is_same(a: &Result<Grammar, SchemaFault>, b: &Result<Grammar, SchemaFault>) -> bool {
+    match (a, b) {
+        (Ok(a), Ok(b)) => is_same_grammar(a, b),
+        (Err(SchemaFault::Unreadable(a)), Err(SchemaFault::Unreadable(b))) => a == b,
+        _ => false,
+    }
+}
+
+fn is_same_grammar(a: &Grammar, b: &Grammar) -> bool {
+    a.start.same(&b.start)
+        && a.defs.len() == b.defs.len()
+        && a.defs
+            .as_slice()
+            .iter()
+            .zip(b.defs.as_slice())
+            .all(|(a, b)| is_same_definition(a, b))
+}
+
+fn is_same_definition(a: &Def, b: &Def) -> bool {
+    a.class.same(&b.class) && a.content.same(&b.content)
+}
+
+/// Prints what becomes of what the schema defines.
+fn judge(rt: &HostRuntime, schema: &str, answer: Result<Grammar, SchemaFault>) -> io::Result<()>
+    requires { IfOk answer IsSound }
+{
+    match answer {
         Ok(grammar) => judge_grammar(rt, schema, grammar),
         Err(SchemaFault::Unreadable(cause)) => println!(rt; "{schema}: {cause:?}"),
         Err(_) => println!(rt; "{schema}: not read"),
