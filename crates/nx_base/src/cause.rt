@@ -14,13 +14,13 @@ pub enum Cause {
     Syntax,
     /// 201 brackets, or elements of the XML syntax, that are open at once.
     TooDeep,
-    /// A prefix that nothing declares (Annex C.3).
+    /// A prefix that nothing declares (7.11, Annex C.3).
     UndeclaredPrefix,
     /// A prefix that is declared twice, or that may not be declared so (Annex C.3).
     Twice,
-    /// A file in the XML syntax that is no well-formed document (3).
+    /// A file in the XML syntax that is no well-formed document (5).
     BadMarkup,
-    /// Elements that are in no reading of the XML syntax (3, Annex A).
+    /// Elements that are in no reading of the XML syntax (6, Annex A).
     BadForm,
     /// An included file that is no grammar (7.8).
     NotGrammar,
