@@ -41,7 +41,8 @@ pub surface_said : (nodes : Nodes) (elements : Elements) (surface : WrittenSurfa
 surface_said nodes elements surface are found = said bound_in (elements_in [] nodes) surface (ap (surface_at bound_in) (sym are) ∙ found)
 
 pub surface_refused : (text : List ℕ) (nodes : Nodes) (elements : Elements) (tokens : List Token) (why : Stop) (answer : XReadFault) →
-    elements ≡ elements_in [] nodes → Finds surface_of (Err why) (surface_at bound_in elements) → tokens ≡ tokens_of text → RefusesAt tokens why answer →
+    elements ≡ elements_in [] nodes → Finds surface_of (Err why) (surface_at bound_in elements) → tokens ≡ tokens_of text →
+    RefusesAt tokens why answer →
     AnswersNodes text nodes (Err answer)
 surface_refused text nodes elements tokens (stop.Form before) (fault.BadForm at) are found cut h =
     (formless_is (elements_in [] nodes) (ap (surface_at bound_in) (sym are) ∙ found), subst (λ (all : List Token). BeginsOne all at) cut h)
@@ -72,7 +73,9 @@ record First (all : List Item) (at : ℕ) : Type 0 where
 first_is : (all : List Item) (at : ℕ) → Some at ≡ first_place all → First all at
 unfolding first_place
 first_is [] at e = absurd cc
-first_is (items.Event event span ∷ more) at e = let f = first_is more at e in record { first = f.first; others = f.others; are = f.are; at_is = f.at_is }
+first_is (items.Event event span ∷ more) at e =
+    let f = first_is more at e in
+    record { first = f.first; others = f.others; are = f.are; at_is = f.at_is }
 first_is (items.Fault one ∷ more) at e = record { first = one; others = faults_among more; are = refl; at_is = cc }
 
 pub bad_markup : (text : List ℕ) (all : List Item) (at : ℕ) → Some at ≡ first_place all → all ≡ items_of_text text → HasBadMarkup text at

@@ -31,23 +31,32 @@ plain_and : (ns : List ℕ) (attribute : Attribute) (more : List Attribute) → 
 plain_and [] attribute more = refl
 plain_and (b ∷ ns) attribute more = refl
 
+-- elements of the schema are read, or n elements and one more are open that are passed over
+abbrev reading : Frame → List Frame → List (List Name) → Built
+reading inner outer declared = record { inner = inner; outer = outer; passed = zero; declared = declared }
+
+abbrev passing : ℕ → Frame → List Frame → List (List Name) → Built
+passing n inner outer declared = record { inner = inner; outer = outer; passed = suc n; declared = declared }
+
 -- ---- inside of what is passed over, nothing changes but the declarations that come
 
-attributes_passed : (attributes : List trees.Attribute) (after : List trees.Event) (inner : Frame) (outer : List Frame) (n : ℕ) (declared : List (List Name)) →
-    behind_events (attributes_flat attributes after) (record { inner = inner; outer = outer; passed = suc n; declared = declared })
-    ≡ behind_events after (record { inner = inner; outer = outer; passed = suc n; declared = declared })
+attributes_passed : (attributes : List trees.Attribute) (after : List trees.Event) (inner : Frame) (outer : List Frame) (n : ℕ)
+    (declared : List (List Name)) →
+    behind_events (attributes_flat attributes after) (passing n inner outer declared)
+    ≡ behind_events after (passing n inner outer declared)
 unfolding behind_events
 attributes_passed [] after inner outer n declared = refl
 attributes_passed (a ∷ more) after inner outer n declared = attributes_passed more after inner outer n declared
 
 nodes_passed : (nodes : Nodes) (after : List trees.Event) (inner : Frame) (outer : List Frame) (n : ℕ) (more : List (List Name)) →
-    behind_events (children_flat (without_declarations nodes) after) (record { inner = inner; outer = outer; passed = suc n; declared = declarations_and nodes more })
-    ≡ behind_events after (record { inner = inner; outer = outer; passed = suc n; declared = more })
+    behind_events (children_flat (without_declarations nodes) after) (passing n inner outer (declarations_and nodes more))
+    ≡ behind_events after (passing n inner outer more)
 unfolding behind_events
 nodes_passed no_nodes after inner outer n more = refl
 nodes_passed (string_then text rest) after inner outer n more = nodes_passed rest after inner outer n more
 nodes_passed (node_then name attributes own children rest) after inner outer n more =
-    attributes_passed attributes (trees.TagEnd ∷ children_flat (without_declarations children) (trees.Leave ∷ children_flat (without_declarations rest) after)) inner outer (suc n)
+    attributes_passed attributes (trees.TagEnd ∷ children_flat (without_declarations children)
+    (trees.Leave ∷ children_flat (without_declarations rest) after)) inner outer (suc n)
     (declarations_and children (declarations_and rest more))
     ∙ nodes_passed children (trees.Leave ∷ children_flat (without_declarations rest) after) inner outer (suc n) (declarations_and rest more)
     ∙ nodes_passed rest after inner outer n more
@@ -61,28 +70,38 @@ with_nodes frame nodes = record {
   children = elements_and frame.children (elements_in frame.tag.scope nodes);
 }
 
+-- a frame with these attributes, with this text and with these children
+abbrev attributed : Frame → List Attribute → Frame
+attributed frame attributes = record frame { tag = record frame.tag { attributes = attributes } }
+
+abbrev texted : Frame → List ℕ → Frame
+texted frame text = record frame { tag = record frame.tag { text = text } }
+
+abbrev parented : Frame → Elements → Frame
+parented frame children = record frame { children = children }
+
 abbrev with_attributes : Frame → List trees.Attribute → Frame
-with_attributes frame attributes = record frame { tag = record frame.tag { attributes = frame.tag.attributes ++ plain_attributes attributes } }
+with_attributes frame attributes = attributed frame (frame.tag.attributes ++ plain_attributes attributes)
 
 attributes_read : (attributes : List trees.Attribute) (after : List trees.Event) (frame : Frame) (outer : List Frame) (declared : List (List Name)) →
-    behind_events (attributes_flat attributes after) (record { inner = frame; outer = outer; passed = zero; declared = declared })
-    ≡ behind_events after (record { inner = with_attributes frame attributes; outer = outer; passed = zero; declared = declared })
+    behind_events (attributes_flat attributes after) (reading frame outer declared)
+    ≡ behind_events after (reading (with_attributes frame attributes) outer declared)
 unfolding behind_events
 attributes_read [] after frame outer declared =
-    ap (λ (l : List Attribute). behind_events after (record { inner = record frame { tag = record frame.tag { attributes = l } }; outer = outer; passed = zero; declared = declared }))
+    ap (λ (l : List Attribute). behind_events after (reading (attributed frame l) outer declared))
     (sym (append-nil frame.tag.attributes))
 attributes_read (a ∷ more) after frame outer declared =
     let one : Attribute = record { local = a.name.local; value = a.value } in
     attributes_read more after (with_attribute frame a.name a.value) outer declared
-    ∙ ap (λ (l : List Attribute). behind_events after (record { inner = record frame { tag = record frame.tag { attributes = l } }; outer = outer; passed = zero; declared = declared }))
+    ∙ ap (λ (l : List Attribute). behind_events after (reading (attributed frame l) outer declared))
     (append_assoc frame.tag.attributes (plain_if a.name.ns one []) (plain_attributes more)
     ∙ ap (λ (l : List Attribute). frame.tag.attributes ++ l) (plain_and a.name.ns one (plain_attributes more)))
 
 -- the state behind nodes
 abbrev Behind : Nodes → Type 0
 Behind nodes = (after : List trees.Event) (frame : Frame) (outer : List Frame) (more : List (List Name)) →
-    behind_events (children_flat (without_declarations nodes) after) (record { inner = frame; outer = outer; passed = zero; declared = declarations_and nodes more })
-    ≡ behind_events after (record { inner = with_nodes frame nodes; outer = outer; passed = zero; declared = more })
+    behind_events (children_flat (without_declarations nodes) after) (reading frame outer (declarations_and nodes more))
+    ≡ behind_events after (reading (with_nodes frame nodes) outer more)
 
 -- the element with this tag, whose content is read
 abbrev read_tag : Name → List trees.Attribute → List Name → Nodes → Tag
@@ -98,7 +117,7 @@ node_read name attributes own children rest in_children in_rest after frame oute
     following = trees.Leave ∷ children_flat (without_declarations rest) after
 
     start : Built
-    start = record { inner = frame; outer = outer; passed = zero; declared = own ∷ declarations_and children (declarations_and rest more) }
+    start = reading frame outer (own ∷ declarations_and children (declarations_and rest more))
 
     scope : List Name
     scope = frame.tag.scope ++ own
@@ -107,33 +126,30 @@ node_read name attributes own children rest in_children in_rest after frame oute
     tag = read_tag name attributes scope children
 
     by_namespace : (b : Bool) → bytes_eq name.ns schema_namespace ≡ b →
-        behind_events (attributes_flat attributes (trees.TagEnd ∷ children_flat (without_declarations children) following)) (cond b (opened name start) (passed_by start))
-        ≡ behind_events after (record {
-          inner = record {
-            tag = record frame.tag { text = frame.tag.text ++ strings_in rest };
-            children =
-                elements_and frame.children
-                (cond b (element_then tag (elements_in scope children) (elements_in frame.tag.scope rest)) (elements_in frame.tag.scope rest));
-          };
-          outer = outer;
-          passed = zero;
-          declared = more;
-        })
+        behind_events (attributes_flat attributes (trees.TagEnd ∷ children_flat (without_declarations children) following))
+        (cond b (opened name start) (passed_by start))
+        ≡ behind_events after (reading
+        (parented (texted frame (frame.tag.text ++ strings_in rest))
+        (elements_and frame.children
+        (cond b (element_then tag (elements_in scope children) (elements_in frame.tag.scope rest)) (elements_in frame.tag.scope rest))))
+        outer more)
     by_namespace true e =
-        attributes_read attributes (trees.TagEnd ∷ children_flat (without_declarations children) following) (bare name.local scope) (frame ∷ outer) (declarations_and children (declarations_and rest more))
+        attributes_read attributes (trees.TagEnd ∷ children_flat (without_declarations children) following) (bare name.local scope) (frame ∷ outer)
+        (declarations_and children (declarations_and rest more))
         ∙ in_children following (with_attributes (bare name.local scope) attributes) (frame ∷ outer) (declarations_and rest more)
         ∙ in_rest after (with_child frame (record { tag = tag; children = elements_in scope children })) outer more
-        ∙ ap (λ (l : Elements). behind_events after (record { inner = record { tag = record frame.tag { text = frame.tag.text ++ strings_in rest }; children = l }; outer = outer; passed = zero; declared = more }))
+        ∙ ap (λ (l : Elements). behind_events after (reading (parented (texted frame (frame.tag.text ++ strings_in rest)) l) outer more))
         (and_assoc frame.children (element_then tag (elements_in scope children) no_elements) (elements_in frame.tag.scope rest))
     by_namespace false e =
-        attributes_passed attributes (trees.TagEnd ∷ children_flat (without_declarations children) following) frame outer zero (declarations_and children (declarations_and rest more))
+        attributes_passed attributes (trees.TagEnd ∷ children_flat (without_declarations children) following) frame outer zero
+        (declarations_and children (declarations_and rest more))
         ∙ nodes_passed children following frame outer zero (declarations_and rest more)
         ∙ in_rest after frame outer more
 
 pub nodes_read : (nodes : Nodes) → Behind nodes
 unfolding behind_events
 nodes_read no_nodes after frame outer more =
-    ap (λ (f : Frame). behind_events after (record { inner = f; outer = outer; passed = zero; declared = more })) same
+    ap (λ (f : Frame). behind_events after (reading f outer more)) same
   where
     same : frame ≡ with_nodes frame no_nodes
     same =
@@ -141,14 +157,15 @@ nodes_read no_nodes after frame outer more =
         ∙ ap (λ (e : Elements). record { tag = record frame.tag { text = frame.tag.text ++ [] }; children = e }) (sym (and_nothing frame.children))
 nodes_read (string_then text rest) after frame outer more =
     nodes_read rest after (with_text frame text) outer more
-    ∙ ap (λ (l : List ℕ). behind_events after (record { inner = record { tag = record frame.tag { text = l }; children = elements_and frame.children (elements_in frame.tag.scope rest) }; outer = outer; passed = zero; declared = more }))
+    ∙ ap (λ (l : List ℕ). behind_events after
+    (reading (parented (texted frame l) (elements_and frame.children (elements_in frame.tag.scope rest))) outer more))
     (append_assoc frame.tag.text text (strings_in rest))
 nodes_read (node_then name attributes own children rest) after frame outer more =
     node_read name attributes own children rest (nodes_read children) (nodes_read rest) after frame outer more
 
 -- nothing is read, and the declarations of these nodes come
 abbrev pub before_all : Nodes → Built
-before_all nodes = record { inner = bare [] []; outer = []; passed = zero; declared = declarations_and nodes [] }
+before_all nodes = reading (bare [] []) [] (declarations_and nodes [])
 
 -- all nodes of a text, outside of all elements
 pub all_read : (nodes : Nodes) →
@@ -167,7 +184,8 @@ event_same (trees.Chars text) span built = refl
 event_same trees.Leave span built = refl
 
 -- items that are these events do the same
-pub items_read : (all : List Item) (these : List trees.Event) (built : Built) → events_among all ≡ map as_event these → behind_items all built ≡ behind_events these built
+pub items_read : (all : List Item) (these : List trees.Event) (built : Built) → events_among all ≡ map as_event these →
+    behind_items all built ≡ behind_events these built
 unfolding behind_items behind_events
 items_read [] [] built same = refl
 items_read [] (e ∷ more) built same = let never : ⊥ = cc in absurd never

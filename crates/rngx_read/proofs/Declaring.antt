@@ -16,14 +16,16 @@ unfolding scope_of state_behind
 own_are token = refl
 
 -- a token's end is a place of the text
-pub room_for : (len at : ℕ) (token : Token) (rest all : List Token) → all ≡ token ∷ rest → AreTokensFrom len at all → token.from + length token.bytes ≤ len
+pub room_for : (len at : ℕ) (token : Token) (rest all : List Token) → all ≡ token ∷ rest → AreTokensFrom len at all →
+    token.from + length token.bytes ≤ len
 unfolding AreTokensFrom
 room_for len at token rest all are h =
     let here : AreTokensFrom len at (token ∷ rest) = subst (AreTokensFrom len at) are h in
     let end = tokens_end len (at + length token.bytes) rest here.1 in
     omega (arith, here.0, end)
 
-pub tokens_behind : (len at : ℕ) (token : Token) (rest all : List Token) → all ≡ token ∷ rest → AreTokensFrom len at all → AreTokensFrom len (at + length token.bytes) rest
+pub tokens_behind : (len at : ℕ) (token : Token) (rest all : List Token) → all ≡ token ∷ rest → AreTokensFrom len at all →
+    AreTokensFrom len (at + length token.bytes) rest
 unfolding AreTokensFrom
 tokens_behind len at token rest all are h = let here : AreTokensFrom len at (token ∷ rest) = subst (AreTokensFrom len at) are h in here.1
 

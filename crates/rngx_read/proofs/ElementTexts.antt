@@ -58,7 +58,8 @@ EventsAreText events = AllByRecursion (λ (event : trees.Event). EventIsText (as
 abbrev DeclaredIsText : List (List Name) → Type 0
 DeclaredIsText declared = AllByRecursion UrisAreText declared
 
-plain_text : (ns : List ℕ) (attribute : Attribute) (more : List Attribute) → IsUtf8 attribute.value → ValuesAreText more → ValuesAreText (plain_if ns attribute more)
+plain_text : (ns : List ℕ) (attribute : Attribute) (more : List Attribute) → IsUtf8 attribute.value → ValuesAreText more →
+    ValuesAreText (plain_if ns attribute more)
 plain_text [] attribute more one others = (one, others)
 plain_text (b ∷ ns) attribute more one others = others
 
@@ -77,11 +78,17 @@ record NodesAreText (outer : List Name) (nodes : Nodes) (after : List trees.Even
   pub declared : DeclaredIsText more
 
 nodes_text : (nodes : Nodes) (outer : List Name) (after : List trees.Event) (more : List (List Name)) → UrisAreText outer →
-    EventsAreText (children_flat (without_declarations nodes) after) → DeclaredIsText (declarations_and nodes more) → NodesAreText outer nodes after more
+    EventsAreText (children_flat (without_declarations nodes) after) → DeclaredIsText (declarations_and nodes more) →
+    NodesAreText outer nodes after more
 nodes_text no_nodes outer after more o e d = record { elements = tt; strings = IsUtf8-nil; events = e; declared = d }
 nodes_text (string_then text rest) outer after more o e d =
     let others = nodes_text rest outer after more o e.1 d in
-    record { elements = others.elements; strings = IsUtf8-append text (strings_in rest) e.0 others.strings; events = others.events; declared = others.declared }
+    record {
+      elements = others.elements;
+      strings = IsUtf8-append text (strings_in rest) e.0 others.strings;
+      events = others.events;
+      declared = others.declared;
+    }
 nodes_text (node_then name attributes own children rest) outer after more o e d =
     let following : List trees.Event = trees.Leave ∷ children_flat (without_declarations rest) after in
     let inner : UrisAreText (outer ++ own) = all_append (λ (pair : Name). IsUtf8 pair.ns) outer own o d.0 in
@@ -119,7 +126,8 @@ module _ (it : TheAttribute) (value : IsUtf8 it.string) where
   binding_text None = (value, tt)
   binding_text (Some flaw) = tt
 
-bindings_text : (before attributes : List TheAttribute) → AttributesAreText attributes → AllByRecursion (λ (b : Binding). IsUtf8 b.uri) (bindings before attributes)
+bindings_text : (before attributes : List TheAttribute) → AttributesAreText attributes →
+    AllByRecursion (λ (b : Binding). IsUtf8 b.uri) (bindings before attributes)
 unfolding bindings bindings_at
 bindings_text before [] h = tt
 bindings_text before (it ∷ more) h =
@@ -166,4 +174,5 @@ pub read_text : (text : List ℕ) (nodes : Nodes) → AreTextTokens (tokens_of t
 read_text text nodes tokens is =
     let events = events_text (items_of_text text) (all_text (tokens_of text) (length text) tokens) in
     let of_nodes = subst (AllByRecursion EventIsText) is.events events in
-    (nodes_text nodes [] [] [] tt (of_tree (children_flat (without_declarations nodes) []) of_nodes) (subst DeclaredIsText is.declared (declared_text (tokens_of text) tokens))).elements
+    (nodes_text nodes [] [] [] tt (of_tree (children_flat (without_declarations nodes) []) of_nodes)
+    (subst DeclaredIsText is.declared (declared_text (tokens_of text) tokens))).elements

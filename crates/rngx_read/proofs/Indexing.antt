@@ -1,5 +1,5 @@
 -- A map knows the last pair of each prefix.
-use Rattle.std.proofs.Common.{◌≡◌, ℕ, ◌+◌, ◌<◌, BTreeMap, Vec, Global, Bool, cond, Option, Some, None, List, [], ◌∷◌, ◌++◌, length, take, map, get_or, refl, sym, ap, ◌∙◌, arith}
+use Rattle.std.proofs.Common.{◌≡◌, ℕ, ◌+◌, ◌<◌, BTreeMap, Vec, Global, cond, Option, Some, None, List, [], ◌∷◌, ◌++◌, length, take, map, get_or, refl, sym, ap, ◌∙◌, arith}
 use Rattle.std.specs.Map.{lookup}
 use Rattle.std.specs.Option.{option_map, option_and_then}
 use Rattle.std.specs.Prelude.{slice_get}
@@ -9,7 +9,7 @@ use Rattle.std.proofs.lemmas.Option.{slice_get-map}
 use Rattle.std.proofs.lemmas.Simd.{map-map}
 use Rattle.nx_base.specs.declared.name.Name.{Name}
 use Rattle.nx_events.specs.Choices.{or_else}
-use Rattle.nx_events.specs.Places.{last_place, place_at, PutsAt}
+use Rattle.nx_events.specs.Places.{last_place, PutsAt}
 use Rattle.nx_events.specs.Scopes.{last_uri}
 use Rattle.nx_events.specs.declared.scope.Binding.{Binding}
 use Rattle.nx_events.proofs.Places.{last_place-push}
@@ -36,15 +36,18 @@ same_uri : (o : Option Name) → option_map (λ (b : Binding). b.uri) (option_ma
 same_uri None = refl
 same_uri (Some pair) = refl
 
-at_place : (pairs : List Name) (o : Option ℕ) → option_map (λ (b : Binding). b.uri) (option_and_then (slice_get (map as_binding pairs)) o) ≡ uri_at pairs o
+at_place : (pairs : List Name) (o : Option ℕ) → option_map (λ (b : Binding). b.uri) (option_and_then (slice_get (map as_binding pairs)) o)
+    ≡ uri_at pairs o
 at_place pairs None = refl
 at_place pairs (Some n) = ap (option_map (λ (b : Binding). b.uri)) (slice_get-map as_binding pairs n) ∙ same_uri (slice_get pairs n)
 
-pub found_at : (pairs : List Name) (prefix : List ℕ) (place : Option ℕ) → place ≡ last_place prefix (locals pairs) → uri_at pairs place ≡ last_bound pairs prefix
+pub found_at : (pairs : List Name) (prefix : List ℕ) (place : Option ℕ) → place ≡ last_place prefix (locals pairs) →
+    uri_at pairs place ≡ last_bound pairs prefix
 found_at pairs prefix place is =
     let names : map (λ (b : Binding). b.prefix) (map as_binding pairs) ≡ locals pairs = map-map (λ (b : Binding). b.prefix) as_binding pairs in
     sym (as_bindings pairs prefix ∙ last_uri_is (map as_binding pairs) prefix
-    ∙ ap (λ (all : List (List ℕ)). option_map (λ (b : Binding). b.uri) (option_and_then (slice_get (map as_binding pairs)) (last_place prefix all))) names
+    ∙ ap (λ (all : List (List ℕ)). option_map (λ (b : Binding). b.uri)
+    (option_and_then (slice_get (map as_binding pairs)) (last_place prefix all))) names
     ∙ at_place pairs (last_place prefix (locals pairs))
     ∙ ap (uri_at pairs) (sym is))
 

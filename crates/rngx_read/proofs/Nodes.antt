@@ -27,7 +27,9 @@ record Given (children : Children) (declared : List (List Name)) (n : ℕ) : Typ
 
 give : (children : Children) (declared : List (List Name)) (n : ℕ) → length declared ≡ tally children + n → Given children declared n
 unfolding tally
-give nil declared n e = let k : length declared ≡ 0 + n = e in record { nodes = no_nodes; rest = declared; same = refl; are = refl; size = omega (arith, k) }
+give nil declared n e =
+    let k : length declared ≡ 0 + n = e in
+    record { nodes = no_nodes; rest = declared; same = refl; are = refl; size = omega (arith, k) }
 give (string text rest) declared n e =
     let g = give rest declared n e in
     record { nodes = string_then text g.nodes; rest = g.rest; same = ap (trees.string text) g.same; are = g.are; size = g.size }
@@ -56,7 +58,8 @@ read_as text utf8 none =
     let all = tokens_of text in
     let there : (tree : Tree) × Document all tree = faultless_is_document all (length text) (tokens_mark_first text utf8) none in
     let tree : Tree = there.0 in
-    let events : events_among (items_of_text text) ≡ map as_event (children_flat (alone tree) []) = (document_reads all tree (length text) there.1).1 in
+    let events : events_among (items_of_text text) ≡ map as_event (children_flat (alone tree) []) =
+    (document_reads all tree (length text) there.1).1 in
     let count : length (declared_of_text text) ≡ tally (alone tree) =
     sym (items_enter first_state (tokens_of text) (length text)) ∙ tree_tally (items_of_text text) (alone tree) events in
     let g = give (alone tree) (declared_of_text text) 0 (omega (arith, count)) in (
@@ -73,6 +76,8 @@ pub elements_same : (text : List ℕ) (one other : Nodes) → IsReadAs text one 
 elements_same text one other is also =
     let put : List trees.Event → List (List Name) → Elements =
     λ events declared. (behind_events events (record { inner = bare [] []; outer = []; passed = 0; declared = declared })).inner.children in
-    let events : children_flat (without_declarations one) [] ≡ children_flat (without_declarations other) [] = stay_apart _ _ (sym is.events ∙ also.events) in
+    let events : children_flat (without_declarations one) [] ≡ children_flat (without_declarations other) [] =
+    stay_apart _ _ (sym is.events ∙ also.events) in
     let declared : declarations_and one [] ≡ declarations_and other [] = sym is.declared ∙ also.declared in
-    sym (all_read one) ∙ ap (λ e. put e (declarations_and one [])) events ∙ ap (λ d. put (children_flat (without_declarations other) []) d) declared ∙ all_read other
+    sym (all_read one) ∙ ap (λ e. put e (declarations_and one [])) events ∙ ap (λ d. put (children_flat (without_declarations other) []) d) declared
+    ∙ all_read other

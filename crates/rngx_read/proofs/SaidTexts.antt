@@ -2,6 +2,7 @@
 use Rattle.std.proofs.Common.{◌≡◌, ℕ, ◌<◌, Bool, true, false, cond, Option, Some, None, unwrap_or, List, [], ◌∷◌, ◌++◌, length, get_or, codes, refl, sym, ap, subst, arith, IsUtf8, IfOk, Result, Ok, Err}
 use lib.Utf8.{encode}
 use Rattle.std.specs.List.{AllByRecursion, after_first}
+use Rattle.std.specs.Option.{option_map}
 use Rattle.std.specs.Str.{bytes_eq}
 use Rattle.std.proofs.lemmas.Bool.{and_parts, eqb-true}
 use Rattle.std.proofs.Math.Seq.{take-append_seam}
@@ -35,7 +36,7 @@ use Rattle.rngx_read.specs.Marking.{AreTextTokens}
 use Rattle.rngx_read.specs.Names.{behind_spaces, before_spaces, trimmed, name_in, simple_name, last_bound, bound_in, IsNamed, without_prefix, with_prefix, IsClassName}
 use Rattle.rngx_read.specs.Patterns.{Joins, by_group, by_interleave, by_choice, Makes, by_optional, by_zero_or_more, by_one_or_more, by_list, by_mixed, Refers, by_ref, by_parent_ref, IsLeaf, is_empty, is_text, is_not_allowed, HasClass, by_attribute, by_child, IsType, AreParams, no_param, next_param, IsReference, IsPattern, an_element, an_attribute, a_row, made, a_reference, a_leaf, an_untyped_value, a_value, a_type, a_type_but, an_external, a_grammar_of, IsValue, any_value, this_value, IsRow, row_of, ArePatterns, no_pattern, next_pattern, IsDefinition, a_start, a_define, IsItem, a_definition, a_div, an_include, AreItems, no_more_items, next_item, IsReplacement, a_definition_anew, a_div_anew, AreReplacements, no_more_replacements, next_replacement}
 use Rattle.rngx_read.specs.Reads.{IsFile, pattern_file, grammar_file, AnswersText}
-use Rattle.rngx_read.specs.Tags.{value_of}
+use Rattle.rngx_read.specs.Tags.{attribute_of, value_of}
 use Rattle.rngx_read.proofs.ElementTexts.{UrisAreText, ValuesAreText, TagIsText, ElementsAreText, read_text}
 
 abbrev OptionIsText : Option (List ℕ) → Type 0
@@ -48,7 +49,8 @@ behind_text : (text : List ℕ) → IsUtf8 text → IsUtf8 (behind_spaces text)
 unfolding behind_spaces
 behind_text [] u = u
 behind_text (c ∷ text) u =
-    test_is IsUtf8 (is_space c) (behind_spaces text) (c ∷ text) (λ e. behind_text text (behind (c ∷ text) 0 u (omega arith) (space_small c e))) (λ _. u)
+    test_is IsUtf8 (is_space c) (behind_spaces text) (c ∷ text) (λ e. behind_text text (behind (c ∷ text) 0 u (omega arith) (space_small c e)))
+    (λ _. u)
 
 -- what is left out at the end is white space
 record Trimmed (text : List ℕ) : Type 0 where
@@ -72,7 +74,8 @@ first_small (x ∷ front) spaces e = first_small front spaces e
 
 front_text : (front spaces : List ℕ) → is_blank spaces ≡ true → IsUtf8 (front ++ spaces) → IsUtf8 front
 front_text front spaces blank u =
-    subst IsUtf8 (take-append_seam front spaces) (up_to (front ++ spaces) (length front) u (omega (arith, length-append front spaces)) (λ lt. first_small front spaces blank))
+    subst IsUtf8 (take-append_seam front spaces) (up_to (front ++ spaces) (length front) u (omega (arith, length-append front spaces))
+    (λ lt. first_small front spaces blank))
 
 trimmed_text : (text : List ℕ) → IsUtf8 text → IsUtf8 (trimmed text)
 unfolding trimmed
@@ -85,7 +88,9 @@ trimmed_text text u =
 value_text : (local : List ℕ) (attributes : List Attribute) → ValuesAreText attributes → OptionIsText (value_of local attributes)
 unfolding value_of
 value_text local [] h = tt
-value_text local (a ∷ more) h = either_is OptionIsText (bytes_eq a.local local) (Some a.value) (value_of local more) h.0 (value_text local more h.1)
+value_text local (a ∷ more) h =
+    either_is (λ (found : Option Attribute). OptionIsText (option_map (λ (it : Attribute). it.value) found)) (bytes_eq a.local local)
+    (Some a) (attribute_of local more) h.0 (value_text local more h.1)
 
 found_text : (found : Option (List ℕ)) (text : List ℕ) → found ≡ Some text → OptionIsText found → IsUtf8 text
 found_text found text e h = subst OptionIsText e h
@@ -122,12 +127,14 @@ last_text (pair ∷ scope) prefix h =
 
 bound_text : (scope : List Name) (prefix : List ℕ) → UrisAreText scope → OptionIsText (bound_in scope prefix)
 unfolding bound_in
-bound_text scope prefix h = either_is OptionIsText (bytes_eq prefix (codes "xml")) (Some xml_uri) (last_bound scope prefix) xml_text (last_text scope prefix h)
+bound_text scope prefix h = either_is OptionIsText (bytes_eq prefix (codes "xml")) (Some xml_uri) (last_bound scope prefix) xml_text
+    (last_text scope prefix h)
 
 named_text : {scope : List Name} {unprefixed : Namespace} {prefix local : List ℕ} {class : WrittenClass} →
     IsNamed bound_in scope unprefixed prefix local class → UrisAreText scope → NamespaceIsText unprefixed → IsUtf8 local → ClassIsText class
 named_text without_prefix s u l = (u, l)
-named_text {scope = scope} (with_prefix {b = b} {prefix = prefix} {uri = uri} e) s u l = (found_text (bound_in scope (b ∷ prefix)) uri e (bound_text scope (b ∷ prefix) s), l)
+named_text {scope = scope} (with_prefix {b = b} {prefix = prefix} {uri = uri} e) s u l =
+    (found_text (bound_in scope (b ∷ prefix)) uri e (bound_text scope (b ∷ prefix) s), l)
 
 class_name_text : {scope : List Name} {unprefixed : Namespace} {written : List ℕ} {class : WrittenClass} →
     IsClassName bound_in scope unprefixed written class → UrisAreText scope → NamespaceIsText unprefixed → IsUtf8 written → ClassIsText class
@@ -221,7 +228,8 @@ token_text : TypeIsText (built_in (codes "token"))
 unfolding encode
 token_text = (IsUtf8-nil, (codes "token", (refl, refl)))
 
-params_text : {elements rest : Elements} {params : List Param} → AreParams elements params rest → ElementsAreText elements → ParamsAreText params × ElementsAreText rest
+params_text : {elements rest : Elements} {params : List Param} → AreParams elements params rest → ElementsAreText elements →
+    ParamsAreText params × ElementsAreText rest
 params_text no_param e = (tt, e)
 params_text (next_param {tag = tag} {param = param} is name value others) e =
     let more = params_text others e.2 in (
@@ -232,7 +240,8 @@ params_text (next_param {tag = tag} {param = param} is name value others) e =
       more.1,
     )
 
-reference_text : {context : Context} {tag : Tag} {file : FileReference} → IsReference context tag file → ContextIsText context → TagIsText tag → ReferenceIsText file
+reference_text : {context : Context} {tag : Tag} {file : FileReference} → IsReference context tag file → ContextIsText context → TagIsText tag →
+    ReferenceIsText file
 reference_text {tag = tag} {file = file} is c t = (
   found_text (value_of (codes "href") tag.attributes) file.uri is.uri_is (value_text (codes "href") tag.attributes t.values),
   subst NamespaceIsText (sym is.namespace_is) c.0,
@@ -241,8 +250,11 @@ reference_text {tag = tag} {file = file} is c t = (
 has_class_text : {context : Context} {unprefixed : Namespace} {tag : Tag} {children content : Elements} {class : WrittenClass} →
     HasClass bound_in context unprefixed tag children class content → ContextIsText context → NamespaceIsText unprefixed → TagIsText tag →
     ElementsAreText children → ClassIsText class × ElementsAreText content
-has_class_text {tag = tag} (by_attribute {written = written} value name) c u t e =
-    (class_name_text name t.uris u (found_text (value_of (codes "name") tag.attributes) written value (value_text (codes "name") tag.attributes t.values)), e)
+has_class_text {tag = tag} (by_attribute {written = written} value name) c u t e = (
+  class_name_text name t.uris u (found_text (value_of (codes "name") tag.attributes) written value
+      (value_text (codes "name") tag.attributes t.values)),
+  e,
+)
 has_class_text (by_child value is) c u t e = (class_text is c e.0 e.1, e.2)
 
 -- ---- patterns, and the items of grammars
@@ -259,13 +271,15 @@ mutual
       let named = has_class_text class inner (own_namespace_text tag t) t e in
       (named.0, content_text value inner named.1)
   pattern_text {context = context} {tag = tag} (a_row joins is row) c t e = row_text row (joins_text joins) (inside_text context tag c t) e
-  pattern_text {context = context} {tag = tag} (made makes is row) c t e = makes_text _ makes (row_text row (joins_text by_group) (inside_text context tag c t) e)
+  pattern_text {context = context} {tag = tag} (made makes is row) c t e =
+      makes_text _ makes (row_text row (joins_text by_group) (inside_text context tag c t) e)
   pattern_text {tag = tag} (a_reference {name = name} refers is value) c t e =
       refers_text refers (found_text (simple_name (codes "name") tag) name value (name_text (codes "name") tag t))
   pattern_text (a_leaf leaf is) c t e = leaf_text leaf
   pattern_text (an_untyped_value is value) c t e = (token_text, t.text)
   pattern_text {context = context} {tag = tag} (a_value is type) c t e = (type_text type (inside_text context tag c t) t, t.text)
-  pattern_text {context = context} {tag = tag} (a_type is type params) c t e = (type_text type (inside_text context tag c t) t, (params_text params e).0)
+  pattern_text {context = context} {tag = tag} (a_type is type params) c t e =
+      (type_text type (inside_text context tag c t) t, (params_text params e).0)
   pattern_text {context = context} {tag = tag} (a_type_but {except = except} is type params but row) c t e =
       let inner = inside_text context tag c t in
       let parts = params_text params e in

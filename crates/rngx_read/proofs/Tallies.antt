@@ -109,7 +109,8 @@ unfolding run_items entered
 run_enters at None = refl
 run_enters at (Some run) = by_test (length run.string == 0)
   where
-    by_test : (t : Bool) → entered (cond t [] (items.Event (Chars run.string) (record { from = at - (run.gap + run.len); to = at - run.gap }) ∷ [])) ≡ 0
+    by_test : (t : Bool) → entered (cond t [] (items.Event (Chars run.string) (record { from = at - (run.gap + run.len); to = at - run.gap }) ∷ []))
+        ≡ 0
     by_test true = refl
     by_test false = refl
 
@@ -124,7 +125,8 @@ unfolding attribute_items entered
 attributes_enter scope kept [] = refl
 attributes_enter scope kept (x ∷ xs) =
     let r = resolved_if_attribute scope kept x in
-    both (attribute_item x r) (attribute_items scope (kept ++ kept_name r) xs) 0 0 (attribute_enters x r) (attributes_enter scope (kept ++ kept_name r) xs)
+    both (attribute_item x r) (attribute_items scope (kept ++ kept_name r) xs) 0 0 (attribute_enters x r)
+    (attributes_enter scope (kept ++ kept_name r) xs)
 
 element_enters : (span : Span) (r : Resolved) → entered (element_items span r) ≡ 1
 unfolding entered
@@ -154,7 +156,8 @@ start_enters state token =
     let attributes = tag_attributes token.from token.bytes in
     let scope = state.scope ++ own_bindings token in
     let r = element_resolved (is_behind state) scope (start_name token.bytes) in
-    let x1 = both (run_items token.from state.run) (faults_as_items (character_faults Value token.from token.bytes)) 0 0 (run_enters token.from state.run) (faults_enter (character_faults Value token.from token.bytes)) in
+    let x1 = both (run_items token.from state.run) (faults_as_items (character_faults Value token.from token.bytes)) 0 0
+    (run_enters token.from state.run) (faults_enter (character_faults Value token.from token.bytes)) in
     let x2 = both _ (faults_as_items (declaration_faults [] attributes)) 0 0 x1 (faults_enter (declaration_faults [] attributes)) in
     let x3 = both _ (element_items (token_span token) r) 0 1 x2 (element_enters (token_span token) r) in
     let x4 = both _ (attribute_items scope [] attributes) 1 0 x3 (attributes_enter scope [] attributes) in
@@ -162,13 +165,15 @@ start_enters state token =
 
 empty_enters : (state : EventState) (token : Token) → entered (empty_items state token) ≡ 1
 unfolding empty_items
-empty_enters state token = both (start_items state token) (items.Event Leave (token_span token) ∷ []) 1 0 (start_enters state token) (leave_enters (token_span token))
+empty_enters state token = both (start_items state token) (items.Event Leave (token_span token) ∷ []) 1 0 (start_enters state token)
+    (leave_enters (token_span token))
 
 closing_enters : (state : EventState) (token : Token) (found : Option ℕ) → entered (closing_items state token found) ≡ 0
 closing_enters state token None = extra_enters token
 closing_enters state token (Some n) =
     let inner = reverse (drop (suc n) state.elements) in
-    let x1 = both (run_items token.from state.run) (flat_map (left_out kinds.MissingEnd (token_span token)) inner) 0 0 (run_enters token.from state.run)
+    let x1 = both (run_items token.from state.run) (flat_map (left_out kinds.MissingEnd (token_span token)) inner) 0 0
+    (run_enters token.from state.run)
     (left_enter kinds.MissingEnd (token_span token) inner) in
     both _ (items.Event Leave (token_span token) ∷ []) 0 0 x1 (leave_enters (token_span token))
 
@@ -176,7 +181,8 @@ declaration_enters : (state : EventState) (token : Token) → entered (declarati
 unfolding declaration_items entered
 declaration_enters state token = by_test state.came
   where
-    by_test : (t : Bool) → entered (cond t (items.Fault (bare_fault kinds.Misplaced (token_span token)) ∷ []) (token_fault_if (not (is_xml_declaration token.bytes)) kinds.BadDecl token)) ≡ 0
+    by_test : (t : Bool) → entered (cond t (items.Fault (bare_fault kinds.Misplaced (token_span token)) ∷ [])
+        (token_fault_if (not (is_xml_declaration token.bytes)) kinds.BadDecl token)) ≡ 0
     by_test true = refl
     by_test false = fault_enters (not (is_xml_declaration token.bytes)) kinds.BadDecl token
 
@@ -219,7 +225,8 @@ pub items_enter : (state : EventState) (all : List Token) (len : ℕ) → entere
 unfolding items_from
 items_enter state [] len = end_enters state len
 items_enter state (token ∷ others) len =
-    both (items_of_token state token) (items_from (state_behind state token) others len) (length (declared_of_token token)) (length (flat_map declared_of_token others))
+    both (items_of_token state token) (items_from (state_behind state token) others len) (length (declared_of_token token))
+    (length (flat_map declared_of_token others))
     (token_enters state token) (items_enter (state_behind state token) others len)
     ∙ sym (length-append (declared_of_token token) (flat_map declared_of_token others))
 
@@ -230,22 +237,27 @@ tally nil = 0
 tally (string text rest) = tally rest
 tally (element name attributes children rest) = suc (tally children + tally rest)
 
-attributes_tally : (attributes : List trees.Attribute) (after : List trees.Event) → begun (map as_event (attributes_flat attributes after)) ≡ begun (map as_event after)
+attributes_tally : (attributes : List trees.Attribute) (after : List trees.Event) → begun (map as_event (attributes_flat attributes after))
+    ≡ begun (map as_event after)
 unfolding begun
 attributes_tally [] after = refl
 attributes_tally (a ∷ more) after = attributes_tally more after
 
-flat_tally : (children : Children) (after : List trees.Event) → begun (map as_event (children_flat children after)) ≡ tally children + begun (map as_event after)
+flat_tally : (children : Children) (after : List trees.Event) → begun (map as_event (children_flat children after))
+    ≡ tally children + begun (map as_event after)
 unfolding begun tally
 flat_tally nil after = sym (zero-add (begun (map as_event after)))
 flat_tally (string text rest) after = flat_tally rest after
 flat_tally (element name attributes children rest) after =
     let tag = attributes_tally attributes (trees.TagEnd ∷ children_flat children (trees.Leave ∷ children_flat rest after)) in
     let inner = flat_tally children (trees.Leave ∷ children_flat rest after) in
-    let k : suc (tally children + (tally rest + begun (map as_event after))) ≡ suc (tally children + tally rest) + begun (map as_event after) = omega arith in
+    let k : suc (tally children + (tally rest + begun (map as_event after))) ≡ suc (tally children + tally rest) + begun (map as_event after) =
+    omega arith in
     ap suc (tag ∙ inner ∙ ap (λ (n : ℕ). tally children + n) (flat_tally rest after)) ∙ k
 
 -- items that are the events of a tree
 pub tree_tally : (all : List Item) (children : Children) → events_among all ≡ map as_event (children_flat children []) → entered all ≡ tally children
 unfolding begun
-tree_tally all children same = let k : tally children + 0 ≡ tally children = omega arith in entered_begun all ∙ ap begun same ∙ flat_tally children [] ∙ k
+tree_tally all children same =
+    let k : tally children + 0 ≡ tally children = omega arith in
+    entered_begun all ∙ ap begun same ∙ flat_tally children [] ∙ k

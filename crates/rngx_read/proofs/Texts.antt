@@ -64,15 +64,19 @@ abbrev Answered : List ℕ → Type 0
 Answered text = ((surface : WrittenSurface) × Reads text surface) ⊎ ((why : Cause) × RefusesMarkup text why)
 
 by_elements : (text : List ℕ) (nodes : Nodes) → IsReadAs text nodes → IsShallow (items_of_text text) →
-    (((surface : WrittenSurface) × IsFile bound_in (elements_in [] nodes) surface) ⊎ (HaveNoForm (elements_in [] nodes) ⊎ ((prefix : List ℕ) × LeavesOut bound_in prefix (elements_in [] nodes)))) →
+    (((surface : WrittenSurface) × IsFile bound_in (elements_in [] nodes) surface) ⊎
+    (HaveNoForm (elements_in [] nodes) ⊎ ((prefix : List ℕ) × LeavesOut bound_in prefix (elements_in [] nodes)))) →
     Answered text
 by_elements text nodes is shallow (inl (surface, says)) = inl (surface, record { nodes = nodes; is_read = is; shallow = shallow; says = says })
 by_elements text nodes is shallow (inr (inl none)) = inr (cause.BadForm, record { nodes = nodes; is_read = is; shallow = shallow; no_file = none })
 by_elements text nodes is shallow (inr (inr (prefix, left))) =
     inr (cause.UndeclaredPrefix, (prefix, record { nodes = nodes; is_read = is; shallow = shallow; left_out = left }))
 
-by_depth : (text : List ℕ) → IsUtf8 text → faults_among (items_of_text text) ≡ [] → (answer : Option ℕ) → Deep 0 (items_of_text text) answer → Answered text
-by_depth text utf8 none None shallow = let found = read_as text utf8 none in by_elements text found.0 found.1 shallow (read_or_refused (elements_in [] found.0))
+by_depth : (text : List ℕ) → IsUtf8 text → faults_among (items_of_text text) ≡ [] → (answer : Option ℕ) → Deep 0 (items_of_text text) answer →
+    Answered text
+by_depth text utf8 none None shallow =
+    let found = read_as text utf8 none in
+    by_elements text found.0 found.1 shallow (read_or_refused (elements_in [] found.0))
 by_depth text utf8 none (Some at) d = inr (cause.TooDeep, (at, record { no_fault = none; deep = deep_is (items_of_text text) (Some at) d }))
 
 by_faults : (text : List ℕ) → IsUtf8 text → (found : List Fault) → faults_among (items_of_text text) ≡ found → Answered text

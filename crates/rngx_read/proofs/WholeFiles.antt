@@ -14,7 +14,8 @@ one_in false text one other is also = compact.read_as_one text one other is also
 pub read_as_one : TextsAreReadAsOne
 read_as_one text one other is also = one_in (is_markup text) text one other is also
 
-not_refused_in : (markup : Bool) (text : List ℕ) (surface : WrittenSurface) (why : Cause) → ReadsAs markup text surface → RefusesAs markup text why → ⊥
+not_refused_in : (markup : Bool) (text : List ℕ) (surface : WrittenSurface) (why : Cause) → ReadsAs markup text surface → RefusesAs markup text why →
+    ⊥
 not_refused_in true text surface why is h = not_refused text surface why is h
 not_refused_in false text surface why is h = compact.read_not_refused text surface why is h
 

@@ -55,7 +55,8 @@ entered_by (suc n) name built = passed_by built
 
 abbrev pub with_attribute : Frame → Name → List ℕ → Frame
 with_attribute frame name value =
-    record frame { tag = record frame.tag { attributes = frame.tag.attributes ++ plain_if name.ns (record { local = name.local; value = value }) [] } }
+    let more = plain_if name.ns (record { local = name.local; value = value }) [] in
+    record frame { tag = record frame.tag { attributes = frame.tag.attributes ++ more } }
 
 abbrev pub attribute_by : ℕ → Name → List ℕ → Built → Built
 attribute_by zero name value built = record built { inner = with_attribute built.inner name value }

@@ -1,7 +1,8 @@
 //! Laws of reading. Nothing here runs.
 
-ghost use Rattle.rngx_read.specs.Laws.{ElementsSayOneThing, WhatIsSaidLeavesNoPrefixOut};
-ghost use Rattle.rngx_read.specs.Laws.{ElementsAreReadOrRefused, MarkupIsReadAsOne, MarkupReadIsNotRefused, MarkupIsReadOrRefused, FaultsAreToldFirst, DepthIsToldNext};
+ghost use Rattle.rngx_read.specs.Laws.{ElementsSayOneThing};
+ghost use Rattle.rngx_read.specs.Laws.{WhatIsSaidLeavesNoPrefixOut, ElementsAreReadOrRefused};
+ghost use Rattle.rngx_read.specs.Laws.{MarkupIsReadAsOne, MarkupReadIsNotRefused, MarkupIsReadOrRefused, FaultsAreToldFirst, DepthIsToldNext};
 ghost use Rattle.rngx_read.specs.Laws.{TextsAreReadAsOne, WhatIsReadIsNotRefused, TextsAreReadOrRefused};
 
 /// Elements say one thing at most, whatever prefixes stand for.

@@ -192,7 +192,7 @@ fn of_root(alloc: Global, root: &Element) -> Result<Surface, Stop>
 }
 
 /// The grammar that is a whole file.
-#[tactic(auto, using(crate::proofs::ElementViews::children_listed))]
+#[tactic(auto, using(crate::proofs::Children::children_are))]
 fn grammar(alloc: Global, root: &Element) -> Result<Surface, Stop>
     ensures { Finds surface_of result
         (grammar_file_by bound_in (tag_of root.now) (children_of root.now) (form_of (tag_of root.now))) }

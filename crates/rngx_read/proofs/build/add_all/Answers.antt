@@ -10,7 +10,8 @@ pub items-preserved : goal.items-preserved
 items-preserved c = record {
   left =
       ap (behind_items c.in-Some.behind.now) c.in_ok-add.ensures
-      ∙ sym (item_added c.in-Some.item.now c.in-Some.behind.now c.items.rest.now (built_of c.items.builder) c.in-Some.ensures.cases.0) ∙ c.items.invariant.left;
+      ∙ sym (item_added c.in-Some.item.now c.in-Some.behind.now c.items.rest.now (built_of c.items.builder) c.in-Some.ensures.cases.0)
+      ∙ c.items.invariant.left;
   few =
       omega (
         arith,

@@ -8,6 +8,7 @@ loop-place-init c = none_indexed c.new-places.result c.new-places.ensures.empty
 
 pub loop-place-preserved : goal.loop-place-preserved
 loop-place-preserved c =
-    one_indexed c.args.pairs.now c.loop-place.place c.index-pairs-place.result c.loop-place.places c.put.new.places (omega arith) c.index-pairs-place.is
+    one_indexed c.args.pairs.now c.loop-place.place c.index-pairs-place.result c.loop-place.places c.put.new.places
+    (omega arith) c.index-pairs-place.is
     c.loop-place.invariant
     (subst (λ (prefix : List ℕ). PutsAt prefix (Some c.loop-place.place) c.loop-place.places c.put.new.places) c.as_slice.ensures c.in_ok-put.ensures)

@@ -13,15 +13,21 @@ tokens-init c = record {
 pub declare-requires : goal.declare-requires
 declare-requires c =
     let lie = c.tokens.invariant.lie in
-    omega (arith, room_for c.args.len lie.0 c.in-Some.token.now c.in-Some.behind.now c.tokens.rest.now c.in-Some.ensures.cases.0 lie.1, c.ranges.len.fits)
+    let room = room_for c.args.len lie.0 c.in-Some.token.now c.in-Some.behind.now c.tokens.rest.now c.in-Some.ensures.cases.0 lie.1 in
+    omega (arith, room, c.ranges.len.fits)
 
 pub tokens-preserved : goal.tokens-preserved
 tokens-preserved c =
     let lie = c.tokens.invariant.lie in
+    let token = c.in-Some.token.now in
+    let behind = c.in-Some.behind.now in
     record {
-      lie = (lie.0 + length c.in-Some.token.now.bytes, tokens_behind c.args.len lie.0 c.in-Some.token.now c.in-Some.behind.now c.tokens.rest.now c.in-Some.ensures.cases.0 lie.1);
+      lie = (
+        lie.0 + length token.bytes,
+        tokens_behind c.args.len lie.0 token behind c.tokens.rest.now c.in-Some.ensures.cases.0 lie.1,
+      );
       so_far =
-          declared_more c.in-Some.token.now c.in-Some.behind.now c.tokens.rest.now c.tokens.declared.items c.declare.new.declared.items _ c.in-Some.ensures.cases.0
+          declared_more token behind c.tokens.rest.now c.tokens.declared.items c.declare.new.declared.items _ c.in-Some.ensures.cases.0
           c.in_ok-declare.ensures c.tokens.invariant.so_far;
     }
 

@@ -8,7 +8,8 @@ pub returns-then-open-gt-MOST_ELEMENTS : goal.returns-then-open-gt-MOST_ELEMENTS
 returns-then-open-gt-MOST_ELEMENTS c =
     let at = Some (begin_of c.in-Some.item.now) in
     let deep = deep_is c.args.items.now at (c.items.invariant.1 at
-    (deep_here c.items.open c.open_behind-open.result c.in-Some.item.now c.in-Some.behind.now c.items.rest.now c.in-Some.ensures.cases.0 c.items.invariant.0
+    (deep_here c.items.open c.open_behind-open.result c.in-Some.item.now c.in-Some.behind.now c.items.rest.now c.in-Some.ensures.cases.0
+    c.items.invariant.0
     c.open_behind-open.ensures (omega (arith, c.if-open-gt-MOST_ELEMENTS.true)))) in
     subst (λ n. IsTooDeepAt c.args.items.now n) (sym c.begins_at.ensures) deep
 
@@ -16,7 +17,8 @@ pub items-preserved : goal.items-preserved
 items-preserved c = (
   omega (arith, c.if-open-gt-MOST_ELEMENTS.false),
   λ answer h. c.items.invariant.1 answer
-      (deep_more c.items.open c.open_behind-open.result c.in-Some.item.now c.in-Some.behind.now c.items.rest.now answer c.in-Some.ensures.cases.0 c.items.invariant.0
+      (deep_more c.items.open c.open_behind-open.result c.in-Some.item.now c.in-Some.behind.now c.items.rest.now answer c.in-Some.ensures.cases.0
+      c.items.invariant.0
       c.open_behind-open.ensures h),
 )
 

@@ -4,7 +4,8 @@ use Rattle.rngx_read.proofs.read.place.Goals as goal
 
 pub returns-then-token-at : goal.returns-then-token-at
 returns-then-token-at c some =
-    c.tokens.invariant c.args.at (begins_here c.in-Some.token.now c.in-Some.behind.now c.tokens.rest.now c.args.at c.in-Some.ensures.cases.0 (omega arith))
+    c.tokens.invariant c.args.at (begins_here c.in-Some.token.now c.in-Some.behind.now c.tokens.rest.now c.args.at c.in-Some.ensures.cases.0
+    (omega arith))
 
 pub tokens-preserved : goal.tokens-preserved
 tokens-preserved c at h =

@@ -17,4 +17,5 @@ returns-in-Some-too_deep_at c text utf8 tokens items = record {
 pub returns : goal.returns
 returns c text utf8 tokens items =
     let found = read_as text utf8 (ap faults_among (sym items) ∙ no_fault c.args.items.now c.in_default.ensures) in
-    nodes_answer text found.0 c.said.result found.1 (subst IsShallow items c.in_default-too_deep_at.ensures) (c.said.ensures text found.0 tokens items found.1)
+    nodes_answer text found.0 c.said.result found.1 (subst IsShallow items c.in_default-too_deep_at.ensures)
+    (c.said.ensures text found.0 tokens items found.1)

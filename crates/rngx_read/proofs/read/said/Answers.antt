@@ -11,12 +11,14 @@ pub returns-in-Ok : goal.returns-in-Ok
 returns-in-Ok c text nodes tokens items is =
     surface_said nodes (listed c.as_slice.result.now) (surface_of c.in-Ok.surface)
     (ap listed c.as_slice.ensures.value
-    ∙ c.in_ok-elements.ensures nodes (ap events_among items ∙ is.events) (c.in_ok-declared.ensures ∙ ap (flat_map declared_of_token) tokens ∙ is.declared))
+    ∙ c.in_ok-elements.ensures nodes (ap events_among items ∙ is.events)
+    (c.in_ok-declared.ensures ∙ ap (flat_map declared_of_token) tokens ∙ is.declared))
     c.in-Ok.ensures
 
 pub returns : goal.returns
 returns c text nodes tokens items is =
     surface_refused text nodes (listed c.as_slice.result.now) c.args.tokens.now c.in-Err.stop c.refused.result
     (ap listed c.as_slice.ensures.value
-    ∙ c.in_ok-elements.ensures nodes (ap events_among items ∙ is.events) (c.in_ok-declared.ensures ∙ ap (flat_map declared_of_token) tokens ∙ is.declared))
+    ∙ c.in_ok-elements.ensures nodes (ap events_among items ∙ is.events)
+    (c.in_ok-declared.ensures ∙ ap (flat_map declared_of_token) tokens ∙ is.declared))
     c.in-Err.ensures tokens (c.refused.ensures (some_token text c.args.tokens.now tokens is.no_fault))
