@@ -724,7 +724,8 @@ pub(crate) const ASKED: [Row; 17] = [
     (
         &["--rules", "e/schemas.xml", "run.nxs"],
         "open \"e/page.xml\"\nschema auto\nerrors\nopen \"e/page.rng\"\nschema auto\nerrors\n",
-        "schema file:///work/e/page.rng\nerrors: 0\nschema file:///work/m.rng\nerrors: 1\n0-65 Unknown {http://relaxng.org/ns/structure/1.0}element\n",
+        "schema file:///work/e/page.rng\nerrors: 0\n\
+         schema file:///work/m.rng\nerrors: 1\n0-65 Unknown {http://relaxng.org/ns/structure/1.0}element\n",
         Status::Done,
     ),
     (
