@@ -30,7 +30,7 @@ digit_more text left digits some within =
 abbrev signed : Bool → ℕ → ℤ
 signed negative d = if negative then neg_ℤ (pos d) else pos d
 
-digits-integer : (text : List ℕ) → is_integer text ≡ true → (number_of text).digits ≡ digits_value 10 (unsigned text)
+pub digits-integer : (text : List ℕ) → is_integer text ≡ true → (number_of text).digits ≡ digits_value 10 (unsigned text)
 digits-integer text integer =
     let u : List ℕ = unsigned text in
     let digits = Digits-integer text integer in

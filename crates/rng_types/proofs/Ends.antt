@@ -1,15 +1,15 @@
 -- Whole numbers between limits.
-use Rattle.std.specs.Prelude.{◌≡◌, ℕ, suc, ◌+◌, ◌≤◌, ℤ, pos, negsuc, ◌<ℤ◌, ◌≤ℤ◌, ◌↔◌, Bool, true, false, if◌then◌else◌, List, [], ◌∷◌, Option, None, Some}
+use Rattle.std.specs.Prelude.{◌≡◌, ℤ, ◌<ℤ◌, ◌≤ℤ◌, ◌↔◌, Bool, true, false, if◌then◌else◌, List, [], ◌∷◌, Option, None, Some}
 use Rattle.std.proofs.Common.{refl, sym, arith}
 use Rattle.std.proofs.lemmas.Bool.{and_parts, and_from, false≢true}
 use Rattle.std.proofs.lemmas.Int.{ints, clamps}
-use Rattle.std.specs.List.{list_all}
+use Rattle.std.specs.List.{list_all, AllByRecursion}
 use Rattle.std.specs.Ordering.{int_cmp, MatchOrdering}
 use Rattle.std.specs.Cmp.{int_ranks}
 use Rattle.std.specs.declared.cmp.Ordering.{Ordering}
 use Rattle.std.specs.declared.cmp.Ordering.TheVariants.{Less, Equal, Greater}
 use Rattle.rng_types.specs.Facets.{holds}
-use Rattle.rng_types.specs.NumberMembers.{Limit, is_lower, greatest, lower_end}
+use Rattle.rng_types.specs.NumberMembers.{Limit, is_lower, is_upper, greatest, lower_end}
 use Rattle.rng_types.specs.declared.facet.Relation.{Relation}
 use Rattle.rng_types.specs.declared.facet.Relation.TheVariants.{Exactly, AtLeast, AtMost, Above, Below}
 use Rattle.rng_types.proofs.Scaled.{is_met}
@@ -41,6 +41,14 @@ says-case Below Greater w z h = (λ t. absurd (false≢true t), λ s. absurd (om
 
 pub met_says : (w : ℤ) (limit : Limit) → (is_met w limit ≡ true) ↔ Says limit.relation w limit.at
 met_says w limit = says-case limit.relation (int_cmp w limit.at) w limit.at (int_ranks w limit.at)
+
+-- strictly between the ends
+pub says_between : (relation : Relation) (w z : ℤ) → (is_lower relation ≡ true → z <ℤ w) → (is_upper relation ≡ true → w <ℤ z) → Says relation w z
+says_between Exactly w z above below = absurd (let h = above refl in let g = below refl in omega (arith, ints))
+says_between AtLeast w z above below = let h = above refl in omega (arith, ints)
+says_between AtMost w z above below = let h = below refl in omega (arith, ints)
+says_between Above w z above below = above refl
+says_between Below w z above below = below refl
 
 -- above the lower ends, and not above what is met, all is met
 between_says : (relation : Relation) (v w z : ℤ) → Says relation v z → (is_lower relation ≡ true → z <ℤ w) → w ≤ℤ v → Says relation w z
@@ -91,20 +99,7 @@ reaches (limit ∷ limits) v all =
     let parts = and_parts _ _ all in
     reaches_both (is_lower limit.relation) limit.at (lower_end limits) v (lower_says limit.relation v limit.at ((met_says v limit).0 parts.0)) (reaches limits v parts.1)
 
--- where there is no lower end, all is met far below
-magnitude : ℤ → ℕ
-magnitude (pos n) = n
-magnitude (negsuc n) = suc n
-
-pub depth : List Limit → ℕ
-depth [] = 0
-depth (limit ∷ limits) = magnitude limit.at + depth limits
-
-far_below : (z : ℤ) (m : ℕ) → magnitude z ≤ m → negsuc m <ℤ z
-unfolding magnitude
-far_below (pos n) m deep = omega (arith, ints)
-far_below (negsuc n) m deep = omega (arith, ints)
-
+-- where there is no lower end, all is met below all of them
 upper_says : (relation : Relation) (w z : ℤ) → is_lower relation ≡ false → w <ℤ z → Says relation w z
 upper_says Exactly w z upper below = absurd (false≢true (sym upper))
 upper_says AtLeast w z upper below = absurd (false≢true (sym upper))
@@ -116,11 +111,8 @@ no_lower : (b : Bool) (z : ℤ) (rest : Option ℤ) → (if b then Some (greates
 no_lower true z rest none = absurd (cc)
 no_lower false z rest none = (refl, none)
 
-pub met_far_below : (limits : List Limit) (m : ℕ) → lower_end limits ≡ None → depth limits ≤ m → list_all (is_met (negsuc m)) limits ≡ true
-unfolding depth
-met_far_below [] m none deep = refl
-met_far_below (limit ∷ limits) m none deep =
+pub met_below : (limits : List Limit) (w : ℤ) → lower_end limits ≡ None → AllByRecursion (λ limit. w <ℤ limit.at) limits → list_all (is_met w) limits ≡ true
+met_below [] w none below = refl
+met_below (limit ∷ limits) w none below =
     let parts = no_lower (is_lower limit.relation) limit.at (lower_end limits) none in
-    and_from _ _
-    ((met_says (negsuc m) limit).1 (upper_says limit.relation (negsuc m) limit.at parts.0 (far_below limit.at m (omega arith))))
-    (met_far_below limits m parts.1 (omega arith))
+    and_from _ _ ((met_says w limit).1 (upper_says limit.relation w limit.at parts.0 below.0)) (met_below limits w parts.1 below.1)

@@ -42,8 +42,8 @@ exist_word NcName facets excepts one_token suit few = (λ has. name_sound NcName
 exist_word NmToken facets excepts one_token suit few = (λ has. name_sound NmToken nm_tokens facets excepts one_token suit few has, λ member. name_complete NmToken nm_tokens facets excepts one_token suit member)
 exist_word Language facets excepts one_token suit few = (λ has. exist_language facets excepts one_token suit, λ member. refl)
 exist_word Boolean facets excepts one_token suit few = exist_truth facets excepts one_token suit
-exist_word Decimal facets excepts one_token suit few = (λ has. decimal_sound facets excepts one_token suit has, λ member. decimal_complete facets excepts one_token suit member)
-exist_word Integer facets excepts one_token suit few = (λ has. integer_sound facets excepts one_token suit has, λ member. integer_complete facets excepts one_token suit member)
+exist_word Decimal facets excepts one_token suit few = (λ has. decimal_sound facets excepts one_token suit few has, λ member. decimal_complete facets excepts one_token suit member)
+exist_word Integer facets excepts one_token suit few = (λ has. integer_sound facets excepts one_token suit few has, λ member. integer_complete facets excepts one_token suit member)
 
 exist_words : (word : Word) (facets : List Facet) (excepts : List Except) (one_token : Bool) → is_form (Several word) ≡ true → list_all (suits (Several word)) facets ≡ true → length excepts ≤ 129 → Tells (typed (Several word) facets) excepts one_token
 exist_words Name facets excepts one_token is suit few = (λ has. words_sound Name names facets excepts one_token suit few has, λ member. words_complete Name facets excepts one_token suit member)

@@ -44,3 +44,9 @@ pub mod Sound
 pub mod Token
 pub mod Same
 pub mod Tried
+pub mod TriedMore
+pub mod Pushed
+pub mod Parted
+pub mod Stepped
+pub mod Beyond
+pub mod NumbersLeft

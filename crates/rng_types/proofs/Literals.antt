@@ -1,16 +1,15 @@
 -- Literals of a number: as many as are wanted, by zeros at their start.
-use Rattle.std.specs.Prelude.{◌≡◌, ℕ, suc, ◌+◌, ◌*◌, ◌/◌, ◌%◌, ◌^◌, ◌<◌, Bool, true, false, not, ◌==◌, List, [], ◌∷◌, ◌++◌, length, take, drop}
-use Rattle.std.proofs.Common.{refl, sym, ap, ◌∙◌, arith, length-append, append-nil}
+use Rattle.std.specs.Prelude.{◌≡◌, ℕ, suc, ◌+◌, ◌<◌, Bool, true, false, not, ◌==◌, List, [], ◌∷◌, ◌++◌, length, take, drop}
+use Rattle.std.proofs.Common.{refl, ap, ◌∙◌, arith, append-nil}
 use Rattle.std.proofs.lemmas.Bool.{and_parts, and_from, le-leb, not_from_false, ne_eqb}
-use Rattle.std.proofs.Math.Nat.{div-add-mod', mod-lt}
-use Rattle.std.proofs.Math.Seq.{take-length, take-append_seam, drop-append-add}
+use Rattle.std.proofs.Math.Seq.{take-length}
 use Rattle.std.proofs.Math.ListN.{drop_of_length-le}
 use Rattle.std.specs.List.{list_all, position_or_len}
 use Rattle.std.specs.Char.{is_ascii_digit}
 use Rattle.std.specs.Str.Parse.{digits_value}
 use Rattle.rng_types.specs.Spaces.{is_some_text}
-use Rattle.rng_types.specs.Numbers.{Number, number_of, is_digits, is_integer, is_decimal, is_negative, is_point, unsigned, whole_part, fraction_part}
-use Rattle.rng_types.proofs.Digits.{Digits, no_digit, more_digits, Digits-from_all, Digits-append, value, value-append, ten_pow_pos, digits_value-value}
+use Rattle.rng_types.specs.Numbers.{Number, number_of, is_digits, is_integer, is_negative, is_point, unsigned, whole_part, fraction_part}
+use Rattle.rng_types.proofs.Digits.{Digits, no_digit, more_digits, Digits-from_all, digits_value-value}
 use Rattle.rng_types.proofs.Comparing.{point_after_digits}
 use Rattle.rng_types.proofs.Written.{fixed, length-fixed, Digits-fixed, value-fixed, below_longer}
 use Rattle.rng_types.proofs.Plain.{IsPlain}
@@ -20,15 +19,15 @@ pub all_digits : {cs : List ℕ} → Digits cs → list_all is_ascii_digit cs �
 all_digits no_digit = refl
 all_digits (more_digits {c = c} {cs = cs} low high more) = and_from _ _ (and_from _ _ (le-leb 48 c low) (le-leb c 57 high)) (all_digits more)
 
-digits_printed : {cs : List ℕ} → Digits cs → list_all is_printed cs ≡ true
+pub digits_printed : {cs : List ℕ} → Digits cs → list_all is_printed cs ≡ true
 digits_printed no_digit = refl
 digits_printed (more_digits {c = c} {cs = cs} low high more) = and_from _ _ (printed-from c (omega arith) (omega arith)) (digits_printed more)
 
-printed-append : (xs ys : List ℕ) → list_all is_printed xs ≡ true → list_all is_printed ys ≡ true → list_all is_printed (xs ++ ys) ≡ true
+pub printed-append : (xs ys : List ℕ) → list_all is_printed xs ≡ true → list_all is_printed ys ≡ true → list_all is_printed (xs ++ ys) ≡ true
 printed-append [] ys first second = second
 printed-append (x ∷ xs) ys first second = let parts = and_parts (is_printed x) (list_all is_printed xs) first in and_from _ _ parts.0 (printed-append xs ys parts.1 second)
 
-some_long : (cs : List ℕ) → 0 < length cs → is_some_text cs ≡ true
+pub some_long : (cs : List ℕ) → 0 < length cs → is_some_text cs ≡ true
 some_long cs some = not_from_false _ (ne_eqb (length cs) 0 (λ none. absurd (omega (arith, none))))
 
 pub sign : Bool → ℕ
@@ -51,7 +50,7 @@ printed_sign true = refl
 printed_sign false = refl
 
 -- what digits with a point or none stand for
-number_same : (a b : Bool) (d e p q : ℕ) → a ≡ b → d ≡ e → p ≡ q → (let x : Number = record { negative = a; digits = d; places = p } in x) ≡ record { negative = b; digits = e; places = q }
+pub number_same : (a b : Bool) (d e p q : ℕ) → a ≡ b → d ≡ e → p ≡ q → (let x : Number = record { negative = a; digits = d; places = p } in x) ≡ record { negative = b; digits = e; places = q }
 number_same a b d e p q first second third = rw (first, second, third) refl
 
 -- digits alone have no fraction
@@ -106,80 +105,9 @@ apart-whole_text negative d i j same =
     let long : suc (length (fixed (d + 1 + i) d)) ≡ suc (length (fixed (d + 1 + j) d)) = ap length same in
     omega (arith, long, length-fixed (d + 1 + i) d, length-fixed (d + 1 + j) d)
 
--- a decimal's literal, likewise
-pub point_text : Bool → ℕ → ℕ → ℕ → List ℕ
-point_text negative d p i = sign negative ∷ (fixed (d / 10 ^ p + 1 + i) (d / 10 ^ p) ++ 46 ∷ fixed p (d % 10 ^ p))
-
-point_behind_digits : {cs : List ℕ} (rest : List ℕ) → Digits cs → position_or_len is_point (cs ++ 46 ∷ rest) ≡ length cs
+-- digits before a point
+pub point_behind_digits : {cs : List ℕ} (rest : List ℕ) → Digits cs → position_or_len is_point (cs ++ 46 ∷ rest) ≡ length cs
 point_behind_digits rest no_digit = refl
 point_behind_digits rest (more_digits {c = c} {cs = cs} low high more) =
     let other : (c == 46) ≡ false = ne_eqb c 46 (λ same. absurd (omega (arith, same))) in
     rw (other, point_behind_digits rest more) (omega arith)
-
-division : (d k : ℕ) → 0 < k → (d / k * k + d % k ≡ d) × (d % k < k)
-division d k some = (div-add-mod' d k, mod-lt d some)
-
--- the parts of a literal with a point
-pub unsigned-point_text : (negative : Bool) (d p i : ℕ) → unsigned (point_text negative d p i) ≡ fixed (d / 10 ^ p + 1 + i) (d / 10 ^ p) ++ 46 ∷ fixed p (d % 10 ^ p)
-unfolding point_text
-unsigned-point_text negative d p i = unsigned_sign negative _
-
-whole-point_text : (negative : Bool) (d p i : ℕ) → whole_part (point_text negative d p i) ≡ fixed (d / 10 ^ p + 1 + i) (d / 10 ^ p)
-whole-point_text negative d p i =
-    let w : List ℕ = fixed (d / 10 ^ p + 1 + i) (d / 10 ^ p) in
-    let f : List ℕ = fixed p (d % 10 ^ p) in
-    ap (λ (v : List ℕ). take (position_or_len is_point v) v) (unsigned-point_text negative d p i)
-    ∙ ap (λ n. take n (w ++ 46 ∷ f)) (point_behind_digits f (Digits-fixed (d / 10 ^ p + 1 + i) (d / 10 ^ p)))
-    ∙ take-append_seam w (46 ∷ f)
-
-fraction-point_text : (negative : Bool) (d p i : ℕ) → fraction_part (point_text negative d p i) ≡ fixed p (d % 10 ^ p)
-fraction-point_text negative d p i =
-    let w : List ℕ = fixed (d / 10 ^ p + 1 + i) (d / 10 ^ p) in
-    let f : List ℕ = fixed p (d % 10 ^ p) in
-    ap (λ (v : List ℕ). drop (position_or_len is_point v + 1) v) (unsigned-point_text negative d p i)
-    ∙ ap (λ n. drop (n + 1) (w ++ 46 ∷ f)) (point_behind_digits f (Digits-fixed (d / 10 ^ p + 1 + i) (d / 10 ^ p)))
-    ∙ drop-append-add w (46 ∷ f) 1
-
-digits-point_text : (negative : Bool) (d p i : ℕ) → whole_part (point_text negative d p i) ++ fraction_part (point_text negative d p i) ≡ fixed (d / 10 ^ p + 1 + i) (d / 10 ^ p) ++ fixed p (d % 10 ^ p)
-digits-point_text negative d p i =
-    ap (λ (v : List ℕ). v ++ fraction_part (point_text negative d p i)) (whole-point_text negative d p i)
-    ∙ ap (λ (v : List ℕ). fixed (d / 10 ^ p + 1 + i) (d / 10 ^ p) ++ v) (fraction-point_text negative d p i)
-
-pub decimal-point_text : (negative : Bool) (d p i : ℕ) → is_decimal (point_text negative d p i) ≡ true
-decimal-point_text negative d p i =
-    let w : List ℕ = fixed (d / 10 ^ p + 1 + i) (d / 10 ^ p) in
-    let f : List ℕ = fixed p (d % 10 ^ p) in
-    ap is_digits (digits-point_text negative d p i)
-    ∙ and_from (is_some_text (w ++ f)) (list_all is_ascii_digit (w ++ f)) (some_long (w ++ f) (omega (arith, length-append w f, length-fixed (d / 10 ^ p + 1 + i) (d / 10 ^ p))))
-    (all_digits (Digits-append (Digits-fixed (d / 10 ^ p + 1 + i) (d / 10 ^ p)) (Digits-fixed p (d % 10 ^ p))))
-
-negative-point_text : (negative : Bool) (d p i : ℕ) → is_negative (point_text negative d p i) ≡ negative
-unfolding point_text
-negative-point_text negative d p i = negative_sign negative (fixed (d / 10 ^ p + 1 + i) (d / 10 ^ p) ++ 46 ∷ fixed p (d % 10 ^ p))
-
-pub number-point_text : (negative : Bool) (d p i : ℕ) → number_of (point_text negative d p i) ≡ record { negative = negative; digits = d; places = p }
-number-point_text negative d p i =
-    let q : ℕ = d / 10 ^ p in
-    let r : ℕ = d % 10 ^ p in
-    let w : List ℕ = fixed (q + 1 + i) q in
-    let f : List ℕ = fixed p r in
-    let split = division d (10 ^ p) (ten_pow_pos p) in
-    let joined : value (w ++ f) ≡ value w * 10 ^ length f + value f = value-append w f in
-    let total : value (w ++ f) ≡ d = joined ∙ rw (value-fixed (q + 1 + i) q (below_longer q i), length-fixed p r, value-fixed p r split.1) split.0 in
-    number_same _ negative _ d _ p (negative-point_text negative d p i)
-    (ap (digits_value 10) (digits-point_text negative d p i) ∙ digits_value-value (Digits-append (Digits-fixed (q + 1 + i) q) (Digits-fixed p r)) ∙ total)
-    (ap length (fraction-point_text negative d p i) ∙ length-fixed p r)
-
-pub plain-point_text : (negative : Bool) (d p i : ℕ) → IsPlain (point_text negative d p i)
-unfolding point_text
-plain-point_text negative d p i =
-    let w : List ℕ = fixed (d / 10 ^ p + 1 + i) (d / 10 ^ p) in
-    let f : List ℕ = fixed p (d % 10 ^ p) in
-    plain_printed (sign negative ∷ (w ++ 46 ∷ f)) (some_cons (sign negative) (w ++ 46 ∷ f))
-    (and_from _ _ (printed_sign negative)
-    (printed-append w (46 ∷ f) (digits_printed (Digits-fixed (d / 10 ^ p + 1 + i) (d / 10 ^ p))) (and_from _ _ refl (digits_printed (Digits-fixed p (d % 10 ^ p))))))
-
-pub apart-point_text : (negative : Bool) (d p i j : ℕ) → point_text negative d p i ≡ point_text negative d p j → i ≡ j
-apart-point_text negative d p i j same =
-    let wholes : fixed (d / 10 ^ p + 1 + i) (d / 10 ^ p) ≡ fixed (d / 10 ^ p + 1 + j) (d / 10 ^ p) = sym (whole-point_text negative d p i) ∙ ap whole_part same ∙ whole-point_text negative d p j in
-    omega (arith, ap length wholes, length-fixed (d / 10 ^ p + 1 + i) (d / 10 ^ p), length-fixed (d / 10 ^ p + 1 + j) (d / 10 ^ p))

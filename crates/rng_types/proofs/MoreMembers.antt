@@ -26,7 +26,7 @@ use Rattle.rng_types.specs.declared.datatype.Except.{Except}
 use Rattle.rng_types.specs.declared.datatype.Except.TheVariants.{Own, BuiltinString, BuiltinToken}
 use Rattle.rng_types.proofs.Collapsed.{word-alone, words-blank, not_nothing}
 use Rattle.rng_types.proofs.LeftOver.{TakesOne, one_left}
-use Rattle.rng_types.proofs.Plain.{OwnTakesOne, plain_member, same_by}
+use Rattle.rng_types.proofs.Plain.{OwnTakesOne, plain_one, same_by}
 use Rattle.rng_types.proofs.Numeric.{typed}
 use Rattle.rng_types.proofs.Allowed.{has_length-from, least_some, meets-lengths}
 use Rattle.rng_types.specs.Giving.{pad}
@@ -35,7 +35,7 @@ use Rattle.rng_types.proofs.Texts.{only_lengths, characters_nil}
 use Rattle.rng_types.proofs.MoreSame.{same_itself, same_joined}
 use Rattle.rng_types.proofs.MoreLaws.{blank_by_count, blank_literal, same_through_blank, AreApart, apart_at, count_at}
 use Rattle.rng_types.proofs.Token.{token_word}
-use Rattle.rng_types.proofs.Beside.{LeavesMember, LeavesText}
+use Rattle.rng_types.proofs.Beside.{LeavesMember, LeavesText, LeavesOne, one_of}
 
 abbrev of_type : MoreType → List Facet → Datatype
 of_type more facets = typed (More more) facets
@@ -55,25 +55,31 @@ own_each more facets candidate are [] = tt
 own_each more facets candidate are (except ∷ excepts) = (own_case more facets candidate are except, own_each more facets candidate are excepts)
 
 -- so one of them is left, where facets allow them
-apart_member : (more : MoreType) (facets : List Facet) (excepts : List Except) (one_token : Bool) (candidate : ℕ → List ℕ) → AreApart more candidate →
-    ((i : ℕ) → i < 130 → list_all (meets (More more) (candidate i)) facets ≡ true) → length excepts ≤ 129 → LeavesMember (of_type more facets) excepts one_token
-apart_member more facets excepts one_token candidate are meet few =
-    plain_member (of_type more facets) excepts one_token candidate 130 are.plain
+apart_one : (more : MoreType) (facets : List Facet) (excepts : List Except) (one_token : Bool) (candidate : ℕ → List ℕ) → AreApart more candidate →
+    ((i : ℕ) → i < 130 → list_all (meets (More more) (candidate i)) facets ≡ true) → length excepts ≤ 129 → LeavesOne (of_type more facets) excepts one_token candidate 130
+apart_one more facets excepts one_token candidate are meet few =
+    plain_one (of_type more facets) excepts one_token candidate 130 are.plain
     (λ i small. record { form = are.literal i small; facets = meet i small })
     (λ i j hi hj same. are.apart i j hi hj (ap (is_same more (candidate i)) (sym same) ∙ same_itself more (candidate i) (are.literal i hi))) (own_each more facets candidate are excepts) (omega arith)
 
+pub dates_one : (more : MoreType) (facets : List Facet) (excepts : List Except) (one_token : Bool) → is_octets more ≡ false → list_all (suits (More more)) facets ≡ true → length excepts ≤ 129 → LeavesOne (of_type more facets) excepts one_token (candidate more 0) 130
+dates_one more [] excepts one_token dates suit few =
+    apart_one more [] excepts one_token (candidate more 0) (apart_at more 0) (λ i small. refl) few
+dates_one more (Length relation limit ∷ facets) excepts one_token dates suit few = absurd (false≢true (sym dates ∙ (and_parts _ _ suit).0))
+dates_one more (Bound relation limit ∷ facets) excepts one_token dates suit few = absurd (false≢true suit)
+
 dates_member : (more : MoreType) (facets : List Facet) (excepts : List Except) (one_token : Bool) → is_octets more ≡ false → list_all (suits (More more)) facets ≡ true → length excepts ≤ 129 → LeavesMember (of_type more facets) excepts one_token
-dates_member more [] excepts one_token dates suit few =
-    apart_member more [] excepts one_token (candidate more 0) (apart_at more 0) (λ i small. refl) few
-dates_member more (Length relation limit ∷ facets) excepts one_token dates suit few = absurd (false≢true (sym dates ∙ (and_parts _ _ suit).0))
-dates_member more (Bound relation limit ∷ facets) excepts one_token dates suit few = absurd (false≢true suit)
+dates_member more facets excepts one_token dates suit few = one_of (dates_one more facets excepts one_token dates suit few)
+
+pub octets_one : (more : MoreType) (facets : List Facet) (excepts : List Except) (one_token : Bool) (n : ℕ) → is_octets more ≡ true → list_all (suits (More more)) facets ≡ true → length excepts ≤ 129 → has_length facets ≡ true → suc n ≡ least_length facets →
+    LeavesOne (of_type more facets) excepts one_token (candidate more n) 130
+octets_one more facets excepts one_token n octets suit few has least =
+    apart_one more facets excepts one_token (candidate more n) (apart_at more n)
+    (λ i small. met_by_count more facets (candidate more n i) suit ∙ ap (allows facets) (count_at more n i octets small ∙ least) ∙ has) few
 
 octets_member : (more : MoreType) (facets : List Facet) (excepts : List Except) (one_token : Bool) → is_octets more ≡ true → list_all (suits (More more)) facets ≡ true → length excepts ≤ 129 → has_length facets ≡ true → LeavesMember (of_type more facets) excepts one_token
 octets_member more facets excepts one_token octets suit few has =
-    let n : ℕ = least_length facets - 1 in
-    let least : suc n ≡ least_length facets = omega (arith, least_some facets) in
-    apart_member more facets excepts one_token (candidate more n) (apart_at more n)
-    (λ i small. met_by_count more facets (candidate more n i) suit ∙ ap (allows facets) (count_at more n i octets small ∙ least) ∙ has) few
+    one_of (octets_one more facets excepts one_token (least_length facets - 1) octets suit few has (omega (arith, least_some facets)))
 
 empty_accepted : (more : MoreType) (facets : List Facet) → is_octets more ≡ true → list_all (suits (More more)) facets ≡ true → allows facets 0 ≡ true → Accepts (of_type more facets) []
 empty_accepted more facets octets suit allowed = record {
@@ -112,13 +118,15 @@ pad_each more facets n (except ∷ excepts) octets spared =
     (pad_takes more facets n except octets (not-true _ parts.0), pad_each more facets n excepts octets parts.1)
 
 -- blank texts are without end, and each stands for no octets
-pad_member : (more : MoreType) (facets : List Facet) (excepts : List Except) → is_octets more ≡ true → list_all (suits (More more)) facets ≡ true → allows facets 0 ≡ true → is_left_spaced (of_type more facets) excepts [] ≡ true → LeavesMember (of_type more facets) excepts false
-pad_member more facets excepts octets suit allowed spared =
-    let n : ℕ = suc (length excepts) in
-    let left = one_left excepts (λ except i. is_taken_away (of_type more facets) (pad i []) except) n (pad_each more facets n excepts octets spared) (omega arith) in
-    let blank = blank-pad left.at in (
-      pad left.at [],
-      record {
+pub pad_one : (more : MoreType) (facets : List Facet) (excepts : List Except) (n : ℕ) → is_octets more ≡ true → list_all (suits (More more)) facets ≡ true → length excepts < n → allows facets 0 ≡ true → is_left_spaced (of_type more facets) excepts [] ≡ true →
+    LeavesOne (of_type more facets) excepts false (λ i. pad i []) n
+pad_one more facets excepts n octets suit more_than allowed spared =
+    let left = one_left excepts (λ except i. is_taken_away (of_type more facets) (pad i []) except) n (pad_each more facets n excepts octets spared) more_than in
+    let blank = blank-pad left.at in
+    record {
+      at = left.at;
+      below = left.below;
+      is = record {
         characters = characters_pad left.at [] characters_nil;
         accepted = record {
           form = (blank_literal more (pad left.at []) octets blank).0;
@@ -126,8 +134,11 @@ pad_member more facets excepts octets suit allowed spared =
         };
         left = left.free;
         token = λ asked. absurd (false≢true asked);
-      },
-    )
+      };
+    }
+
+pad_member : (more : MoreType) (facets : List Facet) (excepts : List Except) → is_octets more ≡ true → list_all (suits (More more)) facets ≡ true → allows facets 0 ≡ true → is_left_spaced (of_type more facets) excepts [] ≡ true → LeavesMember (of_type more facets) excepts false
+pad_member more facets excepts octets suit allowed spared = one_of (pad_one more facets excepts (suc (length excepts)) octets suit (omega arith) allowed spared)
 
 octets_sound : (more : MoreType) (facets : List Facet) (excepts : List Except) (one_token : Bool) → is_octets more ≡ true → list_all (suits (More more)) facets ≡ true → length excepts ≤ 129 → has_octets (of_type more facets) excepts one_token ≡ true → LeavesMember (of_type more facets) excepts one_token
 octets_sound more facets excepts true octets suit few has =

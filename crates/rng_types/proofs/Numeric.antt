@@ -1,5 +1,5 @@
 -- Numbers that are left, and their literals as members.
-use Rattle.std.specs.Prelude.{◌≡◌, ℕ, suc, ◌*◌, ◌^◌, ◌≤◌, ℤ, Bool, true, false, not, List, [], ◌∷◌, length, map}
+use Rattle.std.specs.Prelude.{◌≡◌, ℕ, suc, ◌*◌, ◌^◌, ◌<◌, ◌≤◌, ℤ, Bool, true, false, not, List, [], ◌∷◌, length, map}
 use Rattle.std.proofs.Common.{refl, sym, ap, ◌∙◌, arith}
 use Rattle.std.proofs.lemmas.Bool.{and_parts, and_from, not-true, not_from_false, false≢true}
 use Rattle.std.specs.List.{list_all, AllByRecursion}
@@ -20,9 +20,9 @@ use Rattle.rng_types.specs.declared.facet.Facet.TheVariants.{Length, Bound}
 use Rattle.rng_types.specs.declared.datatype.Datatype.{Datatype}
 use Rattle.rng_types.specs.declared.datatype.Except.{Except}
 use Rattle.rng_types.specs.declared.datatype.Except.TheVariants.{Own, BuiltinString, BuiltinToken}
-use Rattle.rng_types.proofs.Plain.{IsPlain, OwnTakesOne, plain_member, seen-plain}
+use Rattle.rng_types.proofs.Plain.{IsPlain, OwnTakesOne, plain_one, seen-plain}
 use Rattle.rng_types.proofs.Scaled.{is_met, met-over, times-product, places-over}
-use Rattle.rng_types.proofs.Beside.{LeavesMember, LeavesText}
+use Rattle.rng_types.proofs.Beside.{LeavesMember, LeavesText, LeavesOne, one_of}
 
 abbrev pub typed : Form → List Facet → Datatype
 typed form facets = record { form = form; facets = facets }
@@ -72,23 +72,27 @@ own_each word facets x candidate n numeric are (except ∷ excepts) spared =
     (own_case word facets x candidate n numeric are except (not-true _ parts.0), own_each word facets x candidate n numeric are excepts parts.1)
 
 -- a number that is left has a literal that is left
-pub number_member : (word : Word) (facets : List Facet) (excepts : List Except) (one_token : Bool) (x : Number) (candidate : ℕ → List ℕ) → IsNumeric word → Literals word x candidate → list_all is_number_bound facets ≡ true →
-    is_number_left facets excepts x ≡ true → LeavesMember (typed (One word) facets) excepts one_token
-number_member word facets excepts one_token x candidate numeric are bounds left =
+pub number_one : (word : Word) (facets : List Facet) (excepts : List Except) (one_token : Bool) (x : Number) (candidate : ℕ → List ℕ) (n : ℕ) → IsNumeric word → Literals word x candidate → list_all is_number_bound facets ≡ true →
+    is_number_left facets excepts x ≡ true → length excepts < n → LeavesOne (typed (One word) facets) excepts one_token candidate n
+number_one word facets excepts one_token x candidate n numeric are bounds left more =
     let type = typed (One word) facets in
     let parts = and_parts (list_all (is_number_met x) facets) (list_all (λ except. not (takes_number x except)) excepts) left in
-    let n : ℕ = suc (length excepts) in
     let seen : (i : ℕ) → seen_by type (candidate i) ≡ candidate i = λ i. seen-plain type (candidate i) (are.plain i).word in
     let met : (i : ℕ) → list_all (meets (One word) (candidate i)) facets ≡ true =
     λ i. meets-numbers word (candidate i) facets (numeric.decimal (candidate i) (are.fits i)) bounds ∙ ap (λ y. list_all (is_number_met y) facets) (are.number i) ∙ parts.0 in
-    plain_member type excepts one_token candidate n
+    plain_one type excepts one_token candidate n
     (λ i hi. are.plain i)
     (λ i hi. record {
       form = ap (is_word word) (seen i) ∙ are.fits i;
       facets = ap (λ (t : List ℕ). list_all (meets (One word) t) facets) (seen i) ∙ met i;
     })
     (λ i j hi hj same. are.apart i j same)
-    (own_each word facets x candidate n numeric are excepts parts.1) (omega arith)
+    (own_each word facets x candidate n numeric are excepts parts.1) more
+
+pub number_member : (word : Word) (facets : List Facet) (excepts : List Except) (one_token : Bool) (x : Number) (candidate : ℕ → List ℕ) → IsNumeric word → Literals word x candidate → list_all is_number_bound facets ≡ true →
+    is_number_left facets excepts x ≡ true → LeavesMember (typed (One word) facets) excepts one_token
+number_member word facets excepts one_token x candidate numeric are bounds left =
+    one_of (number_one word facets excepts one_token x candidate (suc (length excepts)) numeric are bounds left (omega arith))
 
 -- a member's number is left
 spared_case : (word : Word) (facets : List Facet) (text : List ℕ) → IsNumeric word → (except : Except) → is_taken_away (typed (One word) facets) text except ≡ false → takes_number (number_of (collapsed text)) except ≡ false
@@ -130,7 +134,7 @@ compared-over x y =
     ap (λ z. int_cmp z (times y (10 ^ x.places))) (times-over x (10 ^ y.places))
     ∙ ap (λ n. int_cmp (times (over x.places (times x 1)) (10 ^ y.places)) (times y (10 ^ n))) (sym (places-over x.places (times x 1)))
 
-met-same : (x : Number) (facet : Facet) → is_number_met x facet ≡ is_number_met (over x.places (times x 1)) facet
+pub met-same : (x : Number) (facet : Facet) → is_number_met x facet ≡ is_number_met (over x.places (times x 1)) facet
 met-same x (Length relation limit) = refl
 met-same x (Bound relation limit) = rw (compared-over x (number_of limit)) refl
 

@@ -1,17 +1,19 @@
 -- Bounds of decimals over one power of ten, and the room between them.
-use Rattle.std.specs.Prelude.{◌≡◌, ℕ, suc, ◌+◌, ◌-◌, ◌*◌, ◌^◌, ◌≤◌, ℤ, pos, negsuc, ◌+ℤ◌, ◌≤ℤ◌, ◌<ℤ◌, true, false, not, List, [], ◌∷◌}
-use Rattle.std.proofs.Common.{refl, sym, ap, ◌∙◌, arith}
-use Rattle.std.proofs.lemmas.Bool.{and_parts, false≢true}
+use Rattle.std.specs.Prelude.{◌≡◌, ℕ, suc, ◌+◌, ◌-◌, ◌*◌, ◌^◌, ◌≤◌, ℤ, pos, negsuc, ◌+ℤ◌, ◌≤ℤ◌, ◌<ℤ◌, true, false, not, List, [], ◌∷◌, length}
+use Rattle.std.proofs.Common.{refl, sym, ap, ◌∙◌, arith, length-append}
+use Rattle.std.proofs.lemmas.Bool.{and_parts, and_from, leb-true, le-leb, false≢true}
+use Rattle.std.proofs.lemmas.List.{length-drop}
 use Rattle.std.proofs.Math.Nat.{mul-le-mul_right}
 use Rattle.std.proofs.lemmas.Nat.{pow-add}
 use Rattle.std.proofs.lemmas.Int.{ints}
-use Rattle.std.specs.List.{list_all, AllByRecursion}
+use Rattle.std.specs.List.{list_all, position_or_len, AllByRecursion}
 use Rattle.std.specs.Ordering.{int_cmp, is_lt, is_eq, MatchOrdering}
 use Rattle.std.specs.Cmp.{int_ranks}
 use Rattle.std.specs.declared.cmp.Ordering.{Ordering}
 use Rattle.std.specs.declared.cmp.Ordering.TheVariants.{Less, Equal, Greater}
 use Rattle.rng_types.specs.Spaces.{collapsed}
-use Rattle.rng_types.specs.Numbers.{Number, number_of, times, compared}
+use Rattle.rng_types.specs.Numbers.{Number, number_of, times, compared, unsigned, is_point}
+use Rattle.rng_types.specs.Giving.{is_limit_within, sign_of}
 use Rattle.rng_types.specs.Facets.{holds}
 use Rattle.rng_types.specs.NumberMembers.{is_number_bound, over, is_number_met, takes_number, is_number_left}
 use Rattle.rng_types.specs.declared.facet.Facet.{Facet}
@@ -21,6 +23,7 @@ use Rattle.rng_types.specs.declared.datatype.Except.TheVariants.{Own, BuiltinStr
 use Rattle.rng_types.proofs.Digits.{ten_pow_pos}
 use Rattle.rng_types.proofs.Scaled.{times_cmp, times-product, times-places, places-over}
 use Rattle.rng_types.proofs.Numeric.{all_same, IsWithin}
+use Rattle.rng_types.proofs.Parted.{sign_before}
 
 -- a number over that power of ten, which is to be no smaller than its own
 abbrev pub scaled : ℕ → Number → ℤ
@@ -132,3 +135,51 @@ within_most s [] bounds small = tt
 within_most s (facet ∷ facets) bounds small =
     let parts = and_parts _ _ bounds in
     (within_case s facet parts.0 (omega arith), within_most s facets parts.1 (omega arith))
+
+-- a length that no limit of a bound exceeds, and so no limit's fraction
+limit_length : Facet → ℕ
+limit_length (Length relation limit) = 0
+limit_length (Bound relation limit) = length limit
+
+pub most_length : List Facet → ℕ
+most_length [] = 0
+most_length (facet ∷ facets) = limit_length facet + most_length facets
+
+pub limit_within_more : (k s : ℕ) (facet : Facet) → k ≤ s → is_limit_within k facet ≡ true → is_limit_within s facet ≡ true
+limit_within_more k s (Length relation limit) more within = refl
+limit_within_more k s (Bound relation limit) more within = let h : length limit ≤ k = leb-true (length limit) k within in le-leb (length limit) s (omega (arith, h, more))
+
+pub limits_within_more : (k s : ℕ) (facets : List Facet) → k ≤ s → list_all (is_limit_within k) facets ≡ true → list_all (is_limit_within s) facets ≡ true
+limits_within_more k s [] more within = refl
+limits_within_more k s (facet ∷ facets) more within =
+    let parts = and_parts (is_limit_within k facet) (list_all (is_limit_within k) facets) within in
+    and_from _ _ (limit_within_more k s facet more parts.0) (limits_within_more k s facets more parts.1)
+
+limit_within : (facet : Facet) → is_limit_within (limit_length facet) facet ≡ true
+unfolding limit_length
+limit_within (Length relation limit) = refl
+limit_within (Bound relation limit) = le-leb (length limit) (length limit) (omega arith)
+
+pub limits_within : (facets : List Facet) → list_all (is_limit_within (most_length facets)) facets ≡ true
+unfolding most_length
+limits_within [] = refl
+limits_within (facet ∷ facets) =
+    and_from _ _ (limit_within_more (limit_length facet) (limit_length facet + most_length facets) facet (omega arith) (limit_within facet))
+    (limits_within_more (most_length facets) (limit_length facet + most_length facets) facets (omega arith) (limits_within facets))
+
+pub length-unsigned : (text : List ℕ) → length (unsigned text) ≤ length text
+length-unsigned text = omega (arith, length-append (sign_of text) (unsigned text), ap length (sign_before text))
+
+pub places_short : (text : List ℕ) → (number_of text).places ≤ length text
+places_short text = omega (arith, length-unsigned text, length-drop (position_or_len is_point (unsigned text) + 1) (unsigned text))
+
+within_limit : (k : ℕ) (facet : Facet) → is_number_bound facet ≡ true → is_limit_within k facet ≡ true → IsWithin k facet
+within_limit k (Length relation limit) bound within = absurd (false≢true bound)
+within_limit k (Bound relation limit) bound within = let h : length limit ≤ k = leb-true (length limit) k within in omega (arith, h, places_short limit)
+
+pub within_limits : (k : ℕ) (facets : List Facet) → list_all is_number_bound facets ≡ true → list_all (is_limit_within k) facets ≡ true → AllByRecursion (IsWithin k) facets
+within_limits k [] bounds within = tt
+within_limits k (facet ∷ facets) bounds within =
+    let first = and_parts (is_number_bound facet) (list_all is_number_bound facets) bounds in
+    let parts = and_parts (is_limit_within k facet) (list_all (is_limit_within k) facets) within in
+    (within_limit k facet first.0 parts.0, within_limits k facets first.1 parts.1)

@@ -1,13 +1,15 @@
 -- Integers have a member exactly where one of the numbers asked for is left.
-use Rattle.std.specs.Prelude.{◌≡◌, ℕ, suc, ◌+◌, ◌<◌, ℤ, pos, negsuc, ◌+ℤ◌, ◌-ℤ◌, ◌≤ℤ◌, ◌<ℤ◌, Bool, true, false, List, [], ◌∷◌, length, map, Option, None, Some}
+use Rattle.std.specs.Prelude.{◌≡◌, ℕ, suc, ◌+◌, ◌^◌, ◌<◌, ◌≤◌, ℤ, pos, negsuc, neg_ℤ, ◌+ℤ◌, ◌-ℤ◌, ◌≤ℤ◌, ◌<ℤ◌, Bool, true, false, List, [], ◌∷◌, length, map, Option, None, Some}
 use Rattle.std.proofs.Common.{refl, sym, ap, ◌∙◌, arith, subst, inl, inr}
-use Rattle.std.proofs.lemmas.Bool.{and_parts, and_from, false≢true, cases_lt}
+use Rattle.std.proofs.Math.Nat.{pow-le-pow_right}
+use Rattle.std.proofs.lemmas.Bool.{and_parts, and_from, leb-true, false≢true, cases_lt}
 use Rattle.std.proofs.lemmas.Int.{ints}
 use Rattle.std.specs.List.{list_all, AllByRecursion}
 use Rattle.rng_types.specs.Spaces.{collapsed}
-use Rattle.rng_types.specs.Numbers.{number_of, times}
+use Rattle.rng_types.specs.Numbers.{Number, number_of, times, unsigned}
 use Rattle.rng_types.specs.NumberMembers.{is_number_bound, Limit, limit_over, over, takes_number, is_number_left, lower_end, has_integer_from, has_integer}
 use Rattle.rng_types.specs.WellMade.{suits}
+use Rattle.rng_types.specs.Giving.{extended, is_limit_within}
 use Rattle.rng_types.specs.declared.kind.Word.TheVariants.{Integer}
 use Rattle.rng_types.specs.declared.kind.Form.TheVariants.{One}
 use Rattle.rng_types.specs.declared.facet.Facet.{Facet}
@@ -15,9 +17,14 @@ use Rattle.rng_types.specs.declared.facet.Facet.TheVariants.{Length, Bound}
 use Rattle.rng_types.specs.declared.datatype.Except.{Except}
 use Rattle.rng_types.proofs.Comparing.{decimal_from_integer}
 use Rattle.rng_types.proofs.LeftOver.{TakesOne, one_left, Found, found, some_from}
-use Rattle.rng_types.proofs.Literals.{whole_text, integer-whole_text, number-whole_text, plain-whole_text, apart-whole_text, places-integer}
+use Rattle.rng_types.proofs.Literals.{whole_text, integer-whole_text, number-whole_text, plain-whole_text, apart-whole_text, places-integer, Digits-integer}
+use Rattle.rng_types.proofs.Digits.{value-lt, digits_value-value}
+use Rattle.rng_types.proofs.Apart.{digits-integer}
+use Rattle.rng_types.proofs.Raised.{end_whole}
+use Rattle.rng_types.proofs.Parted.{far_below_is}
+use Rattle.rng_types.proofs.Room.{length-unsigned, most_length, limits_within}
 use Rattle.rng_types.proofs.Scaled.{is_met, takes_one_number}
-use Rattle.rng_types.proofs.Ends.{IsAbove, between, Reaches, reaches, depth, met_far_below}
+use Rattle.rng_types.proofs.Ends.{IsAbove, between, Reaches, reaches, met_below}
 use Rattle.rng_types.proofs.Numeric.{typed, IsNumeric, Literals, number_member, member_number, IsWithin, met_facets, left-over}
 use Rattle.rng_types.proofs.Beside.{LeavesMember, LeavesText}
 
@@ -50,7 +57,7 @@ pub integer_bounds : (facets : List Facet) → list_all (suits (One Integer)) fa
 integer_bounds [] suit = refl
 integer_bounds (facet ∷ facets) suit = let parts = and_parts _ _ suit in and_from _ _ (bound_case facet parts.0) (integer_bounds facets parts.1)
 
-integers_numeric : IsNumeric Integer
+pub integers_numeric : IsNumeric Integer
 integers_numeric = record { same = λ a b. refl; decimal = decimal_from_integer }
 
 integer_literals : (negative : Bool) (d : ℕ) → Literals Integer (record { negative = negative; digits = d; places = 0 }) (whole_text negative d)
@@ -121,21 +128,54 @@ pub record NumberLeft (s : ℕ) (facets : List Facet) (excepts : List Except) : 
   pub number : ℤ
   pub left : is_number_left facets excepts (over s number) ≡ true
 
-pub left_far_below : (s : ℕ) (facets : List Facet) (excepts : List Except) → AllByRecursion (IsWithin s) facets → lower_end (map (limit_over s) facets) ≡ None → NumberLeft s facets excepts
-left_far_below s facets excepts within none =
-    let limits : List Limit = map (limit_over s) facets in
-    let candidate : ℕ → ℤ = λ i. negsuc (depth limits + i) in
-    let apart : (i j : ℕ) → candidate i ≡ candidate j → i ≡ j = λ i j same. omega (arith, ints, same) in
-    let found = number_left s facets excepts candidate within apart (λ i h. met_far_below limits (depth limits + i) none (omega arith)) in
-    record { number = candidate found.at; left = found.passes }
+-- far below all bounds, where each is an upper one
+above_far : (b : Bool) (d k m : ℕ) (z : ℤ) → z ≡ times (record { negative = b; digits = d; places = 0 }) 1 → d < 10 ^ k → k ≤ m → neg_ℤ (pos (10 ^ (m + 3))) <ℤ z
+above_far true d k m z is small more = let h : 10 ^ k ≤ 10 ^ (m + 3) = pow-le-pow_right (omega arith) (omega (arith, more)) in omega (arith, ints, is, small, h)
+above_far false d k m z is small more = let h : 10 ^ k ≤ 10 ^ (m + 3) = pow-le-pow_right (omega arith) (omega (arith, more)) in omega (arith, ints, is, small, h)
 
-integer_left : (end : Option ℤ) (facets : List Facet) (excepts : List Except) → list_all (suits (One Integer)) facets ≡ true → lower_end (map (limit_over 0) facets) ≡ end → has_integer_from end facets excepts ≡ true → NumberLeft 0 facets excepts
-integer_left None facets excepts suit is has = left_far_below 0 facets excepts (within_zero facets suit) is
-integer_left (Some low) facets excepts suit is has =
+far_case : (k : ℕ) (facet : Facet) → suits (One Integer) facet ≡ true → is_limit_within k facet ≡ true → neg_ℤ (pos (10 ^ (k + 3))) <ℤ (limit_over 0 facet).at
+far_case k (Length relation limit) suit within = absurd (false≢true suit)
+far_case k (Bound relation limit) suit within =
+    let digits = Digits-integer limit suit in
+    let short : length limit ≤ k = leb-true (length limit) k within in
+    let small : (number_of limit).digits < 10 ^ length (unsigned limit) = rw (digits-integer limit suit ∙ digits_value-value digits) (value-lt digits) in
+    above_far (number_of limit).negative (number_of limit).digits (length (unsigned limit)) k (limit_over 0 (Bound relation limit)).at (end_whole limit) small (omega (arith, length-unsigned limit, short))
+
+far_each : (k : ℕ) (w : ℤ) (facets : List Facet) → list_all (suits (One Integer)) facets ≡ true → list_all (is_limit_within k) facets ≡ true → w ≤ℤ neg_ℤ (pos (10 ^ (k + 3))) → AllByRecursion (λ limit. w <ℤ limit.at) (map (limit_over 0) facets)
+far_each k w [] suit within far = tt
+far_each k w (facet ∷ facets) suit within far =
+    let parts = and_parts _ _ suit in
+    let more = and_parts (is_limit_within k facet) (list_all (is_limit_within k) facets) within in
+    (let h = far_case k facet parts.0 more.0 in omega (arith, ints, far, h), far_each k w facets parts.1 more.1 far)
+
+abbrev far_number : ℕ → ℕ → Number
+far_number k i = record { negative = true; digits = 10 ^ (k + 3) + i; places = 0 }
+
+pub left_far_below : (k : ℕ) (facets : List Facet) (excepts : List Except) → list_all (suits (One Integer)) facets ≡ true → list_all (is_limit_within k) facets ≡ true → length excepts ≤ 129 → lower_end (map (limit_over 0) facets) ≡ None →
+    Found (λ i. is_number_left facets excepts (number_of (extended (45 ∷ 49 ∷ []) k i))) 130
+left_far_below k facets excepts suit within few none =
+    let limits : List Limit = map (limit_over 0) facets in
+    let candidate : ℕ → ℤ = λ i. times (far_number k i) 1 in
+    let apart : (i j : ℕ) → candidate i ≡ candidate j → i ≡ j = λ i j same. omega (arith, ints, same) in
+    let left = number_left 0 facets excepts candidate (within_zero facets suit) apart
+    (λ i inside. met_below limits (candidate i) none (far_each k (candidate i) facets suit within (omega (arith, ints)))) in
+    record {
+      at = left.at;
+      below = omega (arith, left.below, few);
+      passes = ap (is_number_left facets excepts) (far_below_is k left.at (omega (arith, left.below, few))).number ∙ left-over facets excepts (far_number k left.at) ∙ left.passes;
+    }
+
+integer_left : (end : Option ℤ) (facets : List Facet) (excepts : List Except) → list_all (suits (One Integer)) facets ≡ true → length excepts ≤ 129 → lower_end (map (limit_over 0) facets) ≡ end → has_integer_from end facets excepts ≡ true → NumberLeft 0 facets excepts
+integer_left None facets excepts suit few is has =
+    let k : ℕ = most_length facets in
+    let left = left_far_below k facets excepts suit (limits_within facets) few is in
+    let number = (far_below_is k left.at (omega (arith, left.below))).number in
+    record { number = times (far_number k left.at) 1; left = sym (left-over facets excepts (far_number k left.at)) ∙ ap (is_number_left facets excepts) (sym number) ∙ left.passes }
+integer_left (Some low) facets excepts suit few is has =
     let some = found (λ i. is_number_left facets excepts (over 0 (low +ℤ pos i))) (length excepts + 2) has in
     record { number = low +ℤ pos some.at; left = some.passes }
 
-pub integer_sound : (facets : List Facet) (excepts : List Except) (one_token : Bool) → list_all (suits (One Integer)) facets ≡ true → has_integer facets excepts ≡ true → LeavesMember (typed (One Integer) facets) excepts one_token
-integer_sound facets excepts one_token suit has =
-    let left = integer_left (lower_end (map (limit_over 0) facets)) facets excepts suit refl has in
+pub integer_sound : (facets : List Facet) (excepts : List Except) (one_token : Bool) → list_all (suits (One Integer)) facets ≡ true → length excepts ≤ 129 → has_integer facets excepts ≡ true → LeavesMember (typed (One Integer) facets) excepts one_token
+integer_sound facets excepts one_token suit few has =
+    let left = integer_left (lower_end (map (limit_over 0) facets)) facets excepts suit few refl has in
     integer_member facets excepts one_token left.number (integer_bounds facets suit) left.left

@@ -112,7 +112,7 @@ impl Facet {
 }
 
 /// Whether a literal's number meets all bounds.
-fn meets_all(facets: &[Facet], literal: &[u8]) -> bool
+pub(crate) fn meets_all(facets: &[Facet], literal: &[u8]) -> bool
     requires number { IsTrue (is_decimal literal.now) }
     requires bounds { IsTrue (list_all is_number_bound facets.now) }
     ensures { result ≡ list_all (is_number_met (number_of literal.now)) facets.now }
@@ -140,7 +140,7 @@ fn none_takes(excepts: &[Except], literal: &[u8]) -> bool
 }
 
 /// Whether a literal's number meets all bounds, and no except takes it away.
-fn is_number_left(facets: &[Facet], excepts: &[Except], literal: &[u8]) -> bool
+pub(crate) fn is_number_left(facets: &[Facet], excepts: &[Except], literal: &[u8]) -> bool
     requires number { IsTrue (is_decimal literal.now) }
     requires bounds { IsTrue (list_all is_number_bound facets.now) }
     requires others { IsTrue (list_all is_decimal_except excepts.now) }
@@ -150,7 +150,7 @@ fn is_number_left(facets: &[Facet], excepts: &[Except], literal: &[u8]) -> bool
 }
 
 /// Whether each lower bound leaves room to each upper one.
-fn has_room(facets: &[Facet]) -> bool
+pub(crate) fn has_room(facets: &[Facet]) -> bool
     requires { IsTrue (list_all is_number_bound facets.now) }
     ensures { result ≡ has_room_between facets.now }
 {
@@ -163,7 +163,7 @@ fn has_room(facets: &[Facet]) -> bool
 }
 
 /// Whether the number of a bound itself is left.
-fn is_limit_left(facets: &[Facet], excepts: &[Except], facet: &Facet) -> bool
+pub(crate) fn is_limit_left(facets: &[Facet], excepts: &[Except], facet: &Facet) -> bool
     requires bounds { IsTrue (list_all is_number_bound facets.now) }
     requires bound { IsTrue (is_number_bound facet.now) }
     requires others { IsTrue (list_all is_decimal_except excepts.now) }

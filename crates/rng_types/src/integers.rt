@@ -47,7 +47,7 @@ fn raised<'a>(low: Option<&'a [u8]>, facet: &'a Facet) -> Option<&'a [u8]>
 }
 
 /// The literal of the greatest lower end, if there is one.
-fn lower_end(facets: &[Facet]) -> Option<&[u8]>
+pub(crate) fn lower_end(facets: &[Facet]) -> Option<&[u8]>
     requires { IsTrue (list_all (suits (One Integer)) facets.now) }
     ensures integer { IfSome result (λ text. IsTrue (is_integer text.now)) }
     ensures value { end_of (option_copied result) ≡ greatest_lower_end (map (limit_over 0) facets.now) }
@@ -121,7 +121,7 @@ fn none_takes_above(excepts: &[Except], low: &[u8], above: u32) -> bool
 }
 
 /// Whether it is left.
-fn is_left_above(facets: &[Facet], excepts: &[Except], low: &[u8], above: u32) -> bool
+pub(crate) fn is_left_above(facets: &[Facet], excepts: &[Except], low: &[u8], above: u32) -> bool
     requires low { IsTrue (is_integer low.now) }
     requires bounds { IsTrue (list_all (suits (One Integer)) facets.now) }
     requires others { IsTrue (list_all is_integer_except excepts.now) }

@@ -6,8 +6,10 @@
 //! row. Nothing here knows of patterns: `rng_core` stands above.
 //!
 //! Whether a member is left (`members`) is told by the form, from lengths and bounds alone: no text is made, and nothing is
-//! searched beyond two numbers more than there are excepts. Definitions in `specs/`: `Types`, `Facets`, `Words`, `Numbers`
-//! and `Members` say what is meant; `Answers`, `MemberTest` and `Equality` are tests of it, which laws (`laws`) tie to it.
+//! searched beyond two numbers more than there are excepts. Such a member is given (`giving`) by trying texts of which one
+//! must be a member (`trying`), those first that a reader would write. Definitions in `specs/`: `Types`, `Facets`, `Words`,
+//! `Numbers` and `Members` say what is meant, `Giving` what is tried and answered; `Answers`, `MemberTest` and `Equality` are
+//! tests of it, which laws (`laws`) tie to it.
 #![tactic(auto)]
 
 mod bounds;
@@ -17,20 +19,27 @@ pub mod facet;
 pub mod fault;
 mod few_digits;
 mod form;
+mod giving;
 mod integers;
 pub mod kind;
 pub mod laws;
+mod left_numbers;
 mod length;
 mod length_range;
 mod meeting;
 mod members;
+mod more_texts;
 mod naming;
 mod number;
+mod number_texts;
 mod offset;
 mod one_token;
+mod pushing;
 mod relation;
 mod sameness;
 pub mod spaces;
+mod spelling;
+mod successor;
 mod table;
 mod trying;
 pub mod word;

@@ -176,3 +176,6 @@ impl Datatype {
 
 /// The most excepts of which it can be told: the 128 that a schema may have, and one more.
 pub(crate) const MOST_EXCEPTS: usize = 129;
+
+/// How many texts or numbers are tried where there are as many as are wanted: one more than there can be excepts.
+pub(crate) const TRIALS: u32 = 130;

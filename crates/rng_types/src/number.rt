@@ -115,7 +115,7 @@ fn leading_zeros(digits: &[u8]) -> usize
 }
 
 /// Digits without the zeros at their start.
-fn without_leading_zeros(digits: &[u8]) -> &[u8]
+pub(crate) fn without_leading_zeros(digits: &[u8]) -> &[u8]
     ensures { result.now ≡ without_zeros_before digits.now }
 {
     let zeros = leading_zeros(digits);
@@ -164,7 +164,7 @@ fn is_zero_number(text: &[u8]) -> bool
 }
 
 /// Whether a literal's number is below zero.
-fn is_below_zero(text: &[u8]) -> bool
+pub(crate) fn is_below_zero(text: &[u8]) -> bool
     requires { IsTrue (is_decimal_text text.now) }
     ensures { result ≡ (is_negative_text text.now && not ((number_of text.now).digits == 0)) }
 {
