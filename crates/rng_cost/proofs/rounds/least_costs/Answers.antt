@@ -1,0 +1,28 @@
+use Rattle.std.proofs.Common.{◌≡◌, ◌∙◌, sym, ap, arith, length, map}
+use Rattle.std.proofs.lemmas.Bool.{false≢true}
+use Rattle.std.proofs.lemmas.List.{length-map}
+use Rattle.rng_core.specs.Meaning.{definition_of}
+use Rattle.rng_cost.proofs.Exact.{are_least}
+use Rattle.rng_cost.proofs.Passing.{right_first, round_right, round_settled, round_smaller, flag}
+use Rattle.rng_cost.proofs.rounds.least_costs.Goals as goal
+
+pub loop-falling-init : goal.loop-falling-init
+loop-falling-init c = record {
+  right = right_first c.in_ok-costs.costs.items c.len.result c.in_ok-costs.ensures (c.len.ensures ∙ sym (length-map c.args.defs.now definition_of));
+  settled = λ is. absurd (false≢true (sym is));
+}
+
+pub loop-falling-preserved : goal.loop-falling-preserved
+loop-falling-preserved c = record {
+  right = round_right (map definition_of c.args.defs.now) (length c.args.defs.now) c.loop-falling.costs.items c.settle_all-falling.new.costs.items c.settle_all-falling.result c.loop-falling.invariant.right c.settle_all-falling.ensures;
+  settled = round_settled (map definition_of c.args.defs.now) (length c.args.defs.now) c.loop-falling.costs.items c.settle_all-falling.new.costs.items c.settle_all-falling.result (sym (length-map c.args.defs.now definition_of)) c.settle_all-falling.ensures;
+}
+
+pub loop-falling-smaller : goal.loop-falling-smaller
+loop-falling-smaller c =
+    let smaller = round_smaller (map definition_of c.args.defs.now) (length c.args.defs.now) c.loop-falling.costs.items c.settle_all-falling.new.costs.items c.settle_all-falling.result c.settle_all-falling.ensures in
+    let on : flag c.loop-falling.falling ≡ 1 = ap flag c.loop-falling-test.true in
+    omega (arith, smaller, on)
+
+pub returns : goal.returns
+returns c = are_least c.loop-falling.invariant.right (c.loop-falling.invariant.settled c.loop-falling-test.false)
