@@ -1,5 +1,5 @@
 -- Members beside excepts, where a test asks what excepts leave.
-use Rattle.std.specs.Prelude.{◌≡◌, ℕ, Bool, true, List}
+use Rattle.std.specs.Prelude.{◌≡◌, ◌<◌, ℕ, Bool, true, List}
 use Rattle.std.proofs.lemmas.Bool.{and_parts}
 use Rattle.std.specs.List.{list_all}
 use Rattle.std.specs.Str.{chars, is_utf8}
@@ -21,6 +21,15 @@ pub record IsLeftText (are : List ℕ → Bool) (type : Datatype) (excepts : Lis
 -- a member is left, of characters that XML allows
 abbrev pub LeavesMember : Datatype → List Except → Bool → Type 0
 LeavesMember type excepts one_token = (text : List ℕ) × IsLeftText is_of_chars type excepts one_token text
+
+-- one of the first n candidates is
+pub record LeavesOne (type : Datatype) (excepts : List Except) (one_token : Bool) (candidate : ℕ → List ℕ) (n : ℕ) : Type 0 where
+  pub at : ℕ
+  pub below : at < n
+  pub is : IsLeftText is_of_chars type excepts one_token (candidate at)
+
+pub one_of : {type : Datatype} {excepts : List Except} {one_token : Bool} {candidate : ℕ → List ℕ} {n : ℕ} → LeavesOne type excepts one_token candidate n → LeavesMember type excepts one_token
+one_of {candidate = candidate} one = (candidate one.at, one.is)
 
 -- and one of any characters
 abbrev pub LeavesText : Datatype → List Except → Bool → Type 0

@@ -17,6 +17,7 @@ use Rattle.rng_types.specs.Words.{is_nm_token}
 use Rattle.rng_types.proofs.Collapsed.{is_bare}
 use Rattle.rng_types.proofs.SplitWords.{space_is_ascii}
 use Rattle.rng_types.proofs.Plain.{IsPlain}
+use Rattle.rng_types.specs.Giving.{word_of}
 
 -- a letter of names, beyond ASCII
 pub record IsLetter (c : ℕ) : Type 0 where
@@ -37,10 +38,6 @@ name_letter c letter = rw (start_letter c letter) refl
 
 scalar_letter : (c : ℕ) → IsLetter c → all_scalars (c ∷ []) ≡ true
 scalar_letter c letter = let low = letter.low in let high = letter.high in grind (arith, nat_tests)
-
--- that many times the letter
-pub word_of : ℕ → ℕ → List ℕ
-word_of k c = encode_utf8_all (replicate k c)
 
 all_replicate : (p : ℕ → Bool) (k c : ℕ) → p c ≡ true → list_all p (replicate k c) ≡ true
 all_replicate p zero c passes = refl

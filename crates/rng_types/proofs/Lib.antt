@@ -43,3 +43,4 @@ pub mod Raised
 pub mod Sound
 pub mod Token
 pub mod Same
+pub mod Tried

@@ -21,14 +21,15 @@ use Rattle.rng_types.specs.declared.kind.Form.TheVariants.{One, Several}
 use Rattle.rng_types.specs.declared.facet.Facet.{Facet}
 use Rattle.rng_types.specs.declared.datatype.Except.{Except}
 use Rattle.rng_types.proofs.Collapsed.{IsBareWord, words-collapsed, word-alone, words-joined}
-use Rattle.rng_types.proofs.Plain.{IsPlain, plain_member, tight_member, seen-plain}
+use Rattle.rng_types.proofs.Plain.{IsPlain, plain_one, tight_one, seen-plain}
 use Rattle.rng_types.proofs.Numeric.{typed}
 use Rattle.rng_types.proofs.Allowed.{has_length-from, least_some, meets-lengths}
-use Rattle.rng_types.proofs.Letters.{word_of, plain-word_of, apart-word_of, token-word_of, name-word_of, nc_name-word_of}
+use Rattle.rng_types.proofs.Letters.{plain-word_of, apart-word_of, token-word_of, name-word_of, nc_name-word_of}
 use Rattle.rng_types.proofs.Padded.{characters_append, characters_space}
 use Rattle.rng_types.proofs.Printable.{is_printed, plain_printed, some_cons}
 use Rattle.rng_types.proofs.Texts.{TakesLetters, letters_member, allowed_size, own_each, only_lengths, letter}
-use Rattle.rng_types.proofs.Beside.{LeavesMember, LeavesText}
+use Rattle.rng_types.proofs.Beside.{LeavesMember, LeavesText, LeavesOne, one_of}
+use Rattle.rng_types.specs.Giving.{word_of, many, tail, tag}
 
 -- forms of one word that is a name, or something like it
 pub record TakesNames (word : Word) : Type 0 where
@@ -67,10 +68,6 @@ name_sound word takes facets excepts one_token suit few has = letters_member (On
 pub name_complete : (word : Word) → TakesNames word → (facets : List Facet) (excepts : List Except) (one_token : Bool) → list_all (suits (One word)) facets ≡ true → LeavesText (typed (One word) facets) excepts one_token → has_length facets ≡ true
 name_complete word takes facets excepts one_token suit member =
     has_length-from facets (length (chars (collapsed member.0))) (takes.filled (collapsed member.0) member.1.accepted.form) (allowed_size (One word) facets member.0 takes.letters suit member.1.accepted)
-
--- that many times a word, with a space between each two
-pub many : ℕ → List ℕ → List ℕ
-many k word = join_with_byte 32 (replicate k word)
 
 bare_replicate : (k : ℕ) (word : List ℕ) → IsBareWord word → AllByRecursion IsBareWord (replicate k word)
 bare_replicate zero word is = tt
@@ -116,9 +113,9 @@ many_one word = refl
 single_token : (text word : List ℕ) → IsPlain word → text ≡ word → is_one_token text ≡ true
 single_token text word plain same = ap is_one_token same ∙ and_from _ _ plain.word.some plain.word.bare
 
-pub words_member : (kind : Word) (facets : List Facet) (excepts : List Except) (one_token : Bool) (k : ℕ) → TakesNames kind → list_all (suits (Several kind)) facets ≡ true → length excepts ≤ 129 → 1 ≤ k → (one_token ≡ true → k ≡ 1) → allows facets k ≡ true →
-    LeavesMember (typed (Several kind) facets) excepts one_token
-words_member kind facets excepts one_token k takes suit few some single allowed =
+pub words_one : (kind : Word) (facets : List Facet) (excepts : List Except) (one_token : Bool) (k : ℕ) → TakesNames kind → list_all (suits (Several kind)) facets ≡ true → length excepts ≤ 129 → 1 ≤ k → (one_token ≡ true → k ≡ 1) → allows facets k ≡ true →
+    LeavesOne (typed (Several kind) facets) excepts one_token (λ i. many k (word_of 1 (256 + i))) 130
+words_one kind facets excepts one_token k takes suit few some single allowed =
     let type = typed (Several kind) facets in
     let word : ℕ → List ℕ = λ i. word_of 1 (256 + i) in
     let plain : (i : ℕ) → i < 130 → IsPlain (word i) = λ i small. plain-word_of 1 (256 + i) (letter i small) (omega arith) in
@@ -128,7 +125,7 @@ words_member kind facets excepts one_token k takes suit few some single allowed 
     let apart : (i j : ℕ) → i < 130 → j < 130 → candidate i ≡ candidate j → i ≡ j = λ i j hi hj same.
     let first : word i ≡ word j = replicates_same k (word i) (word j) some (sym (parts i hi) ∙ ap words same ∙ parts j hj) in
     omega (arith, apart-word_of 1 (256 + i) (256 + j) (omega arith) first) in
-    tight_member type excepts one_token candidate 130
+    tight_one type excepts one_token candidate 130
     (record {
       characters = λ i small. characters_many k (word i) (plain i small).characters some;
       tight = tight;
@@ -143,8 +140,8 @@ words_member kind facets excepts one_token k takes suit few some single allowed 
     (own_each type candidate 130 (record { same = λ a b. refl }) tight apart excepts) (omega arith)
 
 pub words_sound : (kind : Word) → TakesNames kind → (facets : List Facet) (excepts : List Except) (one_token : Bool) → list_all (suits (Several kind)) facets ≡ true → length excepts ≤ 129 → has_words (typed (Several kind) facets) one_token ≡ true → LeavesMember (typed (Several kind) facets) excepts one_token
-words_sound kind takes facets excepts true suit few has = words_member kind facets excepts true 1 takes suit few (omega arith) (λ asked. refl) has
-words_sound kind takes facets excepts false suit few has = words_member kind facets excepts false (least_length facets) takes suit few (least_some facets) (λ asked. absurd (false≢true asked)) has
+words_sound kind takes facets excepts true suit few has = one_of (words_one kind facets excepts true 1 takes suit few (omega arith) (λ asked. refl) has)
+words_sound kind takes facets excepts false suit few has = one_of (words_one kind facets excepts false (least_length facets) takes suit few (least_some facets) (λ asked. absurd (false≢true asked)) has)
 
 filled_words : (kind : Word) (ws : List (List ℕ)) → are_words kind ws ≡ true → 1 ≤ length ws
 filled_words kind [] none = absurd (false≢true none)
@@ -165,13 +162,6 @@ words_complete kind facets excepts false suit member =
     has_length-from facets (length (words member.0)) some (words_allowed kind facets member.0 suit member.1.accepted)
 
 -- language tags without end: a-a-a..
-tail : ℕ → List ℕ
-tail zero = []
-tail (suc i) = 45 ∷ 97 ∷ tail i
-
-pub tag : ℕ → List ℕ
-tag i = 97 ∷ tail i
-
 subtags : ℕ → List (List ℕ)
 subtags zero = (97 ∷ []) ∷ []
 subtags (suc i) = (97 ∷ []) ∷ subtags i
@@ -213,12 +203,14 @@ pub apart-tag : (i j : ℕ) → tag i ≡ tag j → i ≡ j
 unfolding tag
 apart-tag i j same = let long : suc (length (tail i)) ≡ suc (length (tail j)) = ap length same in omega (arith, long, length-tail i, length-tail j)
 
-pub language_member : (excepts : List Except) (one_token : Bool) → LeavesMember (typed (One Language) []) excepts one_token
-language_member excepts one_token =
+pub language_one : (excepts : List Except) (one_token : Bool) (n : ℕ) → length excepts < n → LeavesOne (typed (One Language) []) excepts one_token tag n
+language_one excepts one_token n more =
     let type = typed (One Language) [] in
     let seen : (i : ℕ) → seen_by type (tag i) ≡ tag i = λ i. seen-plain type (tag i) (plain-tag i).word in
-    let n : ℕ = suc (length excepts) in
-    plain_member type excepts one_token tag n (λ i small. plain-tag i)
+    plain_one type excepts one_token tag n (λ i small. plain-tag i)
     (λ i small. record { form = ap is_language (seen i) ∙ language-tag i; facets = refl })
     (λ i j hi hj same. apart-tag i j same)
-    (own_each type tag n (record { same = λ a b. refl }) (λ i small. seen i) (λ i j hi hj same. apart-tag i j same) excepts) (omega arith)
+    (own_each type tag n (record { same = λ a b. refl }) (λ i small. seen i) (λ i j hi hj same. apart-tag i j same) excepts) more
+
+pub language_member : (excepts : List Except) (one_token : Bool) → LeavesMember (typed (One Language) []) excepts one_token
+language_member excepts one_token = one_of (language_one excepts one_token (suc (length excepts)) (omega arith))

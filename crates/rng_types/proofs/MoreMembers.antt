@@ -29,7 +29,8 @@ use Rattle.rng_types.proofs.LeftOver.{TakesOne, one_left}
 use Rattle.rng_types.proofs.Plain.{OwnTakesOne, plain_member, same_by}
 use Rattle.rng_types.proofs.Numeric.{typed}
 use Rattle.rng_types.proofs.Allowed.{has_length-from, least_some, meets-lengths}
-use Rattle.rng_types.proofs.Padded.{pad, blank-pad, collapsed-pad, characters_pad, apart-pad}
+use Rattle.rng_types.specs.Giving.{pad}
+use Rattle.rng_types.proofs.Padded.{blank-pad, collapsed-pad, characters_pad, apart-pad}
 use Rattle.rng_types.proofs.Texts.{only_lengths, characters_nil}
 use Rattle.rng_types.proofs.MoreSame.{same_itself, same_joined}
 use Rattle.rng_types.proofs.MoreLaws.{blank_by_count, blank_literal, same_through_blank, AreApart, apart_at, count_at}

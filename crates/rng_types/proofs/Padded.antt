@@ -1,5 +1,5 @@
 -- Texts with spaces before them: where white space collapses they have the same value, and are without end.
-use Rattle.std.specs.Prelude.{◌≡◌, ℕ, zero, suc, ◌+◌, true, false, not, List, [], ◌∷◌, ◌++◌, length}
+use Rattle.std.specs.Prelude.{◌≡◌, ℕ, zero, suc, ◌+◌, ◌<◌, true, false, not, List, [], ◌∷◌, ◌++◌, length}
 use Rattle.std.proofs.Common.{refl, sym, ap, ◌∙◌, arith}
 use Rattle.std.proofs.lemmas.Bool.{and_parts, and_from, not-true, not_from_false, false≢true}
 use Rattle.std.proofs.lemmas.List.Folds.{list_all-append}
@@ -24,7 +24,8 @@ use Rattle.rng_types.proofs.Collapsed.{space_is_space}
 use Rattle.rng_types.proofs.LeftOver.{TakesOne, one_left}
 use Rattle.rng_types.proofs.Numeric.{all_same}
 use Rattle.rng_types.proofs.Plain.{same_by}
-use Rattle.rng_types.proofs.Beside.{LeavesMember}
+use Rattle.rng_types.proofs.Beside.{LeavesMember, LeavesOne, one_of}
+use Rattle.rng_types.specs.Giving.{pad}
 
 -- characters that XML allows, joined
 pub characters_append : (xs ys : List ℕ) → is_of_chars xs ≡ true → is_of_chars ys ≡ true → is_of_chars (xs ++ ys) ≡ true
@@ -48,10 +49,6 @@ characters_space xs of =
     let parts = and_parts (is_utf8 xs) (list_all is_char (chars xs)) of in
     and_from _ _ (is_utf8-from_IsUtf8 (32 ∷ xs) (IsUtf8-append (32 ∷ []) xs (IsUtf8-from_ascii (32 ∷ []) space_ascii) (IsUtf8-from_is_utf8 xs parts.0)))
     (ap (list_all is_char) (chars-space xs) ∙ and_from _ _ space_is_char parts.1)
-
-pub pad : ℕ → List ℕ → List ℕ
-pad zero text = text
-pad (suc i) text = 32 ∷ pad i text
 
 pub blank-pad : (i : ℕ) → is_blank (pad i []) ≡ true
 unfolding pad
@@ -108,18 +105,23 @@ module _ (type : Datatype) (collapses : whitespace_of type.form ≡ Collapse) wh
   }
 
   -- a text is left, or one with spaces before it
-  pub spaced_member : (excepts : List Except) (text : List ℕ) → is_of_chars text ≡ true → Accepts type text → is_left_spaced type excepts text ≡ true → LeavesMember type excepts false
-  spaced_member excepts text of accepted spared =
-      let n : ℕ = suc (length excepts) in
-      let left = one_left excepts (λ except i. is_taken_away type (pad i text) except) n (pad_each text n excepts spared) (omega arith) in (
-        pad left.at text,
-        record {
+  pub spaced_one : (excepts : List Except) (text : List ℕ) (n : ℕ) → length excepts < n → is_of_chars text ≡ true → Accepts type text → is_left_spaced type excepts text ≡ true
+      → LeavesOne type excepts false (λ i. pad i text) n
+  spaced_one excepts text n more of accepted spared =
+      let left = one_left excepts (λ except i. is_taken_away type (pad i text) except) n (pad_each text n excepts spared) more in
+      record {
+        at = left.at;
+        below = left.below;
+        is = record {
           characters = characters_pad left.at text of;
           accepted = pad_accepted left.at text accepted;
           left = left.free;
           token = λ asked. absurd (false≢true asked);
-        },
-      )
+        };
+      }
+
+  pub spaced_member : (excepts : List Except) (text : List ℕ) → is_of_chars text ≡ true → Accepts type text → is_left_spaced type excepts text ≡ true → LeavesMember type excepts false
+  spaced_member excepts text of accepted spared = one_of (spaced_one excepts text (suc (length excepts)) (omega arith) of accepted spared)
 
 -- what takes each of them takes the text
 spared_case : (type : Datatype) (text : List ℕ) (except : Except) → is_taken_away type text except ≡ false → takes_spaced type text except ≡ false

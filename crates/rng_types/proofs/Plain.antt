@@ -18,7 +18,7 @@ use Rattle.rng_types.specs.declared.datatype.Except.{Except}
 use Rattle.rng_types.specs.declared.datatype.Except.TheVariants.{Own, BuiltinString, BuiltinToken}
 use Rattle.rng_types.proofs.Collapsed.{is_bare, IsBareWord, word-alone}
 use Rattle.rng_types.proofs.LeftOver.{TakesOne, one_left}
-use Rattle.rng_types.proofs.Beside.{LeavesMember}
+use Rattle.rng_types.proofs.Beside.{LeavesMember, LeavesOne, one_of}
 
 -- one token of characters that XML allows
 pub record IsPlain (text : List ℕ) : Type 0 where
@@ -70,19 +70,25 @@ each_takes_one : (type : Datatype) (candidate : ℕ → List ℕ) (n : ℕ) → 
 each_takes_one type candidate n are [] own = tt
 each_takes_one type candidate n are (except ∷ excepts) own = (takes_one type candidate n are except own.0, each_takes_one type candidate n are excepts own.1)
 
+pub tight_one : (type : Datatype) (excepts : List Except) (one_token : Bool) (candidate : ℕ → List ℕ) (n : ℕ) → Candidates type candidate n → ((i : ℕ) → i < n → one_token ≡ true → is_one_token (candidate i) ≡ true) →
+    AllByRecursion (OwnTakesOne type candidate n) excepts → length excepts < n → LeavesOne type excepts one_token candidate n
+tight_one type excepts one_token candidate n are token own more =
+    let left = one_left excepts (λ except i. is_taken_away type (candidate i) except) n (each_takes_one type candidate n are excepts own) more in
+    record {
+      at = left.at;
+      below = left.below;
+      is = record { characters = are.characters left.at left.below; accepted = are.accepted left.at left.below; left = left.free; token = token left.at left.below };
+    }
+
 pub tight_member : (type : Datatype) (excepts : List Except) (one_token : Bool) (candidate : ℕ → List ℕ) (n : ℕ) → Candidates type candidate n → ((i : ℕ) → i < n → one_token ≡ true → is_one_token (candidate i) ≡ true) →
     AllByRecursion (OwnTakesOne type candidate n) excepts → length excepts < n → LeavesMember type excepts one_token
-tight_member type excepts one_token candidate n are token own more =
-    let left = one_left excepts (λ except i. is_taken_away type (candidate i) except) n (each_takes_one type candidate n are excepts own) more in (
-      candidate left.at,
-      record { characters = are.characters left.at left.below; accepted = are.accepted left.at left.below; left = left.free; token = token left.at left.below },
-    )
+tight_member type excepts one_token candidate n are token own more = one_of (tight_one type excepts one_token candidate n are token own more)
 
 -- candidates that are plain
-pub plain_member : (type : Datatype) (excepts : List Except) (one_token : Bool) (candidate : ℕ → List ℕ) (n : ℕ) → ((i : ℕ) → i < n → IsPlain (candidate i)) → ((i : ℕ) → i < n → Accepts type (candidate i)) →
-    ((i j : ℕ) → i < n → j < n → candidate i ≡ candidate j → i ≡ j) → AllByRecursion (OwnTakesOne type candidate n) excepts → length excepts < n → LeavesMember type excepts one_token
-plain_member type excepts one_token candidate n plain accepted apart own more =
-    tight_member type excepts one_token candidate n
+pub plain_one : (type : Datatype) (excepts : List Except) (one_token : Bool) (candidate : ℕ → List ℕ) (n : ℕ) → ((i : ℕ) → i < n → IsPlain (candidate i)) → ((i : ℕ) → i < n → Accepts type (candidate i)) →
+    ((i j : ℕ) → i < n → j < n → candidate i ≡ candidate j → i ≡ j) → AllByRecursion (OwnTakesOne type candidate n) excepts → length excepts < n → LeavesOne type excepts one_token candidate n
+plain_one type excepts one_token candidate n plain accepted apart own more =
+    tight_one type excepts one_token candidate n
     (record {
       characters = λ i hi. (plain i hi).characters;
       tight = λ i hi. collapsed-plain (candidate i) (plain i hi).word;
@@ -90,3 +96,7 @@ plain_member type excepts one_token candidate n plain accepted apart own more =
       apart = apart;
     })
     (λ i hi asked. and_from _ _ (plain i hi).word.some (plain i hi).word.bare) own more
+
+pub plain_member : (type : Datatype) (excepts : List Except) (one_token : Bool) (candidate : ℕ → List ℕ) (n : ℕ) → ((i : ℕ) → i < n → IsPlain (candidate i)) → ((i : ℕ) → i < n → Accepts type (candidate i)) →
+    ((i j : ℕ) → i < n → j < n → candidate i ≡ candidate j → i ≡ j) → AllByRecursion (OwnTakesOne type candidate n) excepts → length excepts < n → LeavesMember type excepts one_token
+plain_member type excepts one_token candidate n plain accepted apart own more = one_of (plain_one type excepts one_token candidate n plain accepted apart own more)

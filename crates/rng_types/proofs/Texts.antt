@@ -29,12 +29,13 @@ use Rattle.rng_types.specs.declared.datatype.Except.{Except}
 use Rattle.rng_types.specs.declared.datatype.Except.TheVariants.{Own, BuiltinString, BuiltinToken}
 use Rattle.rng_types.proofs.Collapsed.{IsBareWord, words-are_bare}
 use Rattle.rng_types.proofs.Lengths.{length-collapsed, length-replaced, utf8-each, spaced}
-use Rattle.rng_types.proofs.Plain.{IsPlain, OwnTakesOne, plain_member, same_by, seen-plain}
+use Rattle.rng_types.proofs.Plain.{IsPlain, OwnTakesOne, plain_one, same_by, seen-plain}
 use Rattle.rng_types.proofs.Numeric.{typed}
 use Rattle.rng_types.proofs.Allowed.{has_length-from, least_some, is_on_length, meets-lengths}
-use Rattle.rng_types.proofs.Letters.{IsLetter, word_of, size-word_of, plain-word_of, apart-word_of}
-use Rattle.rng_types.proofs.Padded.{spaced_member, left_spaced, left_spaced_alike}
-use Rattle.rng_types.proofs.Beside.{LeavesMember, LeavesText}
+use Rattle.rng_types.proofs.Letters.{IsLetter, size-word_of, plain-word_of, apart-word_of}
+use Rattle.rng_types.proofs.Padded.{spaced_one, left_spaced, left_spaced_alike}
+use Rattle.rng_types.proofs.Beside.{LeavesMember, LeavesText, LeavesOne, one_of}
+use Rattle.rng_types.specs.Giving.{word_of, pad}
 
 -- types whose values are texts
 pub record IsTextual (type : Datatype) : Type 0 where
@@ -70,8 +71,9 @@ pub record TakesLetters (form : Form) : Type 0 where
   pub size : (text : List ℕ) → size_of form text ≡ length (chars text)
   pub bounds : (relation : Relation) (limit : List ℕ) → suits form (Bound relation limit) ≡ false
 
-pub letters_member : (form : Form) (facets : List Facet) (excepts : List Except) (one_token : Bool) → TakesLetters form → list_all (suits form) facets ≡ true → length excepts ≤ 129 → has_length facets ≡ true → LeavesMember (typed form facets) excepts one_token
-letters_member form facets excepts one_token takes suit few has =
+pub letters_one : (form : Form) (facets : List Facet) (excepts : List Except) (one_token : Bool) → TakesLetters form → list_all (suits form) facets ≡ true → length excepts ≤ 129 → has_length facets ≡ true
+    → LeavesOne (typed form facets) excepts one_token (λ i. word_of (least_length facets) (256 + i)) 130
+letters_one form facets excepts one_token takes suit few has =
     let type = typed form facets in
     let k : ℕ = least_length facets in
     let some : 1 ≤ k = least_some facets in
@@ -80,12 +82,15 @@ letters_member form facets excepts one_token takes suit few has =
     let seen : (i : ℕ) → i < 130 → seen_by type (candidate i) ≡ candidate i = λ i small. seen-plain type (candidate i) (plain i small).word in
     let apart : (i j : ℕ) → i < 130 → j < 130 → candidate i ≡ candidate j → i ≡ j = λ i j hi hj same. omega (arith, apart-word_of k (256 + i) (256 + j) some same) in
     let sized : (i : ℕ) → i < 130 → size_of form (candidate i) ≡ k = λ i small. takes.size (candidate i) ∙ size-word_of k (256 + i) (letter i small) in
-    plain_member type excepts one_token candidate 130 plain
+    plain_one type excepts one_token candidate 130 plain
     (λ i small. record {
       form = ap (has_form form) (seen i small) ∙ takes.fits k (256 + i) (letter i small) some;
       facets = ap (λ (t : List ℕ). list_all (meets form t) facets) (seen i small) ∙ meets-lengths form (candidate i) facets (only_lengths form takes.bounds facets suit) ∙ ap (allows facets) (sized i small) ∙ has;
     })
     apart (own_each type candidate 130 (takes.textual facets) seen apart excepts) (omega arith)
+
+pub letters_member : (form : Form) (facets : List Facet) (excepts : List Except) (one_token : Bool) → TakesLetters form → list_all (suits form) facets ≡ true → length excepts ≤ 129 → has_length facets ≡ true → LeavesMember (typed form facets) excepts one_token
+letters_member form facets excepts one_token takes suit few has = one_of (letters_one form facets excepts one_token takes suit few has)
 
 -- the length of a member is allowed
 pub allowed_size : (form : Form) (facets : List Facet) (text : List ℕ) → TakesLetters form → list_all (suits form) facets ≡ true → Accepts (typed form facets) text → allows facets (length (chars (seen_by (typed form facets) text))) ≡ true
@@ -94,7 +99,7 @@ allowed_size form facets text takes suit accepted =
     ap (allows facets) (sym (takes.size seen)) ∙ sym (meets-lengths form seen facets (only_lengths form takes.bounds facets suit)) ∙ accepted.facets
 
 -- any texts
-any_takes : (whitespace : Whitespace) → TakesLetters (Any whitespace)
+pub any_takes : (whitespace : Whitespace) → TakesLetters (Any whitespace)
 any_takes whitespace = record {
   textual = λ facets. record { same = λ a b. refl };
   fits = λ k c letter some. refl;
@@ -166,10 +171,14 @@ empty_accepted whitespace facets seen suit allowed = record {
   facets = ap (λ (t : List ℕ). list_all (meets (Any whitespace) t) facets) seen ∙ meets-lengths (Any whitespace) [] facets (only_lengths (Any whitespace) (λ relation limit. refl) facets suit) ∙ ap (λ (cs : List ℕ). allows facets (length cs)) chars-nil ∙ allowed;
 }
 
-empty_member : (whitespace : Whitespace) (facets : List Facet) (excepts : List Except) → list_all (suits (Any whitespace)) facets ≡ true → allows facets 0 ≡ true → is_empty_left whitespace (typed (Any whitespace) facets) excepts ≡ true → LeavesMember (typed (Any whitespace) facets) excepts false
-empty_member Preserve facets excepts suit allowed left = ([], record { characters = characters_nil; accepted = empty_accepted Preserve facets refl suit allowed; left = left; token = λ asked. absurd (false≢true asked) })
-empty_member Replace facets excepts suit allowed left = ([], record { characters = characters_nil; accepted = empty_accepted Replace facets refl suit allowed; left = left; token = λ asked. absurd (false≢true asked) })
-empty_member Collapse facets excepts suit allowed left = spaced_member (typed (Any Collapse) facets) refl excepts [] characters_nil (empty_accepted Collapse facets refl suit allowed) left
+pub empty_one : (whitespace : Whitespace) (facets : List Facet) (excepts : List Except) → length excepts ≤ 129 → list_all (suits (Any whitespace)) facets ≡ true → allows facets 0 ≡ true → is_empty_left whitespace (typed (Any whitespace) facets) excepts ≡ true
+    → LeavesOne (typed (Any whitespace) facets) excepts false (λ i. pad i []) 130
+unfolding pad
+empty_one Preserve facets excepts few suit allowed left =
+    record { at = 0; below = omega arith; is = record { characters = characters_nil; accepted = empty_accepted Preserve facets refl suit allowed; left = left; token = λ asked. absurd (false≢true asked) } }
+empty_one Replace facets excepts few suit allowed left =
+    record { at = 0; below = omega arith; is = record { characters = characters_nil; accepted = empty_accepted Replace facets refl suit allowed; left = left; token = λ asked. absurd (false≢true asked) } }
+empty_one Collapse facets excepts few suit allowed left = spaced_one (typed (Any Collapse) facets) refl excepts [] 130 (omega (arith, few)) characters_nil (empty_accepted Collapse facets refl suit allowed) left
 
 pub text_sound : (whitespace : Whitespace) (facets : List Facet) (excepts : List Except) (one_token : Bool) → list_all (suits (Any whitespace)) facets ≡ true → length excepts ≤ 129 → has_text whitespace (typed (Any whitespace) facets) excepts one_token ≡ true → LeavesMember (typed (Any whitespace) facets) excepts one_token
 text_sound whitespace facets excepts true suit few has =
@@ -180,7 +189,7 @@ text_sound whitespace facets excepts true suit few has =
 text_sound whitespace facets excepts false suit few has =
     elim (or_cases (has_length facets) (allows facets 0 && is_empty_left whitespace (typed (Any whitespace) facets) excepts) has) [
       | inl some ↦ letters_member (Any whitespace) facets excepts false (any_takes whitespace) suit few some
-      | inr empty ↦ (let parts = and_parts (allows facets 0) _ empty in empty_member whitespace facets excepts suit parts.0 parts.1)
+      | inr empty ↦ (let parts = and_parts (allows facets 0) _ empty in one_of (empty_one whitespace facets excepts few suit parts.0 parts.1))
     ]
 
 empty_normalized : (whitespace : Whitespace) → normalized whitespace [] ≡ []

@@ -1,6 +1,6 @@
 -- Truth values have a member exactly where one of their literals is left.
-use Rattle.std.specs.Prelude.{◌∷◌, ◌≡◌, ℕ, Bool, true, false, ◌&&◌, List, [], codes}
-use Rattle.std.proofs.Common.{subst, refl, sym, ap, ◌∙◌, inl, inr}
+use Rattle.std.specs.Prelude.{◌∷◌, ◌≡◌, ◌≤◌, ℕ, Bool, true, false, ◌&&◌, List, [], length, codes}
+use Rattle.std.proofs.Common.{subst, refl, sym, ap, ◌∙◌, inl, inr, arith}
 use Rattle.std.proofs.lemmas.Bool.{false≢true, and_parts, and_from, or_cases}
 use Rattle.std.specs.List.{list_all, join_with_byte}
 use Rattle.std.specs.Str.{bytes_eq}
@@ -20,10 +20,11 @@ use Rattle.rng_types.specs.declared.datatype.Except.{Except}
 use Rattle.rng_types.proofs.Collapsed.{words-collapsed}
 use Rattle.rng_types.proofs.Plain.{IsPlain, collapsed-plain, seen-plain}
 use Rattle.rng_types.proofs.Numeric.{typed}
-use Rattle.rng_types.proofs.Padded.{spaced_member, left_spaced, left_spaced_alike}
+use Rattle.rng_types.proofs.Padded.{spaced_one, spaced_member, left_spaced, left_spaced_alike}
 use Rattle.rng_types.proofs.Printable.{is_printed, plain_printed}
 use Rattle.rng_types.proofs.Within.{In, all_at, any_from, passing}
-use Rattle.rng_types.proofs.Beside.{LeavesMember, LeavesText}
+use Rattle.rng_types.proofs.Beside.{LeavesMember, LeavesText, LeavesOne}
+use Rattle.rng_types.specs.Giving.{pad}
 
 abbrev truth_type : Datatype
 truth_type = typed (One Boolean) []
@@ -48,6 +49,18 @@ truth_at text inside =
 truth_member : (excepts : List Except) (one_token : Bool) (text : List ℕ) → IsTruth text → is_truth_left truth_type excepts one_token text ≡ true → LeavesMember truth_type excepts one_token
 truth_member excepts true text is left = (text, record { characters = is.plain.characters; accepted = is.accepted; left = left; token = λ asked. and_from _ _ is.plain.word.some is.plain.word.bare })
 truth_member excepts false text is left = spaced_member truth_type refl excepts text is.plain.characters is.accepted left
+
+truth_left_one : (excepts : List Except) (one_token : Bool) → length excepts ≤ 129 → (text : List ℕ) → IsTruth text → is_truth_left truth_type excepts one_token text ≡ true → LeavesOne truth_type excepts one_token (λ i. pad i text) 130
+unfolding pad
+truth_left_one excepts true few text is left =
+    record { at = 0; below = omega arith; is = record { characters = is.plain.characters; accepted = is.accepted; left = left; token = λ asked. and_from _ _ is.plain.word.some is.plain.word.bare } }
+truth_left_one excepts false few text is left = spaced_one truth_type refl excepts text 130 (omega (arith, few)) is.plain.characters is.accepted left
+
+-- and the candidates of which one is left: the literal with spaces before it
+pub truth_one : (excepts : List Except) (one_token : Bool) → length excepts ≤ 129 → has_truth truth_type excepts one_token ≡ true → (text : List ℕ) × (In text truths) × LeavesOne truth_type excepts one_token (λ i. pad i text) 130
+truth_one excepts one_token few has =
+    let found = passing (is_truth_left truth_type excepts one_token) truths has in
+    (found.item, found.inside, truth_left_one excepts one_token few found.item (truth_at found.item found.inside) found.is)
 
 pub truth_sound : (excepts : List Except) (one_token : Bool) → has_truth truth_type excepts one_token ≡ true → LeavesMember truth_type excepts one_token
 truth_sound excepts one_token has =

@@ -16,3 +16,4 @@ pub mod MemberTest
 pub mod MoreLaws
 pub mod OneToken
 pub mod Equality
+pub mod Giving

@@ -42,7 +42,7 @@ pub(crate) fn allows(facets: &[Facet], length: u64) -> bool
 }
 
 /// The least length from 1 on that no lower end rules out.
-fn least_length(facets: &[Facet]) -> u64
+pub(crate) fn least_length(facets: &[Facet]) -> u64
     ensures { result ≡ least_of_all facets.now }
 {
     let mut least: u64 = 1;

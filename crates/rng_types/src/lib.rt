@@ -32,6 +32,7 @@ mod relation;
 mod sameness;
 pub mod spaces;
 mod table;
+mod trying;
 pub mod word;
 
 pub use datatype::{Datatype, Except, Excepts, Param};

@@ -143,7 +143,7 @@ impl Datatype {
     }
 
     /// Whether a type has a member beside so few excepts.
-    fn has_member_beside(&self, excepts: &[Except], one_token: bool) -> bool
+    pub(crate) fn has_member_beside(&self, excepts: &[Except], one_token: bool) -> bool
         requires made { IsTrue (is_well_made self.now) }
         requires sound { IsTrue (list_all (is_sound_except self.now) excepts.now) }
         requires few { length excepts.now ≤ most_excepts }
@@ -175,4 +175,4 @@ impl Datatype {
 }
 
 /// The most excepts of which it can be told: the 128 that a schema may have, and one more.
-const MOST_EXCEPTS: usize = 129;
+pub(crate) const MOST_EXCEPTS: usize = 129;

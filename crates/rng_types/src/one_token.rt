@@ -27,7 +27,7 @@ fn is_bare(bytes: &[u8]) -> bool
 }
 
 /// Whether bytes are one token.
-fn is_one_token(bytes: &[u8]) -> bool
+pub(crate) fn is_one_token(bytes: &[u8]) -> bool
     ensures { result ≡ is_one bytes.now }
 {
     !bytes.is_empty() && is_bare(bytes)
