@@ -58,8 +58,10 @@ module _ {g : List Definition} {costs : List ℕ} where
     | inl second ↦ costs_as (choice p q) (omega (arith, second)) (cost_second (sound r q (omega (arith, second, small))))
     | inr first ↦ costs_as (choice p q) (omega (arith, first)) (cost_first (sound r p (omega (arith, first, small))))
   ]
-  sound r (group p q) small = costs_as (group p q) (omega (arith, small)) (cost_group (sound r p (omega (arith, small))) (sound r q (omega (arith, small))))
-  sound r (interleave p q) small = costs_as (interleave p q) (omega (arith, small)) (cost_interleave (sound r p (omega (arith, small))) (sound r q (omega (arith, small))))
+  sound r (group p q) small = costs_as (group p q) (omega (arith, small))
+      (cost_group (sound r p (omega (arith, small))) (sound r q (omega (arith, small))))
+  sound r (interleave p q) small = costs_as (interleave p q) (omega (arith, small))
+      (cost_interleave (sound r p (omega (arith, small))) (sound r q (omega (arith, small))))
 
   pub complete : AreSettledTo g (length g) costs → {p : Pattern} {n : ℕ} → HasCost g p n → least costs p ≤ n
   complete s cost_empty = omega arith
@@ -123,8 +125,10 @@ over_at (cost ∷ costs) some = elim (or_cases (nat_lt 10000 cost) (list_any (λ
   | inr later ↦ let o = over_at costs later in record { number = suc o.number; inside = omega (arith, o.inside); over = o.over }
 ]
 
-pub told : {g : List Definition} {costs : List ℕ} (result : Bool) → result ≡ list_any (λ cost. nat_lt 10000 cost) costs → AreLeast g costs → IsTrue result ↔ IsLarge g
+pub told : {g : List Definition} {costs : List ℕ} (result : Bool) → result ≡ list_any (λ cost. nat_lt 10000 cost) costs → AreLeast g costs
+    → IsTrue result ↔ IsLarge g
 told {costs = costs} result is a = (
   λ large. over_is_large a (over_at costs (sym is ∙ large)),
-  λ large. let o = large_is_over a large in is ∙ list_any_at (λ cost. nat_lt 10000 cost) costs o.number 10001 o.inside (lt-ltb 10000 (cost_at costs o.number) o.over),
+  λ large. let o = large_is_over a large in is ∙ list_any_at (λ cost. nat_lt 10000 cost) costs o.number 10001 o.inside
+      (lt-ltb 10000 (cost_at costs o.number) o.over),
 )

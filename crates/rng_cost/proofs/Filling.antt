@@ -60,12 +60,14 @@ leaves_cost costs (interleave p q) small =
 back : {A B : Type 0} (f : A → B) (one two : List A) (ys : List B) (k : ℕ) → k ≡ length one → map f two ≡ map f one ++ ys
     → map f (drop k two) ≡ ys
 back f one two ys k many is =
-    sym (drop-map f k two) ∙ ap (drop k) is ∙ ap (λ (j : ℕ). drop j (map f one ++ ys)) (many ∙ sym (length-map one f)) ∙ drop-append_seam (map f one) ys
+    sym (drop-map f k two) ∙ ap (drop k) is ∙ ap (λ (j : ℕ). drop j (map f one ++ ys)) (many ∙ sym (length-map one f))
+    ∙ drop-append_seam (map f one) ys
 
 front : {A B : Type 0} (f : A → B) (one two : List A) (ys : List B) (k : ℕ) → k ≡ length one → map f two ≡ map f one ++ ys
     → map f (take k two) ≡ map f one
 front f one two ys k many is =
-    sym (take-map f k two) ∙ ap (take k) is ∙ ap (λ (j : ℕ). take j (map f one ++ ys)) (many ∙ sym (length-map one f)) ∙ take-append_seam (map f one) ys
+    sym (take-map f k two) ∙ ap (take k) is ∙ ap (λ (j : ℕ). take j (map f one ++ ys)) (many ∙ sym (length-map one f))
+    ∙ take-append_seam (map f one) ys
 
 -- leaves of a first side behind others, and leaves of a second side behind those
 kept : (before one two after : List (Bor Pat)) (xs ys : List Pattern) (from middle : ℕ) (b : Bool)

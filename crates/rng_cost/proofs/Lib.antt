@@ -1,3 +1,3 @@
 pub mod Exact
 mod Passing
-mod Filling
+pub mod Filling

@@ -1,5 +1,6 @@
 -- A round over the definitions, one content after another.
-use Rattle.std.proofs.Common.{◌≡◌, ◌≤◌, ◌<◌, ◌+◌, ℕ, zero, suc, List, Bool, true, false, ◌||◌, Some, refl, sym, subst, ap, ◌∙◌, inl, inr, arith, length, map, get_or, set, replicate, ◌*◌}
+use Rattle.std.proofs.Common.{◌≡◌, ◌≤◌, ◌<◌, ◌+◌, ℕ, zero, suc, List, Bool, true, false, ◌||◌, Some, refl, sym, subst, ap, ◌∙◌, inl, inr, arith}
+use Rattle.std.proofs.Common.{length, map, get_or, set, replicate, ◌*◌}
 use Rattle.std.specs.Prelude.{slice_get}
 use Rattle.std.proofs.lemmas.Bool.{cases_eq, false≢true}
 use Rattle.std.specs.Option.{option_map}
@@ -58,7 +59,8 @@ module _ {g : List Definition} where
       so = λ i low. elim (cases_eq i k) [
         | inl same ↦
             let small : least old d.content ≤ 10000 = omega (arith, here r, ap (cost_at new) same, low) in
-            subst (λ (j : ℕ). ContentCosts g j (cost_at new j)) (sym same) (subst (λ (n : ℕ). ContentCosts g k n) (sym (here r)) (record { definition = d; is = at; costs = sound r d.content small }))
+            subst (λ (j : ℕ). ContentCosts g j (cost_at new j)) (sym same)
+            (subst (λ (n : ℕ). ContentCosts g k n) (sym (here r)) (record { definition = d; is = at; costs = sound r d.content small }))
         | inr other ↦
             let e = elsewhere old new k (least old d.content) is i other in
             subst (λ (n : ℕ). ContentCosts g i n) (sym e) (r.so i (omega (arith, e, low)))
@@ -68,19 +70,22 @@ module _ {g : List Definition} where
   none_settled : (costs : List ℕ) → AreSettledTo g 0 costs
   none_settled costs = record { settled = λ i d low at. absurd (omega (arith, low)) }
 
-  one_settled : (k : ℕ) (costs : List ℕ) (d : Definition) → slice_get g k ≡ Some d → AreSettledTo g k costs → cost_at costs k ≤ least costs d.content → AreSettledTo g (k + 1) costs
+  one_settled : (k : ℕ) (costs : List ℕ) (d : Definition) → slice_get g k ≡ Some d → AreSettledTo g k costs
+      → cost_at costs k ≤ least costs d.content → AreSettledTo g (k + 1) costs
   one_settled k costs d at s here = record {
     settled = λ i e low there. elim (cases_eq i k) [
       | inl same ↦
           let both : Some e ≡ Some d = sym there ∙ ap (slice_get g) same ∙ at in
           let this : d ≡ e = cc in
-          subst (λ (j : ℕ). cost_at costs j ≤ least costs e.content) (sym same) (subst (λ (x : Definition). cost_at costs k ≤ least costs x.content) this here)
+          subst (λ (j : ℕ). cost_at costs j ≤ least costs e.content) (sym same)
+          (subst (λ (x : Definition). cost_at costs k ≤ least costs x.content) this here)
       | inr other ↦ s.settled i e (omega (arith, low, other)) there
     ];
   }
 
 -- one content more
-pub falls_more : (g : List Definition) (k : ℕ) (old middle new : List ℕ) (d : Definition) (fell one : Bool) → slice_get g k ≡ Some d → length old ≡ length g → Falls g k old middle fell → Settles middle new k d.content one → Falls g (k + 1) old new (one || fell)
+pub falls_more : (g : List Definition) (k : ℕ) (old middle new : List ℕ) (d : Definition) (fell one : Bool) → slice_get g k ≡ Some d
+    → length old ≡ length g → Falls g k old middle fell → Settles middle new k d.content one → Falls g (k + 1) old new (one || fell)
 falls_more g k old middle new d false false at many f s =
     let same : middle ≡ old = f.1 in
     (one_settled k old d at f.0 (subst (λ (x : List ℕ). cost_at x k ≤ least x d.content) same s.0), s.1 ∙ same)
@@ -107,18 +112,22 @@ pub round_right : (g : List Definition) (n : ℕ) (old new : List ℕ) (fell : B
 round_right g n old new true r f = f.0 r
 round_right g n old new false r f = subst (λ (x : List ℕ). AreRight g x) (sym f.1) r
 
-pub round_settled : (g : List Definition) (n : ℕ) (old new : List ℕ) (fell : Bool) → n ≡ length g → Falls g n old new fell → fell ≡ false → AreSettledTo g (length g) new
+pub round_settled : (g : List Definition) (n : ℕ) (old new : List ℕ) (fell : Bool) → n ≡ length g → Falls g n old new fell → fell ≡ false
+    → AreSettledTo g (length g) new
 round_settled g n old new true all f is = absurd (false≢true (sym is))
-round_settled g n old new false all f is = subst (λ (x : List ℕ). AreSettledTo g (length g) x) (sym f.1) (subst (λ (k : ℕ). AreSettledTo g k old) all f.0)
+round_settled g n old new false all f is = subst (λ (x : List ℕ). AreSettledTo g (length g) x) (sym f.1)
+    (subst (λ (k : ℕ). AreSettledTo g k old) all f.0)
 
 -- a number that falls with each round
 abbrev pub flag : Bool → ℕ
 flag true = 1
 flag false = 0
 
-pub round_smaller : (g : List Definition) (n : ℕ) (old new : List ℕ) (fell : Bool) → Falls g n old new fell → 2 * total new + flag fell < 2 * total old + 1
+pub round_smaller : (g : List Definition) (n : ℕ) (old new : List ℕ) (fell : Bool) → Falls g n old new fell
+    → 2 * total new + flag fell < 2 * total old + 1
 round_smaller g n old new true f = omega (arith, f.1)
 round_smaller g n old new false f = let same : total new ≡ total old = ap total f.1 in omega (arith, same)
 
-pub def_at : (defs : List Def) (k : ℕ) (d : Def) → k < length defs → d ≡ get_or defs k d → slice_get (map definition_of defs) k ≡ Some (definition_of d)
+pub def_at : (defs : List Def) (k : ℕ) (d : Def) → k < length defs → d ≡ get_or defs k d
+    → slice_get (map definition_of defs) k ≡ Some (definition_of d)
 def_at defs k d low is = slice_get-map definition_of defs k ∙ ap (option_map definition_of) (slice_get_read defs (length defs) k d refl low is)
