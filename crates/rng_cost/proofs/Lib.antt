@@ -1,0 +1,3 @@
+pub mod Exact
+mod Passing
+pub mod Filling

@@ -1,0 +1,4 @@
+pub mod Costs
+pub mod Least
+pub mod Leaves
+pub mod Rounds

@@ -1,0 +1,15 @@
+mod Letters
+mod Trying
+mod Together
+mod Adding
+mod Mixing
+mod Started
+mod Going
+mod Proper
+mod Typing
+mod Pruning
+mod Wording
+mod Choosing
+mod Living
+mod Boxes
+mod Held

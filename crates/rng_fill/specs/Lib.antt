@@ -1,0 +1,11 @@
+pub mod Moves
+pub mod Strings
+pub mod ClassNames
+pub mod WordLists
+pub mod Sorted
+pub mod Matched
+pub mod Fillable
+pub mod Contents
+pub mod Written
+pub mod Doing
+pub mod Laws
