@@ -78,7 +78,7 @@ fn main(rt: HostRuntime) -> io::Result<()> {
         let schema = *schema;
         judge_schema(&rt, schema)?;
     }
-    judge_file::<Brand>(&rt, SCHEMA_OF_SCHEMAS, Blank::new(1))
+    judge_lone(&rt, SCHEMA_OF_SCHEMAS)
 }
 
 /// Runs the script as `nxml` would that is called with these words, and prints how it ended.
@@ -130,6 +130,11 @@ fn judge_file<L: Ledger>(rt: &HostRuntime, schema: &str, blank: Blank) -> io::Re
 {
     let mut steps = Steps::<L>::new(blank);
     judge(rt, schema, simplified(rt, schema, &mut steps))
+}
+
+/// Judges a schema that stands there in one syntax alone.
+fn judge_lone(rt: &HostRuntime, schema: &str) -> io::Result<()> {
+    judge_file::<Brand>(rt, schema, Blank::new(1))
 }
 
 /// Judges a schema that stands there in both syntaxes.
