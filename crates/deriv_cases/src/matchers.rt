@@ -54,16 +54,14 @@ fn matcher_of_grammar<M: Made>(alloc: Global, grammar: Grammar) -> Option<M>
     }
 }
 
-/// The matcher of a schema, with a count of tokens that are cut; none where it can't be used.
-fn matcher_by<M: Made, L: Ledger>(alloc: Global, text: &str, blank: Blank) -> Option<M>
+/// The matcher of the schema in a file, with a count of tokens that are cut; none where it can't be used.
+fn matcher_by<M: Made, L: Ledger>(alloc: Global, files: &mut SureFiles, blank: Blank) -> Option<M>
     requires name { blank.name ≡ L.name }
     requires parts { blank.parts ≡ L.parts }
     requires some { 0 < L.parts }
 {
-    let mut files = SureFiles::new(alloc);
-    files.add(FILE, text.as_bytes()).ok()?;
     let mut steps = Steps::<L>::new(blank);
-    match simplify(alloc, FILE, &mut files, &mut steps) {
+    match simplify(alloc, FILE, files, &mut steps) {
         Ok(grammar) => matcher_of_grammar(alloc, grammar),
         Err(_) => None,
     }
@@ -71,5 +69,7 @@ fn matcher_by<M: Made, L: Ledger>(alloc: Global, text: &str, blank: Blank) -> Op
 
 /// The matcher of a schema that is written in the compact syntax; none where it can't be used.
 pub(crate) fn matcher_of<M: Made>(alloc: Global, text: &str) -> Option<M> {
-    matcher_by::<M, Brand>(alloc, text, Blank::new(1))
+    let mut files = SureFiles::new(alloc);
+    files.add(FILE, text.as_bytes()).ok()?;
+    matcher_by::<M, Brand>(alloc, &mut files, Blank::new(1))
 }

@@ -29,16 +29,14 @@ fn matcher_of_grammar(alloc: Global, grammar: Grammar) -> Option<Plain>
     }
 }
 
-/// The matcher of a schema, with a count of tokens that are cut; none where it can't be used.
-fn matcher_by<L: Ledger>(alloc: Global, text: &str, blank: Blank) -> Option<Plain>
+/// The matcher of the schema in a file, with a count of tokens that are cut; none where it can't be used.
+fn matcher_by<L: Ledger>(alloc: Global, files: &mut SureFiles, blank: Blank) -> Option<Plain>
     requires name { blank.name ≡ L.name }
     requires parts { blank.parts ≡ L.parts }
     requires some { 0 < L.parts }
 {
-    let mut files = SureFiles::new(alloc);
-    files.add(FILE, text.as_bytes()).ok()?;
     let mut steps = Steps::<L>::new(blank);
-    match simplify(alloc, FILE, &mut files, &mut steps) {
+    match simplify(alloc, FILE, files, &mut steps) {
         Ok(grammar) => matcher_of_grammar(alloc, grammar),
         Err(_) => None,
     }
@@ -46,5 +44,7 @@ fn matcher_by<L: Ledger>(alloc: Global, text: &str, blank: Blank) -> Option<Plai
 
 /// The matcher of a schema; none where it can't be used.
 pub(crate) fn matcher_of(alloc: Global, text: &str) -> Option<Plain> {
-    matcher_by::<Brand>(alloc, text, Blank::new(1))
+    let mut files = SureFiles::new(alloc);
+    files.add(FILE, text.as_bytes()).ok()?;
+    matcher_by::<Brand>(alloc, &mut files, Blank::new(1))
 }

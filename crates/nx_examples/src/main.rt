@@ -123,34 +123,38 @@ fn simplified<L: Ledger>(
 }
 
 /// Prints what becomes of the schema in a file.
-fn judge_file<L: Ledger>(rt: &HostRuntime, schema: &str, blank: Blank) -> io::Result<()>
+fn judge_file<L: Ledger>(rt: &HostRuntime, schema: &String, blank: Blank) -> io::Result<()>
     requires name { blank.name ≡ L.name }
     requires parts { blank.parts ≡ L.parts }
     requires some { 0 < L.parts }
 {
     let mut steps = Steps::<L>::new(blank);
+    let schema = schema.as_str();
     judge(rt, schema, simplified(rt, schema, &mut steps))
 }
 
 /// Judges a schema that stands there in one syntax alone.
 fn judge_lone(rt: &HostRuntime, schema: &str) -> io::Result<()> {
-    judge_file::<Brand>(rt, schema, Blank::new(1))
+    let schema = format!(in rt.alloc(); "{schema}")?;
+    judge_file::<Brand>(rt, &schema, Blank::new(1))
 }
 
 /// Judges a schema that stands there in both syntaxes.
 fn judge_schema(rt: &HostRuntime, schema: &str) -> io::Result<()> {
-    judge_pair::<Brand>(rt, schema, Blank::new(1))
+    let schema = format!(in rt.alloc(); "{schema}")?;
+    judge_pair::<Brand>(rt, &schema, Blank::new(1))
 }
 
 /// Prints what becomes of a schema in the compact syntax, and whether that in the XML syntax is the same.
-fn judge_pair<L: Ledger>(rt: &HostRuntime, schema: &str, blank: Blank) -> io::Result<()>
+fn judge_pair<L: Ledger>(rt: &HostRuntime, schema: &String, blank: Blank) -> io::Result<()>
     requires name { blank.name ≡ L.name }
     requires parts { blank.parts ≡ L.parts }
     requires some { 0 < L.parts }
 {
     let mut steps = Steps::<L>::new(blank);
-    let compact = format!(in rt.alloc(); "{schema}.rnc")?;
-    let markup = format!(in rt.alloc(); "{schema}.rng")?;
+    let name = schema.as_str();
+    let compact = format!(in rt.alloc(); "{name}.rnc")?;
+    let markup = format!(in rt.alloc(); "{name}.rng")?;
     let first = simplified(rt, compact.as_str(), &mut steps);
     let second = simplified(rt, markup.as_str(), &mut steps);
     let word = compared(&first, &second);

@@ -240,7 +240,7 @@ const FIRST: &str = "file:///work/m.rnc";
 /// What simplification answers, with a count of tokens that are cut.
 fn simplified_by<F: Files, L: Ledger>(
     alloc: Global,
-    first: &str,
+    first: &String,
     files: &mut F,
     blank: Blank,
 ) -> Result<Grammar, SchemaFault>
@@ -249,11 +249,12 @@ fn simplified_by<F: Files, L: Ledger>(
     requires some { 0 < L.parts }
 {
     let mut steps = Steps::<L>::new(blank);
-    simplify(alloc, first, files, &mut steps)
+    simplify(alloc, first.as_str(), files, &mut steps)
 }
 
 fn simplified<F: Files>(alloc: Global, first: &str, files: &mut F) -> Result<Grammar, SchemaFault> {
-    simplified_by::<F, Brand>(alloc, first, files, Blank::new(1))
+    let first = format!(in alloc; "{first}")?;
+    simplified_by::<F, Brand>(alloc, &first, files, Blank::new(1))
 }
 
 /// The grammar that these files define, of which this is the first, or why they define none.
