@@ -1,5 +1,5 @@
 -- Lists that grow at their end.
-use Rattle.std.specs.Prelude.{◌≡◌, ℕ, zero, suc, ◌+◌, ◌-◌, ◌*◌, true, false, List, [], ◌∷◌, ◌++◌, length, take, replicate}
+use Rattle.std.specs.Prelude.{◌≡◌, ℕ, zero, suc, ◌+◌, ◌-◌, ◌*◌, ◌/◌, ◌%◌, true, false, List, [], ◌∷◌, ◌++◌, length, take, replicate}
 use Rattle.std.proofs.Common.{refl, sym, ap, ◌∙◌, arith, append_assoc, length-append}
 use Rattle.std.proofs.Math.Seq.{take-append_seam}
 use Rattle.std.specs.List.{list_any}
@@ -27,15 +27,21 @@ hex_made start one two all a b n c d none first second same other so =
     so ∙ ap (λ (t : List ℕ). t ++ replicate (2 * n) 48) (second ∙ ap (λ (t : List ℕ). t ++ b ∷ []) (first ∙ ap (λ (t : List ℕ). t ++ a ∷ []) none))
     ∙ ap (λ x. x ∷ b ∷ replicate (2 * n) 48) same ∙ ap (λ x. c ∷ x ∷ replicate (2 * n) 48) other ∙ ap (λ (t : List ℕ). c ∷ d ∷ t) (sym (hex_zeros_are n (2 * n) refl))
 
--- and in base64, three at a time
-pub three_zeros : (n m : ℕ) → n ≡ m + 3 → base64_zeros n ≡ 65 ∷ 65 ∷ 65 ∷ 65 ∷ base64_zeros m
-three_zeros n m more = let same : n ≡ suc (suc (suc m)) = omega (arith, more) in ap base64_zeros same
+-- and in base64, three in four digits
+threes : (k r n m : ℕ) → n ≡ 3 * k + r → m ≡ 4 * k → base64_zeros n ≡ replicate m 65 ++ base64_zeros r
+threes zero r n m is count =
+    let same : n ≡ r = omega (arith, is) in
+    let none : m ≡ 0 = omega (arith, count) in
+    ap base64_zeros same ∙ ap (λ (t : List ℕ). t ++ base64_zeros r) (ap (λ i. replicate i 65) (sym none))
+threes (suc k) r n m is count =
+    let same : n ≡ suc (suc (suc (3 * k + r))) = omega (arith, is) in
+    let four : m ≡ suc (suc (suc (suc (4 * k)))) = omega (arith, count) in
+    ap base64_zeros same ∙ ap (λ (t : List ℕ). 65 ∷ 65 ∷ 65 ∷ 65 ∷ t) (threes k r (3 * k + r) (4 * k) refl refl) ∙ ap (λ i. replicate i 65 ++ base64_zeros r) (sym four)
 
-pub zeros_moved : (start text more : List ℕ) (n m : ℕ) → n ≡ m + 3 → more ≡ text ++ 65 ∷ 65 ∷ 65 ∷ 65 ∷ [] → text ++ base64_zeros n ≡ start → more ++ base64_zeros m ≡ start
-zeros_moved start text more n m next so is =
-    ap (λ (t : List ℕ). t ++ base64_zeros m) so
-    ∙ append_assoc text (65 ∷ 65 ∷ 65 ∷ 65 ∷ []) (base64_zeros m)
-    ∙ ap (λ (t : List ℕ). text ++ t) (sym (three_zeros n m next)) ∙ is
+pub zeros_made : (start some all last : List ℕ) (n : ℕ) → some ≡ start ++ replicate (4 * (n / 3)) 65 → last ≡ base64_zeros (n % 3) → all ≡ some ++ last → all ≡ start ++ base64_zeros n
+zeros_made start some all last n is rest so =
+    so ∙ ap (λ (t : List ℕ). t ++ last) is ∙ ap (λ (t : List ℕ). start ++ replicate (4 * (n / 3)) 65 ++ t) rest ∙ append_assoc start (replicate (4 * (n / 3)) 65) (base64_zeros (n % 3))
+    ∙ ap (λ (t : List ℕ). start ++ t) (sym (threes (n / 3) (n % 3) n (4 * (n / 3)) (omega arith) refl))
 
 -- a literal with zeros behind its sign
 sign_taken : (text : List ℕ) → take (length text - length (unsigned text)) text ≡ sign_of text

@@ -87,19 +87,17 @@ fn last_zeros(count: u64) -> &'static str
 
 /// Puts that many octets of 0 in base64 behind others.
 fn push_base64_zeros(text: &mut Bytes, alloc: Global, count: u64) -> Result<(), NoMemory>
+    requires { count ≤ 16000000 }
     ensures { OnOk result (text.new ≡ text.old ++ base64_zeros count) }
 {
-    let mut left = count;
-    while left >= 3 {
-        push_all(text, alloc, "AAAA".as_bytes())?;
-        left -= 3;
-    }
-    push_all(text, alloc, last_zeros(left).as_bytes())?;
+    push_many(text, b'A', 4 * (count / 3))?;
+    push_all(text, alloc, last_zeros(count % 3).as_bytes())?;
     Ok(())
 }
 
 /// Puts what follows the first two digits of base64 behind them, for that many further octets of 0.
 fn push_base64_more(text: &mut Bytes, alloc: Global, count: u64) -> Result<(), NoMemory>
+    requires { count ≤ 16000000 }
     ensures { OnOk result (text.new ≡ text.old ++ base64_more count) }
 {
     match count {
@@ -115,7 +113,8 @@ fn push_base64_more(text: &mut Bytes, alloc: Global, count: u64) -> Result<(), N
 
 /// Octets in base64: one of that number, and that many zeros.
 fn base64_text(alloc: Global, zeros: u64, number: u32) -> Result<Bytes, NoMemory>
-    requires { number < 130 }
+    requires small { number < 130 }
+    requires few { zeros ≤ 16000000 }
     ensures { IfOk result (λ text. text ≡ base64_digit (number / 4) ∷ base64_digit (16 * (number % 4)) ∷ base64_more zeros) }
 {
     let mut text = Bytes::new(alloc);

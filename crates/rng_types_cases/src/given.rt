@@ -4,14 +4,13 @@ ghost use Rattle.std.specs.Prelude.{IsTrue};
 ghost use Rattle.std.specs.List.{list_all};
 ghost use Rattle.rng_types.specs.WellMade.{is_well_made, is_sound_except};
 
-use crate::described::{XSD, are_sound, push_items};
+use crate::described::{are_sound, described};
 use crate::types::MEMBERS;
 use nx_base::sequence::Bytes;
 use rng_types::datatype::{Datatype, Except};
 use rng_types::fault::TypeFault;
 use rng_types::word::is_of_chars;
 use std::alloc::Global;
-use std::test::Fail;
 
 // Whether a text has a character and no white space.
 fn is_token(text: &str) -> bool {
@@ -62,24 +61,21 @@ fn are_answered(alloc: Global, datatype: &Datatype, excepts: &[Except]) -> bool
         && is_answered(alloc, datatype, excepts, true)
 }
 
-// The same of a row: a type, its params and excepts.
-fn is_row_answered(alloc: Global, row: &str) -> Result<bool, Fail> {
-    let (name, items) = row.split_once("|").unwrap_or((row, ""));
-    let mut params = Vec::new(alloc);
-    let mut excepts = Vec::new(alloc);
-    push_items(alloc, &mut params, &mut excepts, items)?;
-    let datatype = Datatype::named(alloc, XSD, name, params.as_slice())?;
-    Ok(are_answered(alloc, &datatype, excepts.as_slice()))
+// The same of a row.
+fn is_row_answered(alloc: Global, row: &str) -> bool {
+    match described(alloc, row) {
+        Ok(case) => are_answered(alloc, &case.datatype, case.excepts.as_slice()),
+        Err(_) => false,
+    }
 }
 
 #[test]
-fn gives_members_where_there_are_some(rt: HostRuntime) -> Result<(), Fail> {
+fn gives_members_where_there_are_some(rt: HostRuntime) {
     for row in MEMBERS.split("\n") {
         let (_, named) = row.split_once("|").unwrap_or(("", row));
         let is_made = !named.contains("999999999");
-        assert_eq!(rt; (row, is_row_answered(rt.alloc(), named)?), (row, is_made));
+        assert_eq!(rt; (row, is_row_answered(rt.alloc(), named)), (row, is_made));
     }
-    Ok(())
 }
 
 // A type with params, and what is given of it beside no excepts: what a reader would write.
@@ -130,29 +126,26 @@ fn is_given(alloc: Global, datatype: &Datatype, wanted: &str) -> bool
     }
 }
 
-fn is_row_given(alloc: Global, row: &str) -> Result<bool, Fail> {
+fn is_row_given(alloc: Global, row: &str) -> bool {
     let (named, wanted) = row.rsplit_once("|").unwrap_or((row, ""));
-    let (name, items) = named.split_once("|").unwrap_or((named, ""));
-    let mut params = Vec::new(alloc);
-    let mut excepts = Vec::new(alloc);
-    push_items(alloc, &mut params, &mut excepts, items)?;
-    let datatype = Datatype::named(alloc, XSD, name, params.as_slice())?;
-    Ok(is_given(alloc, &datatype, wanted))
+    match described(alloc, named) {
+        Ok(case) => is_given(alloc, &case.datatype, wanted),
+        Err(_) => false,
+    }
 }
 
 #[test]
-fn gives_what_a_reader_would_write(rt: HostRuntime) -> Result<(), Fail> {
+fn gives_what_a_reader_would_write(rt: HostRuntime) {
     for row in FIRST.split("\n") {
-        assert_eq!(rt; (row, is_row_given(rt.alloc(), row)?), (row, true));
+        assert_eq!(rt; (row, is_row_given(rt.alloc(), row)), (row, true));
     }
-    Ok(())
 }
 
 // An except of the kind that has this letter.
 fn except_of(kind: u8, text: Bytes) -> Except {
     match kind {
-        b'o' => Except::Own(text),
-        b's' => Except::BuiltinString(text),
+        b'o' | b'O' => Except::Own(text),
+        b's' | b'S' => Except::BuiltinString(text),
         _ => Except::BuiltinToken(text),
     }
 }
@@ -188,7 +181,10 @@ fn are_given(
         if !are_right(datatype, excepts.as_slice(), one_token, &given) {
             return false;
         }
-        if excepts.push(except_of(kind_at(kinds, count), given)).is_err() {
+        if excepts
+            .push(except_of(kind_at(kinds, count), given))
+            .is_err()
+        {
             return false;
         }
     }
@@ -199,28 +195,24 @@ fn are_given(
         }
 }
 
-// Whether a row is right: how many members there are (`+`: and more), of what kind each that is given becomes an except (`o` of the
-// type's own values, `s` of built-in strings, `t` of built-in tokens, in turn; a capital says that one token is asked for), and a
-// type with params.
-fn is_count_right(alloc: Global, row: &str) -> Result<bool, Fail> {
+// Whether a row's type gives so many.
+fn is_row_counted(alloc: Global, kinds: &str, named: &str, wanted: usize, is_all: bool) -> bool {
+    let one_token = kinds.starts_with('O') || kinds.starts_with('S');
+    match described(alloc, named) {
+        Ok(case) => are_given(alloc, &case.datatype, kinds, one_token, wanted, is_all),
+        Err(_) => false,
+    }
+}
+
+// How many members there are (`+`: and more), of what kind each that is given becomes an except (`o` of the type's own values,
+// `s` of built-in strings, `t` of built-in tokens, in turn; a capital says that one token is asked for), and a type with params.
+fn is_count_right(alloc: Global, row: &str) -> bool {
     let (count, described) = row.split_once("|").unwrap_or(("no row", row));
     let (kinds, named) = described.split_once("|").unwrap_or((described, ""));
-    let (name, items) = named.split_once("|").unwrap_or((named, ""));
-    let mut params = Vec::new(alloc);
-    let mut excepts = Vec::new(alloc);
-    push_items(alloc, &mut params, &mut excepts, items)?;
-    let datatype = Datatype::named(alloc, XSD, name, params.as_slice())?;
-    let one_token = kinds.starts_with('O') || kinds.starts_with('S');
-    let kinds = kinds.to_ascii_lowercase(alloc)?;
-    let wanted = count.trim_end_matches('+').parse::<usize>()?;
-    Ok(are_given(
-        alloc,
-        &datatype,
-        kinds.as_str(),
-        one_token,
-        wanted,
-        !count.ends_with('+'),
-    ))
+    match count.trim_end_matches('+').parse::<usize>() {
+        Ok(wanted) => is_row_counted(alloc, kinds, named, wanted, !count.ends_with('+')),
+        Err(_) => false,
+    }
 }
 
 const FEW: &str = "\
@@ -279,11 +271,10 @@ const FEW: &str = "\
 9+|s|base64Binary|maxLength=0";
 
 #[test]
-fn gives_as_many_as_there_are(rt: HostRuntime) -> Result<(), Fail> {
+fn gives_as_many_as_there_are(rt: HostRuntime) {
     for row in FEW.split("\n") {
-        assert_eq!(rt; (row, is_count_right(rt.alloc(), row)?), (row, true));
+        assert_eq!(rt; (row, is_count_right(rt.alloc(), row)), (row, true));
     }
-    Ok(())
 }
 
 // As many as excepts can be, and one.
@@ -304,30 +295,35 @@ const MANY: &str = "\
 130+|o|base64Binary";
 
 #[test]
-fn gives_one_more_than_there_are_excepts(rt: HostRuntime) -> Result<(), Fail> {
+fn gives_one_more_than_there_are_excepts(rt: HostRuntime) {
     for row in MANY.split("\n") {
-        assert_eq!(rt; (row, is_count_right(rt.alloc(), row)?), (row, true));
+        assert_eq!(rt; (row, is_count_right(rt.alloc(), row)), (row, true));
     }
-    Ok(())
 }
 
-// Whether a type whose members are longer than is made wants memory.
-fn is_too_long(alloc: Global, name: &str, limit: &str) -> Result<bool, Fail> {
-    let mut params = Vec::new(alloc);
-    let mut excepts = Vec::new(alloc);
-    push_items(alloc, &mut params, &mut excepts, limit)?;
-    let datatype = Datatype::named(alloc, XSD, name, params.as_slice())?;
+// Whether a row's type wants memory for its members, since they are longer than is made.
+fn is_too_long(alloc: Global, datatype: &Datatype) -> bool
+    requires { IsTrue (is_well_made datatype.now) }
+{
     match datatype.member(alloc, &[], false) {
-        Err(fault) => Ok(fault == TypeFault::NoMemory),
-        Ok(_) => Ok(false),
+        Err(fault) => fault == TypeFault::NoMemory,
+        Ok(_) => false,
+    }
+}
+
+fn is_row_too_long(alloc: Global, row: &str) -> bool {
+    match described(alloc, row) {
+        Ok(case) => is_too_long(alloc, &case.datatype),
+        Err(_) => false,
     }
 }
 
 #[test]
-fn makes_no_text_beyond_a_length(rt: HostRuntime) -> Result<(), Fail> {
-    assert!(rt; is_too_long(rt.alloc(), "string", "minLength=16000001")?);
-    assert!(rt; is_too_long(rt.alloc(), "NMTOKENS", "length=999999999")?);
-    assert!(rt; is_too_long(rt.alloc(), "hexBinary", "minLength=999999999")?);
-    assert!(rt; !is_too_long(rt.alloc(), "string", "minLength=100000")?);
-    Ok(())
+fn makes_no_text_beyond_a_length(rt: HostRuntime) {
+    let alloc = rt.alloc();
+    let are_refused = is_row_too_long(alloc, "string|minLength=16000001")
+        && is_row_too_long(alloc, "NMTOKENS|length=999999999")
+        && is_row_too_long(alloc, "hexBinary|minLength=999999999")
+        && !is_row_too_long(alloc, "string|minLength=100000");
+    assert!(rt; are_refused);
 }
