@@ -13,3 +13,4 @@ mod Choosing
 mod Living
 mod Boxes
 mod Held
+mod OneWay

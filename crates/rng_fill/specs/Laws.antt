@@ -32,3 +32,7 @@ PrunedAreUnmixed = (old new : Language) → (BreaksMixture old.start old.definit
 abbrev pub LeavesAreDistinct : Type 0
 LeavesAreDistinct = (g : List Definition) (costs : List ℕ) (p : Pattern) (a : List Attribute) → IsApart p
     → AreAttributesOf g (attribute_leaves (leaves costs p)) a → AreAttributes a
+
+-- whether definitions can be filled is a fact, of which it doesn't matter how it was found
+abbrev pub FilledInOneWay : Type 0
+FilledInOneWay = (g : List Definition) (costs : List ℕ) → IsProp (CanBeFilled g costs)

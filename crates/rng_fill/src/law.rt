@@ -1,7 +1,7 @@
 //! Laws of fillings. Nothing here runs.
 
 ghost use Rattle.rng_fill.specs.Matched.{LeavesMatch};
-ghost use Rattle.rng_fill.specs.Laws.{FilledWhereNotLarge, TypedAreUnmixed, PrunedAreUnmixed, LeavesAreDistinct};
+ghost use Rattle.rng_fill.specs.Laws.{FilledWhereNotLarge, FilledInOneWay, TypedAreUnmixed, PrunedAreUnmixed, LeavesAreDistinct};
 
 use rng_core::law::sound_excepts_suit;
 
@@ -16,6 +16,11 @@ pub fn filled_where_not_large()
 {
     sound_excepts_suit();
 }
+
+/// Whether definitions can be filled is a fact: it may be told from what is only known to be there.
+pub fn filled_in_one_way()
+    ensures { FilledInOneWay }
+{}
 
 /// A content that has a content type is unmixed.
 pub fn typed_are_unmixed()

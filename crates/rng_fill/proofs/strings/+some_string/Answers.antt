@@ -77,6 +77,6 @@ returns-in_ok-second-in-Interleave t c =
     (pattern_of c.deref-in-Interleave-3.result.now)
     (pattern_of c.deref-in-Interleave-2.result.now) (pattern_of c.deref-in-Interleave-4.result.now)
     (ap pattern_of c.deref-in-Interleave.ensures) (ap pattern_of c.deref-in-Interleave-3.ensures) (ap pattern_of c.deref-in-Interleave-2.ensures)
-    (ap pattern_of c.deref-in-Interleave-4.ensures) c.in_ok-first-in-Interleave.ensures c.is_some-in-Interleave.ensures c.nullable-in-Interleave.ensures
-    (sym c.both-in-Interleave.ensures
-    ∙ c.if-both-2.false) c.nullable-in-Interleave-2.ensures c.if-not-nullable-2.false c.in_ok-second-in-Interleave.ensures)
+    (ap pattern_of c.deref-in-Interleave-4.ensures) c.in_ok-first-in-Interleave.ensures c.is_some-in-Interleave.ensures
+    c.nullable-in-Interleave.ensures (sym c.both-in-Interleave.ensures ∙ c.if-both-2.false) c.nullable-in-Interleave-2.ensures
+    c.if-not-nullable-2.false c.in_ok-second-in-Interleave.ensures)
