@@ -3,3 +3,4 @@ mod Examples
 pub mod CodePoints
 pub mod Forms
 pub mod Fronts
+pub mod Joined

@@ -3,9 +3,10 @@
 ghost use Rattle.std.specs.Prelude.{◌≡◌, ◌<◌, ◌^◌, IfOk, map};
 ghost use Rattle.nx_base.specs.Shifting.{moved_fault};
 
+use crate::detail::Detail;
 use crate::edit::{Edit, moved};
 use crate::memory::NoMemory;
-use crate::sequence::{Bytes, Sequence, TryCopy, TryCopyAll, copy_each};
+use crate::sequence::{Sequence, TryCopy, TryCopyAll, copy_each};
 use std::alloc::Global;
 
 /// Bytes of a text, from the byte offset `from` to the byte offset `to`.
@@ -79,7 +80,7 @@ pub enum Kind {
 pub struct Fault {
     pub span: Span,
     pub kind: Kind,
-    pub detail: Bytes,
+    pub detail: Detail,
 }
 
 /// A list of faults.

@@ -33,7 +33,7 @@ fn push_flaw(faults: &mut Faults, span: Span, flaw: Option<Flaw>) -> Result<(), 
 fn take_fault(alloc: Global, fault: &mut Fault) -> Fault
     ensures { result ≡ fault.old }
 {
-    let detail = mem::replace(&mut fault.detail, Sequence::new(alloc));
+    let detail = mem::replace(&mut fault.detail, Detail::new());
     Fault {
         span: fault.span,
         kind: fault.kind,

@@ -14,7 +14,7 @@ ghost use Rattle.nx_recover.specs.Required.{required_names};
 ghost use Rattle.nx_recover.specs.States.{TurnIs, BegunIs, EndedIs, IsOpen, open_form};
 ghost use Rattle.nx_recover.specs.Table as t;
 
-use crate::detail::{names_text, needs_text};
+use crate::detail::{name_detail, names_detail, needs_detail};
 use crate::levels::{Begun, Ended, Open, Turn};
 use crate::open_name::OpenName;
 use crate::packed::{Held, Packed, name_inside};
@@ -32,7 +32,7 @@ use std::alloc::Global;
 fn named(alloc: Global, kind: Kind, name: &Name) -> Result<Option<Flaw>, NoMemory>
     ensures { IfOk result (λ found. found ≡ flaw kind (name_text name.now)) }
 {
-    let detail = name_text(alloc, name)?;
+    let detail = name_detail(alloc, name)?;
     Ok(Some(Flaw { kind, detail }))
 }
 
@@ -145,7 +145,7 @@ fn lacking<M: Matcher>(
         (needs_text about.now (needed_names (M.language matcher.old) (option_copied skip.entry) (M.means matcher.old here.now)))) }
 {
     let names = matcher.needed(alloc, here, skip)?;
-    let detail = needs_text(alloc, about, &names)?;
+    let detail = needs_detail(alloc, about, &names)?;
     Ok(Some(Flaw { kind, detail }))
 }
 
@@ -388,7 +388,7 @@ fn missing<M: Matcher>(
         ≡ flaw Kind.MissingAttributes (names_text (required_names (M.means matcher.old here.now)))) }
 {
     let names = matcher.required(alloc, here)?;
-    let detail = names_text(alloc, names.as_slice())?;
+    let detail = names_detail(alloc, names.as_slice())?;
     Ok(Some(Flaw {
         kind: Kind::MissingAttributes,
         detail,
@@ -439,7 +439,7 @@ fn chars<M: Matcher>(
             flaw: None,
         });
     }
-    let detail = Sequence::new(alloc);
+    let detail = Detail::new();
     if let Some(state) = matcher.chars_any(alloc, here)? {
         return Ok(Turn {
             next: Some(state),

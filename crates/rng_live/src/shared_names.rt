@@ -7,7 +7,8 @@ ghost use Rattle.nx_base.specs.PrintedNames.{name_text};
 use nx_base::memory::NoMemory;
 use nx_base::name::{Name, Names};
 use nx_base::printed_name::push_name;
-use nx_base::sequence::{Bytes, Sequence, TryCopy};
+use nx_base::sequence::{Bytes, TryCopy};
+use nx_base::shared_bytes::SharedBytes;
 use std::alloc::Global;
 use std::marker::Model;
 use std::rc::Rc;
@@ -16,7 +17,7 @@ use std::rc::Rc;
 #[derive(Drop)]
 pub struct Printed {
     names: Names,
-    text: Bytes,
+    text: SharedBytes,
     ghost is: { text ≡ flat_map (λ name. codes " " ++ name_text name) names },
 }
 
@@ -57,12 +58,12 @@ pub fn push_names(text: &mut Vec<u8>, names: &[Name]) -> Result<(), NoMemory>
 }
 
 /// How names print, each behind a space.
-fn text_of(alloc: Global, names: &[Name]) -> Result<Bytes, NoMemory>
+fn text_of(alloc: Global, names: &[Name]) -> Result<SharedBytes, NoMemory>
     ensures { IfOk result (λ text. text ≡ flat_map (λ name. codes " " ++ name_text name) names.now) }
 {
     let mut text = Vec::new(alloc);
     push_names(&mut text, names)?;
-    Ok(Sequence::from_vec(text))
+    SharedBytes::of(alloc, Bytes::from_vec(text))
 }
 
 impl SharedNames {
@@ -101,12 +102,12 @@ impl SharedNames {
     }
 
     /// How they print, each behind a space. It was made with the list, so that to ask for it costs nothing.
-    pub fn text(&self) -> &[u8]
-        ensures { result.now ≡ flat_map (λ name. codes " " ++ name_text name) self.now }
+    pub fn text(&self) -> Result<SharedBytes, NoMemory>
+        ensures { IfOk result (λ text. text ≡ flat_map (λ name. codes " " ++ name_text name) self.now) }
     {
         match &self.shared {
-            Some(printed) => printed.text.as_slice(),
-            None => &[],
+            Some(printed) => printed.text.copy(),
+            None => Ok(SharedBytes::new()),
         }
     }
 }
