@@ -37,18 +37,18 @@ impl Detail {
     }
 
     /// These bytes.
-    pub fn of(alloc: Global, bytes: Bytes) -> Result<Detail, NoMemory>
+    pub fn of(bytes: Bytes) -> Result<Detail, NoMemory>
         ensures { IfOk result (λ detail. detail ≡ bytes) }
     {
-        Detail::with_end(alloc, bytes, SharedBytes::new())
+        Detail::with_end(bytes, SharedBytes::new())
     }
 
     /// These bytes, and behind them an end that other details have, too.
-    pub fn with_end(alloc: Global, front: Bytes, end: SharedBytes) -> Result<Detail, NoMemory>
+    pub fn with_end(front: Bytes, end: SharedBytes) -> Result<Detail, NoMemory>
         ensures { IfOk result (λ detail. detail ≡ front ++ end) }
     {
         Ok(Detail {
-            front: SharedBytes::of(alloc, front)?,
+            front: SharedBytes::of(front)?,
             end,
         })
     }

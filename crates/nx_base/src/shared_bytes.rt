@@ -4,7 +4,6 @@ ghost use Rattle.std.specs.Prelude.{◌≡◌, [], IfOk};
 
 use crate::memory::NoMemory;
 use crate::sequence::{Bytes, TryCopy};
-use std::alloc::Global;
 use std::marker::Model;
 use std::rc::Rc;
 
@@ -32,12 +31,13 @@ impl SharedBytes {
     }
 
     /// These bytes.
-    pub fn of(alloc: Global, bytes: Bytes) -> Result<SharedBytes, NoMemory>
+    pub fn of(bytes: Bytes) -> Result<SharedBytes, NoMemory>
         ensures { IfOk result (λ shared. shared ≡ bytes) }
     {
         if bytes.is_empty() {
             return Ok(SharedBytes::new());
         }
+        let alloc = *bytes.items.allocator();
         Ok(SharedBytes {
             held: Some(Rc::new(alloc, bytes)?),
         })

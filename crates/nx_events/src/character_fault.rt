@@ -11,10 +11,9 @@ use crate::plain::{are_plain, plain_len};
 use crate::reading::Reading;
 use crate::reference::referenced;
 use crate::utf8::{front_char, is_char};
+use nx_base::detail::Detail;
 use nx_base::fault::{Fault, Kind, Span};
 use nx_base::memory::NoMemory;
-use nx_base::sequence::Bytes;
-use std::alloc::Global;
 
 /// Which of the kinds of faults that are told once in a token were told.
 #[derive(Clone, Copy)]
@@ -109,35 +108,24 @@ impl Told {
 }
 
 /// Adds a fault without a detail.
-pub(crate) fn push_bare(
-    alloc: Global,
-    items: &mut Items,
-    kind: Kind,
-    span: Span,
-) -> Result<(), NoMemory>
+pub(crate) fn push_bare(items: &mut Items, kind: Kind, span: Span) -> Result<(), NoMemory>
     ensures { OnOk result (items.new ≡ items.old ++ faults_as_items (bare_faults (Some kind) span)) }
 {
     items.push(Item::Fault(Fault {
         span,
         kind,
-        detail: Bytes::new(alloc),
+        detail: Detail::new(),
     }))?;
     Ok(())
 }
 
 // Adds the fault of a piece, unless it was told.
-fn push_new(
-    alloc: Global,
-    items: &mut Items,
-    told: Told,
-    flaw: Option<Kind>,
-    span: Span,
-) -> Result<(), NoMemory>
+fn push_new(items: &mut Items, told: Told, flaw: Option<Kind>, span: Span) -> Result<(), NoMemory>
     ensures { OnOk result (items.new ≡ items.old ++ faults_as_items (new_faults told flaw span)) }
 {
     if let Some(kind) = flaw {
         if !told.has(kind) {
-            push_bare(alloc, items, kind, span)?;
+            push_bare(items, kind, span)?;
         }
     }
     Ok(())
@@ -153,7 +141,6 @@ struct Left<'a> {
 
 // Passes the front of a text, a run of plain bytes or one piece, and adds its fault.
 fn pass_front<'a>(
-    alloc: Global,
     items: &mut Items,
     reading: Reading,
     told: Told,
@@ -178,7 +165,7 @@ fn pass_front<'a>(
     let piece = front_piece(reading, bytes);
     let flaw = piece_flaw(reading, piece);
     let to = at + piece.len();
-    push_new(alloc, items, told, flaw, Span { from: at, to })?;
+    push_new(items, told, flaw, Span { from: at, to })?;
     Ok(Left {
         told: told.behind(flaw),
         at: to,
@@ -188,7 +175,6 @@ fn pass_front<'a>(
 
 /// Adds the faults of the characters and references in bytes that begin at the place `at`.
 pub(crate) fn push_character_faults(
-    alloc: Global,
     items: &mut Items,
     reading: Reading,
     at: usize,
@@ -200,14 +186,13 @@ pub(crate) fn push_character_faults(
     if are_plain(reading, bytes) {
         return Ok(());
     }
-    push_faults_one_by_one(alloc, items, reading, at, bytes)?;
+    push_faults_one_by_one(items, reading, at, bytes)?;
     Ok(())
 }
 
 // Adds the faults of bytes some of which aren't plain, a run or a piece at a time.
 #[inline(never)]
 fn push_faults_one_by_one(
-    alloc: Global,
     items: &mut Items,
     reading: Reading,
     at: usize,
@@ -223,7 +208,7 @@ fn push_faults_one_by_one(
     let mut at = at;
     let mut rest = bytes;
     while !rest.is_empty() {
-        let left = pass_front(alloc, items, reading, told, at, rest)?;
+        let left = pass_front(items, reading, told, at, rest)?;
         told = left.told;
         at = left.at;
         rest = left.bytes;

@@ -18,6 +18,7 @@ use crate::qname::{parted, prefix_of};
 use crate::scope::{Bindings, attribute_uri, default_uri, element_uri};
 use crate::tag::{Attribute, copy_in, copy_of};
 use crate::tag_names::TagNames;
+use nx_base::detail::Detail;
 use nx_base::fault::{Kind, Span};
 use nx_base::memory::NoMemory;
 use nx_base::name::Name;
@@ -31,7 +32,7 @@ fn flawed(alloc: Global, kind: Kind, detail: &[u8]) -> Result<Resolved, NoMemory
 {
     Ok(Resolved::Flawed(Flaw {
         kind,
-        detail: copy_of(alloc, detail)?,
+        detail: Detail::of(copy_of(alloc, detail)?)?,
     }))
 }
 

@@ -13,6 +13,7 @@ use crate::stage::pass;
 use crate::state::{EventState, OpenElement, push_run};
 use crate::tag::{copy_of, end_name};
 use crate::token_fault::token_span;
+use nx_base::detail::Detail;
 use nx_base::fault::Kind;
 use nx_base::memory::NoMemory;
 use nx_base::token::Token;
@@ -23,7 +24,7 @@ fn push_extra(alloc: Global, items: &mut Items, token: &Token) -> Result<(), NoM
     requires { token.now.from + length token.now.bytes < 2 ^ 64 }
     ensures { OnOk result (items.new ≡ items.old ++ extra_end_items token.now) }
 {
-    let detail = copy_of(alloc, end_name(token.bytes.as_slice()))?;
+    let detail = Detail::of(copy_of(alloc, end_name(token.bytes.as_slice()))?)?;
     let flaw = Flaw {
         kind: Kind::ExtraEnd,
         detail,

@@ -1,14 +1,14 @@
 //! What is wrong with a name, without where it stands.
 
+use nx_base::detail::Detail;
 use nx_base::fault::Kind;
 use nx_base::name::Name;
-use nx_base::sequence::Bytes;
 
 /// The kind and the detail of a fault.
 #[derive(Drop)]
 pub struct Flaw {
     pub kind: Kind,
-    pub detail: Bytes,
+    pub detail: Detail,
 }
 
 /// The expanded name of an element or an attribute, or why it has none.

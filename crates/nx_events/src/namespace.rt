@@ -15,6 +15,7 @@ use crate::qname::is_qname;
 use crate::scope::{Binding, Bindings, XML_URI};
 use crate::tag::{Attribute, copy_of, tag_attributes};
 use crate::tag_names::TagNames;
+use nx_base::detail::Detail;
 use nx_base::fault::{Fault, Kind, Span};
 use nx_base::memory::NoMemory;
 use nx_base::name::XMLNS_NAMESPACE;
@@ -109,7 +110,7 @@ fn declare(
 {
     match flaw_if(came, it) {
         Some(kind) => {
-            let detail = it.name.to_bytes()?;
+            let detail = Detail::of(it.name.to_bytes()?)?;
             push_flaw(items, it.span, Flaw { kind, detail })?;
         }
         None => {

@@ -9,6 +9,7 @@ use crate::item::{Event, Item, Items};
 use crate::stack::{Named, Stack};
 use crate::state::OpenElement;
 use crate::tag::is_end_tag_of;
+use nx_base::detail::Detail;
 use nx_base::equal::same_each;
 use nx_base::fault::{Fault, Kind, Span};
 use nx_base::memory::NoMemory;
@@ -66,7 +67,7 @@ fn push_left_out(
     items.push(Item::Fault(Fault {
         span,
         kind,
-        detail: element.written.to_bytes()?,
+        detail: Detail::of(element.written.to_bytes()?)?,
     }))?;
     items.push(Item::Event(Event::Leave, span))?;
     Ok(())

@@ -14,48 +14,36 @@ use crate::token_fault::{push_characters, push_token_fault_if};
 use nx_base::fault::Kind;
 use nx_base::memory::NoMemory;
 use nx_base::token::{Token, TokenKind};
-use std::alloc::Global;
 
 // Adds the items of an XML declaration.
 #[tactic(auto, unfolding(crate::specs::Items::declaration_items))]
-fn push_declaration(
-    alloc: Global,
-    items: &mut Items,
-    state: &EventState,
-    token: &Token,
-) -> Result<(), NoMemory>
+fn push_declaration(items: &mut Items, state: &EventState, token: &Token) -> Result<(), NoMemory>
     requires { token.now.from + length token.now.bytes < 2 ^ 64 }
     ensures { OnOk result (items.new ≡ items.old ++ declaration_items state.now token.now) }
 {
     if state.came {
-        push_token_fault_if(alloc, items, true, Kind::Misplaced, token)?;
+        push_token_fault_if(items, true, Kind::Misplaced, token)?;
     } else {
         let bad = !is_xml_declaration(token.bytes.as_slice());
-        push_token_fault_if(alloc, items, bad, Kind::BadDecl, token)?;
+        push_token_fault_if(items, bad, Kind::BadDecl, token)?;
     }
     Ok(())
 }
 
 // Adds the items of a document type declaration.
 #[tactic(auto, unfolding(crate::specs::Items::doctype_items))]
-fn push_doctype(
-    alloc: Global,
-    items: &mut Items,
-    state: &EventState,
-    token: &Token,
-) -> Result<(), NoMemory>
+fn push_doctype(items: &mut Items, state: &EventState, token: &Token) -> Result<(), NoMemory>
     requires { token.now.from + length token.now.bytes < 2 ^ 64 }
     ensures { OnOk result (items.new ≡ items.old ++ doctype_items state.now token.now) }
 {
     let misplaced = state.started || state.doctype;
-    push_token_fault_if(alloc, items, misplaced, Kind::Misplaced, token)?;
+    push_token_fault_if(items, misplaced, Kind::Misplaced, token)?;
     Ok(())
 }
 
 // Adds the items of a token that isn't a tag, character data or a byte order mark.
 #[tactic(auto, unfolding(crate::specs::Items::comment_items, crate::specs::Items::pi_items, crate::specs::Items::items_of_token))]
 pub(crate) fn push_other(
-    alloc: Global,
     items: &mut Items,
     state: &EventState,
     token: &Token,
@@ -66,18 +54,18 @@ pub(crate) fn push_other(
 {
     let bytes = token.bytes.as_slice();
     match token.kind {
-        TokenKind::Decl => push_declaration(alloc, items, state, token)?,
-        TokenKind::Doctype => push_doctype(alloc, items, state, token)?,
+        TokenKind::Decl => push_declaration(items, state, token)?,
+        TokenKind::Doctype => push_doctype(items, state, token)?,
         TokenKind::Comment => {
             let bad = is_bad_comment(bytes);
-            push_characters(alloc, items, Reading::Plain, bad, Kind::BadComment, token)?;
+            push_characters(items, Reading::Plain, bad, Kind::BadComment, token)?;
         }
         TokenKind::Pi => {
             let bad = is_bad_pi(bytes);
-            push_characters(alloc, items, Reading::Plain, bad, Kind::BadPi, token)?;
+            push_characters(items, Reading::Plain, bad, Kind::BadPi, token)?;
         }
-        TokenKind::Bad => push_token_fault_if(alloc, items, true, Kind::BadMarkup, token)?,
-        TokenKind::Unclosed => push_token_fault_if(alloc, items, true, Kind::Unclosed, token)?,
+        TokenKind::Bad => push_token_fault_if(items, true, Kind::BadMarkup, token)?,
+        TokenKind::Unclosed => push_token_fault_if(items, true, Kind::Unclosed, token)?,
         _ => {}
     }
     Ok(())

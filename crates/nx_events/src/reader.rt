@@ -83,16 +83,16 @@ fn read_by_kind(
     match token.kind {
         TokenKind::Start => return read_start(alloc, items, state, token),
         TokenKind::Bom => {}
-        TokenKind::Text => push_text(alloc, items, state, token)?,
-        TokenKind::Cdata => push_cdata(alloc, items, state, token)?,
+        TokenKind::Text => push_text(items, state, token)?,
+        TokenKind::Cdata => push_cdata(items, state, token)?,
         TokenKind::Empty => push_empty(alloc, items, state, token)?,
         TokenKind::End => push_end(alloc, items, state, token)?,
-        TokenKind::Decl => push_other(alloc, items, state, token)?,
-        TokenKind::Doctype => push_other(alloc, items, state, token)?,
-        TokenKind::Comment => push_other(alloc, items, state, token)?,
-        TokenKind::Pi => push_other(alloc, items, state, token)?,
-        TokenKind::Bad => push_other(alloc, items, state, token)?,
-        TokenKind::Unclosed => push_other(alloc, items, state, token)?,
+        TokenKind::Decl => push_other(items, state, token)?,
+        TokenKind::Doctype => push_other(items, state, token)?,
+        TokenKind::Comment => push_other(items, state, token)?,
+        TokenKind::Pi => push_other(items, state, token)?,
+        TokenKind::Bad => push_other(items, state, token)?,
+        TokenKind::Unclosed => push_other(items, state, token)?,
     }
     Ok(nothing_declared(alloc))
 }
@@ -222,7 +222,7 @@ fn items_at_end(alloc: Global, state: &EventState, len: usize) -> Result<Items, 
         state.elements.as_slice(),
     )?;
     if !state.started {
-        push_bare(alloc, &mut items, Kind::NoRoot, span)?;
+        push_bare(&mut items, Kind::NoRoot, span)?;
     }
     Ok(items)
 }

@@ -63,7 +63,7 @@ pub(crate) fn push_open(
         (kept_names (state.now.scope ++ own_bindings token.now) [] (tag_attributes token.now.from token.now.bytes))) }
 {
     let bytes = token.bytes.as_slice();
-    push_character_faults(alloc, items, Reading::Value, token.from, bytes)?;
+    push_character_faults(items, Reading::Value, token.from, bytes)?;
     let attributes = tag_attributes(alloc, token.from, bytes)?;
     let own = declarations(alloc, items, attributes.as_slice())?;
     push_tag_element(alloc, items, state, token, &own)?;
@@ -89,7 +89,7 @@ fn push_declaring(
         return Ok(opening.own);
     }
     let own = Bindings::new(alloc);
-    push_character_faults(alloc, items, Reading::Value, token.from, bytes)?;
+    push_character_faults(items, Reading::Value, token.from, bytes)?;
     push_tag_element(alloc, items, state, token, &own)?;
     Ok(own)
 }

@@ -14,7 +14,6 @@ use crate::token_fault::push_characters;
 use nx_base::fault::Kind;
 use nx_base::memory::NoMemory;
 use nx_base::token::Token;
-use std::alloc::Global;
 
 // The content of a CDATA section.
 pub(crate) fn cdata_content(bytes: &[u8]) -> &[u8]
@@ -49,7 +48,6 @@ pub(crate) fn join(
 /// Adds the items of character data.
 #[tactic(auto, unfolding(crate::specs::Items::text_items))]
 pub(crate) fn push_text(
-    alloc: Global,
     items: &mut Items,
     state: &EventState,
     token: &Token,
@@ -58,21 +56,13 @@ pub(crate) fn push_text(
     ensures { OnOk result (items.new ≡ items.old ++ text_items state.now token.now) }
 {
     let outside = !is_inside(state) && !are_spaces(token.bytes.as_slice());
-    push_characters(
-        alloc,
-        items,
-        Reading::Text,
-        outside,
-        Kind::TextOutside,
-        token,
-    )?;
+    push_characters(items, Reading::Text, outside, Kind::TextOutside, token)?;
     Ok(())
 }
 
 /// Adds the items of a CDATA section.
 #[tactic(auto, unfolding(crate::specs::Items::cdata_items))]
 pub(crate) fn push_cdata(
-    alloc: Global,
     items: &mut Items,
     state: &EventState,
     token: &Token,
@@ -81,13 +71,6 @@ pub(crate) fn push_cdata(
     ensures { OnOk result (items.new ≡ items.old ++ cdata_items state.now token.now) }
 {
     let outside = !is_inside(state);
-    push_characters(
-        alloc,
-        items,
-        Reading::Plain,
-        outside,
-        Kind::TextOutside,
-        token,
-    )?;
+    push_characters(items, Reading::Plain, outside, Kind::TextOutside, token)?;
     Ok(())
 }

@@ -9,7 +9,6 @@ use crate::reading::Reading;
 use nx_base::fault::{Kind, Span};
 use nx_base::memory::NoMemory;
 use nx_base::token::Token;
-use std::alloc::Global;
 
 /// The token's own span.
 pub(crate) fn token_span(token: &Token) -> Span
@@ -24,7 +23,6 @@ pub(crate) fn token_span(token: &Token) -> Span
 
 /// Adds a fault over the whole token where the test holds.
 pub(crate) fn push_token_fault_if(
-    alloc: Global,
     items: &mut Items,
     test: bool,
     kind: Kind,
@@ -34,14 +32,13 @@ pub(crate) fn push_token_fault_if(
     ensures { OnOk result (items.new ≡ items.old ++ token_fault_if test kind token.now) }
 {
     if test {
-        push_bare(alloc, items, kind, token_span(token))?;
+        push_bare(items, kind, token_span(token))?;
     }
     Ok(())
 }
 
 /// Adds the faults of a token of characters, and a fault over the whole where the test holds.
 pub(crate) fn push_characters(
-    alloc: Global,
     items: &mut Items,
     reading: Reading,
     test: bool,
@@ -51,7 +48,7 @@ pub(crate) fn push_characters(
     requires { token.now.from + length token.now.bytes < 2 ^ 64 }
     ensures { OnOk result (items.new ≡ items.old ++ character_items reading test kind token.now) }
 {
-    push_character_faults(alloc, items, reading, token.from, token.bytes.as_slice())?;
-    push_token_fault_if(alloc, items, test, kind, token)?;
+    push_character_faults(items, reading, token.from, token.bytes.as_slice())?;
+    push_token_fault_if(items, test, kind, token)?;
     Ok(())
 }

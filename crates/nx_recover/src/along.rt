@@ -9,9 +9,9 @@ ghost use Rattle.nx_recover.specs.Items.{form_behind, faults_found, form_along, 
 use crate::event::take_event;
 use crate::levels::{Change, Levels};
 use crate::packed::Packed;
+use nx_base::detail::Detail;
 use nx_base::fault::{Fault, Faults, Span};
 use nx_base::memory::NoMemory;
-use nx_base::sequence::Sequence;
 use nx_events::flaw::Flaw;
 use nx_events::item::Item;
 use rng_live::matcher::Matcher;
@@ -30,7 +30,7 @@ fn push_flaw(faults: &mut Faults, span: Span, flaw: Option<Flaw>) -> Result<(), 
 }
 
 // Takes a fault out of its place: its detail moves.
-fn take_fault(alloc: Global, fault: &mut Fault) -> Fault
+fn take_fault(fault: &mut Fault) -> Fault
     ensures { result ≡ fault.old }
 {
     let detail = mem::replace(&mut fault.detail, Detail::new());
@@ -64,7 +64,7 @@ fn take_item<M: Matcher>(
             let flaw = take_event(alloc, matcher, levels, change, event)?;
             push_flaw(faults, *span, flaw)?;
         }
-        Item::Fault(fault) => faults.push(take_fault(alloc, fault))?,
+        Item::Fault(fault) => faults.push(take_fault(fault))?,
     }
     Ok(())
 }

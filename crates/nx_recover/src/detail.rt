@@ -29,14 +29,14 @@ fn names_text(alloc: Global, names: &[Name]) -> Result<Bytes, NoMemory>
 pub(crate) fn name_detail(alloc: Global, name: &Name) -> Result<Detail, NoMemory>
     ensures { IfOk result (λ detail. detail ≡ name_text name.now) }
 {
-    Detail::of(alloc, name_text(alloc, name)?)
+    Detail::of(name_text(alloc, name)?)
 }
 
 /// Names, separated by a space.
 pub(crate) fn names_detail(alloc: Global, names: &[Name]) -> Result<Detail, NoMemory>
     ensures { IfOk result (λ detail. detail ≡ names_text names.now) }
 {
-    Detail::of(alloc, names_text(alloc, names)?)
+    Detail::of(names_text(alloc, names)?)
 }
 
 /// A name, and what is needed: all faults at which the same is needed share that.
@@ -53,5 +53,5 @@ pub(crate) fn needs_detail(
     let mut front = Vec::new(alloc);
     push_name(&mut front, name)?;
     front.extend_from_slice(b" needs")?;
-    Detail::with_end(alloc, Bytes::from_vec(front), needed.text()?)
+    Detail::with_end(Bytes::from_vec(front), needed.text()?)
 }

@@ -5,6 +5,7 @@ ghost use Rattle.nx_script.specs.FaultLines.{place_text, detail_text, fault_line
 
 use crate::escape::push_text;
 use crate::kind_name::kind_name;
+use nx_base::detail::Detail;
 use nx_base::fault::{Fault, Span};
 use nx_base::memory::NoMemory;
 use std::alloc::{AllocError, Global};
@@ -45,7 +46,7 @@ fn push_line(alloc: Global, text: &mut Vec<u8>, fault: &Fault) -> Result<(), NoM
 {
     text.extend_from_slice(place(alloc, fault.span)?.as_bytes())?;
     text.extend_from_slice(kind_name(fault.kind).as_bytes())?;
-    push_detail(alloc, text, fault.detail.as_slice())?;
+    push_detail(alloc, text, &fault.detail)?;
     text.push(b'\n')?;
     Ok(())
 }
@@ -60,12 +61,14 @@ fn place(alloc: Global, span: Span) -> Result<String, AllocError>
 }
 
 /// Adds what a fault tells beside its kind, where it tells anything.
-fn push_detail(alloc: Global, text: &mut Vec<u8>, detail: &[u8]) -> Result<(), NoMemory>
+fn push_detail(alloc: Global, text: &mut Vec<u8>, detail: &Detail) -> Result<(), NoMemory>
     ensures { OnOk result (text.new.items ≡ text.old.items ++ detail_text detail.now) }
 {
     if detail.is_empty() {
         return Ok(());
     }
+    let (front, end) = detail.pieces();
     text.push(b' ')?;
-    push_text(alloc, text, detail)
+    push_text(alloc, text, front)?;
+    push_text(alloc, text, end)
 }

@@ -63,7 +63,7 @@ fn text_of(alloc: Global, names: &[Name]) -> Result<SharedBytes, NoMemory>
 {
     let mut text = Vec::new(alloc);
     push_names(&mut text, names)?;
-    SharedBytes::of(alloc, Bytes::from_vec(text))
+    SharedBytes::of(Bytes::from_vec(text))
 }
 
 impl SharedNames {
