@@ -166,7 +166,9 @@ impl Nodes {
         ensures { result ≡ s.is_star (at self.now p) }
     {
         match self.node(p) {
-            Node::Choice(a, b) => self.is_repeated(a) && self.is_empty(b),
+            Node::Choice(a, b) => {
+                self.is_repeated(a) && self.is_empty(b) || self.is_empty(a) && self.is_repeated(b)
+            }
             _ => false,
         }
     }

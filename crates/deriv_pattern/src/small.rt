@@ -281,7 +281,7 @@ fn is_star(p: &Pat) -> bool
     ensures { result ≡ s.is_star (pattern_of p.now) }
 {
     match p {
-        Pat::Choice(a, b) => is_repeated(a) && is_empty(b),
+        Pat::Choice(a, b) => is_repeated(a) && is_empty(b) || is_empty(a) && is_repeated(b),
         Pat::NotAllowed
         | Pat::Empty
         | Pat::Text

@@ -42,7 +42,7 @@ is_repeated (one_or_more p) = true
 is_repeated _ = false
 
 abbrev pub is_star : Pattern → Bool
-is_star (choice p q) = is_repeated p && is_empty q
+is_star (choice p q) = (is_repeated p && is_empty q) || (is_empty p && is_repeated q)
 is_star _ = false
 
 -- as many as one likes, or none; a repetition of such a repetition is that one

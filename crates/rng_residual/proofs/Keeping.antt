@@ -8,7 +8,7 @@ use Rattle.rng_kept.specs.SmallPatterns.{is_not_allowed, is_empty, is_side, with
 use Rattle.rng_kept.specs.Nullable.{nullable}
 use Rattle.rng_kept.specs.Lists.{lists_are}
 use Rattle.rng_residual.proofs.SmallPatterns.{by_test, and_true}
-use Rattle.rng_residual.proofs.Nullable.{true_and, star_form}
+use Rattle.rng_residual.proofs.Nullable.{true_and, star_form, StarForm, parts_or_none, none_or_parts}
 use Rattle.rng_kept.specs.Strings.{Tests, after_by}
 use Rattle.rng_kept.specs.Attributes.{around, attribute_by}
 
@@ -171,8 +171,12 @@ some_interleave p q h i =
     (by_test (λ r. is_not_allowed r ≡ false) (is_empty p) _ _ (λ _. i)
     (λ _. by_test (λ r. is_not_allowed r ≡ false) (is_empty q) _ _ (λ _. h) (λ _. refl)))
 
+some_form : (p : Pattern) → StarForm p → is_not_allowed p ≡ false
+some_form _ (parts_or_none q) = refl
+some_form _ (none_or_parts q) = refl
+
 pub some_star : (p : Pattern) → is_not_allowed (star p) ≡ false
 unfolding star
 some_star p =
     by_test (λ r. is_not_allowed r ≡ false) (is_star p) _ _
-    (λ h. subst (λ r. is_not_allowed r ≡ false) (sym (star_form p h).1) refl) (λ _. some_choice (one_or_more p) empty refl)
+    (λ h. some_form p (star_form p h)) (λ _. some_choice (one_or_more p) empty refl)

@@ -66,7 +66,12 @@ repeated_form (choice p q) h = cc
 repeated_form (group p q) h = cc
 repeated_form (interleave p q) h = cc
 
-pub star_form : (p : Pattern) → is_star p ≡ true → (q : Pattern) × (p ≡ choice (one_or_more q) empty)
+-- as many as one likes, or none, in either order
+pub data StarForm : Pattern → Type 0 where
+  parts_or_none : (q : Pattern) → StarForm (choice (one_or_more q) empty)
+  none_or_parts : (q : Pattern) → StarForm (choice empty (one_or_more q))
+
+pub star_form : (p : Pattern) → is_star p ≡ true → StarForm p
 star_form not_allowed h = cc
 star_form empty h = cc
 star_form any_text h = cc
@@ -76,10 +81,16 @@ star_form (listed p) h = cc
 star_form (attribute n p) h = cc
 star_form (ref i) h = cc
 star_form (one_or_more p) h = cc
-star_form (choice p q) h =
-    let e = and_true (is_repeated p) (is_empty q) h in
-    let r = repeated_form p e.0 in
-    (r.0, ap (λ x. choice x q) r.1 ∙ ap (λ y. choice (one_or_more r.0) y) (is_empty-is q e.1))
+star_form (choice p q) h = ⊎_elim
+    (λ first.
+      let e = and_true (is_repeated p) (is_empty q) first in
+      let r = repeated_form p e.0 in
+      subst StarForm (sym (ap (λ x. choice x q) r.1 ∙ ap (λ y. choice (one_or_more r.0) y) (is_empty-is q e.1))) (parts_or_none r.0))
+    (λ second.
+      let e = and_true (is_empty p) (is_repeated q) second in
+      let r = repeated_form q e.1 in
+      subst StarForm (sym (ap (λ x. choice x q) (is_empty-is p e.0) ∙ ap (λ y. choice empty y) r.1)) (none_or_parts r.0))
+    (or_true (is_repeated p && is_empty q) (is_empty p && is_repeated q) h)
 star_form (group p q) h = cc
 star_form (interleave p q) h = cc
 
@@ -95,18 +106,39 @@ module _ {g : List Definition} {p : Pattern} where
   again (by_one m) = m
   again (by_more s o m n) = joined s o m (again n)
 
+  turned : {a : List Attribute} {c : Children} → Matches g (choice empty (one_or_more p)) a c → Matches g (choice (one_or_more p) empty) a c
+  turned (by_first m) = by_second m
+  turned (by_second m) = by_first m
+
+  all_turned : {a : List Attribute} {c : Children} → Matches g (one_or_more (choice empty (one_or_more p))) a c →
+      Matches g (one_or_more (choice (one_or_more p) empty)) a c
+  all_turned (by_one m) = by_one (turned m)
+  all_turned (by_more s o m n) = by_more s o (turned m) (all_turned n)
+
+  turned_back : {a : List Attribute} {c : Children} → Matches g (choice (one_or_more p) empty) a c → Matches g (choice empty (one_or_more p)) a c
+  turned_back (by_first m) = by_second m
+  turned_back (by_second m) = by_first m
+
+again_in : {g : List Definition} {p : Pattern} {a : List Attribute} {c : Children} → StarForm p → Matches g (one_or_more p) a c → Matches g p a c
+again_in (parts_or_none q) m = again m
+again_in (none_or_parts q) m = turned_back (again (all_turned m))
+
+none_in : {g : List Definition} {p : Pattern} → StarForm p → Matches g p [] nil
+none_in (parts_or_none q) = by_second by_empty
+none_in (none_or_parts q) = by_first by_empty
+
 pub star_in : {g : List Definition} {p : Pattern} {a : List Attribute} {c : Children} → Matches g (one_or_more p) a c → Matches g (star p) a c
 unfolding star
 star_in {g = g} {p = p} {a = a} {c = c} m =
     by_test (λ r. Matches g r a c) (is_star p) _ _
-    (λ h. let f = star_form p h in subst (λ r. Matches g r a c) (sym f.1) (again (subst (λ r. Matches g (one_or_more r) a c) f.1 m)))
+    (λ h. again_in (star_form p h) m)
     (λ _. (or_same g (one_or_more p) empty).from (by_first m))
 
 pub star_none : {g : List Definition} (p : Pattern) → Matches g (star p) [] nil
 unfolding star
 star_none {g = g} p =
     by_test (λ r. Matches g r [] nil) (is_star p) _ _
-    (λ h. subst (λ r. Matches g r [] nil) (sym (star_form p h).1) (by_second by_empty))
+    (λ h. none_in (star_form p h))
     (λ _. (or_same g (one_or_more p) empty).from (by_second by_empty))
 
 pub star_out : {g : List Definition} {p : Pattern} {a : List Attribute} {c : Children} → Matches g (star p) a c → Matches g (one_or_more p) a c ⊎ Matches g empty a c
