@@ -55,6 +55,7 @@ pub mod prefix;
 pub mod reader;
 mod reusable;
 mod scope;
+mod shared_pairs;
 mod stack;
 mod stage;
 mod start_tag;

@@ -5,7 +5,8 @@ ghost use Rattle.nx_events.specs.declared.scope.Binding.{Binding};
 ghost use Rattle.nx_events.specs.Places.{last_named};
 ghost use Rattle.nx_events.specs.Scopes.{last_uri, bound_uri, element_uri, attribute_uri};
 
-use crate::stack::{Named, Stack};
+use crate::shared_pairs::SharedPairs;
+use crate::stack::Named;
 use nx_base::memory::NoMemory;
 use nx_base::sequence::{Bytes, TryCopy};
 use std::alloc::Global;
@@ -69,21 +70,20 @@ impl Named for SharedBinding {
 }
 
 /// Pairs in the order of their declarations, in which the last one of a prefix is found at once. Most tags and most texts declare
-/// none: then they take no memory beside a pointer. To a contract they are the list.
+/// none: then they take no memory. To a contract they are the list.
 #[derive(Drop)]
 pub struct Bindings {
     alloc: Global,
-    pairs: Option<Box<Stack<SharedBinding>>>,
+    pairs: Option<SharedPairs>,
 }
 
 impl Model for Bindings {
     ghost use Rattle.std.specs.Prelude.{List, [], unwrap_or};
-    ghost use Rattle.std.specs.Option.{option_map};
     ghost use Rattle.nx_events.specs.declared.scope.Binding.{Binding};
 
     ghost Value = { List Binding };
 
-    ghost view = { λ bindings. unwrap_or (option_map (λ pairs. pairs.value) bindings.pairs) [] };
+    ghost view = { λ bindings. unwrap_or bindings.pairs [] };
 }
 
 impl Bindings {
@@ -132,9 +132,9 @@ impl Bindings {
         if let Some(pairs) = &mut self.pairs {
             return pairs.append(more);
         }
-        let mut pairs = Stack::new(self.alloc);
+        let mut pairs = SharedPairs::new(self.alloc)?;
         pairs.append(more)?;
-        self.pairs = Some(Box::new(self.alloc, pairs)?);
+        self.pairs = Some(pairs);
         Ok(())
     }
 
@@ -147,9 +147,9 @@ impl Bindings {
         if let Some(pairs) = &mut self.pairs {
             return pairs.push(shared);
         }
-        let mut pairs = Stack::new(self.alloc);
+        let mut pairs = SharedPairs::new(self.alloc)?;
         pairs.push(shared)?;
-        self.pairs = Some(Box::new(self.alloc, pairs)?);
+        self.pairs = Some(pairs);
         Ok(())
     }
 
@@ -167,9 +167,7 @@ impl TryCopy for Bindings {
     fn copy(&self) -> Result<Bindings, NoMemory> {
         let mut copied = Bindings::new(self.alloc);
         if let Some(pairs) = &self.pairs {
-            if pairs.len() > 0 {
-                copied.pairs = Some(Box::new(self.alloc, pairs.copy()?)?);
-            }
+            copied.pairs = Some(pairs.share()?);
         }
         Ok(copied)
     }

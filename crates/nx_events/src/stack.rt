@@ -66,8 +66,8 @@ fn pop_name(inner: &mut InnerNames, len: usize)
     }
 }
 
-// The place of the last thing with the name, found by looking through all.
-fn last_place_in<T: Named>(items: &[T], name: &[u8]) -> Option<usize>
+/// The place of the last thing with the name, found by looking through all.
+pub(crate) fn last_place_in<T: Named>(items: &[T], name: &[u8]) -> Option<usize>
     ensures value { result ≡ last_place name.now (map T.name_of items.now) }
     ensures bound { IfSome result (λ n. n < length items.now) }
 {
@@ -230,6 +230,18 @@ impl<T: Named + TryCopy + Drop> Stack<T> {
             }
         }
         Ok(())
+    }
+}
+
+impl<T: Named + TryCopy + Drop> Stack<T> {
+    /// Copies of so many things at the front.
+    pub(crate) fn front(&self, len: usize) -> Result<Self, NoMemory>
+        requires { len ≤ length self.now }
+        ensures { IfOk result (λ front. front ≡ take len self.now) }
+    {
+        let mut front = Stack::with_room(self.alloc, len)?;
+        front.append(&self.items.as_slice()[..len])?;
+        Ok(front)
     }
 }
 
