@@ -1,6 +1,7 @@
 //! Faults as lines.
 
-ghost use Rattle.std.specs.Prelude.{◌≡◌, ◌++◌, IfOk, OnOk, codes, string_bytes};
+ghost use Rattle.std.specs.Prelude.{◌≡◌, ◌++◌, [], IfOk, OnOk, string_bytes};
+ghost use Rattle.nx_host.specs.Out.{WritesInParts, CountsOutFault};
 ghost use Rattle.nx_script.specs.FaultLines.{place_text, detail_text, fault_line, fault_lines, errors_text, view_text};
 
 use crate::escape::push_text;
@@ -8,26 +9,75 @@ use crate::kind_name::kind_name;
 use nx_base::detail::Detail;
 use nx_base::fault::{Fault, Span};
 use nx_base::memory::NoMemory;
+use nx_host::out::{Out, OutFault};
 use std::alloc::{AllocError, Global};
 
-/// How many faults there are, and a line for each.
-pub(crate) fn errors_text(alloc: Global, faults: &[Fault]) -> Result<Vec<u8>, NoMemory>
-    ensures { IfOk result (λ text. text.items ≡ errors_text faults.now) }
+/// How many lines are put together before they are written, so that a list of faults isn't printed in memory as a whole.
+const MOST_LINES: usize = 64;
+
+/// Writes how many faults there are, and a line for each.
+pub(crate) fn write_errors<O: Out>(
+    alloc: Global,
+    out: &mut O,
+    faults: &[Fault],
+) -> Result<(), OutFault>
+    ensures written { WritesInParts result (O.told out.old) (errors_text faults.now) (O.told out.new) }
+    ensures faults { CountsOutFault result (O.faults out.old) (O.faults out.new) }
 {
     let count = faults.len();
     let mut text = format!(in alloc; "errors: {count}\n")?.into_bytes();
-    push_lines(alloc, &mut text, faults)?;
-    Ok(text)
+    write_lines(alloc, out, &mut text, faults)
 }
 
-/// The number of a view, how many faults it shows, and a line for each.
-pub(crate) fn view_text(alloc: Global, index: u64, faults: &[Fault]) -> Result<Vec<u8>, NoMemory>
-    ensures { IfOk result (λ text. text.items ≡ view_text index faults.now) }
+/// Writes the number of a view, how many faults it shows, and a line for each.
+pub(crate) fn write_view<O: Out>(
+    alloc: Global,
+    out: &mut O,
+    index: u64,
+    faults: &[Fault],
+) -> Result<(), OutFault>
+    ensures written { WritesInParts result (O.told out.old) (view_text index faults.now) (O.told out.new) }
+    ensures faults { CountsOutFault result (O.faults out.old) (O.faults out.new) }
 {
     let count = faults.len();
     let mut text = format!(in alloc; "view {index}: {count}\n")?.into_bytes();
-    push_lines(alloc, &mut text, faults)?;
-    Ok(text)
+    write_lines(alloc, out, &mut text, faults)
+}
+
+/// Writes a text, and a line for each fault behind it. What the text is then, is of no use.
+fn write_lines<O: Out>(
+    alloc: Global,
+    out: &mut O,
+    text: &mut Vec<u8>,
+    faults: &[Fault],
+) -> Result<(), OutFault>
+    ensures written { WritesInParts result (O.told out.old) (text.old.items ++ fault_lines faults.now) (O.told out.new) }
+    ensures faults { CountsOutFault result (O.faults out.old) (O.faults out.new) }
+{
+    let mut left = faults;
+    while left.len() > MOST_LINES {
+        let (part, rest) = left.split_at(MOST_LINES);
+        write_part(alloc, out, text, part)?;
+        left = rest;
+    }
+    write_part(alloc, out, text, left)
+}
+
+/// Writes a text, and a line for each fault behind it, all of it at once; the text is empty then.
+fn write_part<O: Out>(
+    alloc: Global,
+    out: &mut O,
+    text: &mut Vec<u8>,
+    faults: &[Fault],
+) -> Result<(), OutFault>
+    ensures written { WritesInParts result (O.told out.old) (text.old.items ++ fault_lines faults.now) (O.told out.new) }
+    ensures faults { CountsOutFault result (O.faults out.old) (O.faults out.new) }
+    ensures text { OnOk result (text.new.items ≡ []) }
+{
+    push_lines(alloc, text, faults).map_err(|_| OutFault::NoMemory)?;
+    out.write(alloc, text.as_slice())?;
+    text.clear();
+    Ok(())
 }
 
 /// Adds a line for each fault.

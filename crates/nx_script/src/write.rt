@@ -2,18 +2,16 @@
 
 ghost use Rattle.std.specs.Prelude.{◌≡◌, ◌++◌, IfOk, OnOk, codes, option_map, string_bytes};
 ghost use Rattle.nx_host.specs.Out.{WritesInParts, CountsOutFault};
-ghost use Rattle.nx_script.specs.FaultLines.{errors_text, view_text};
 ghost use Rattle.nx_script.specs.OfferLines.{offers_text};
 ghost use Rattle.nx_script.specs.Printing.{reply_text, frontier_text, taken_text, refused_text, refusal_text, bad_position_text};
 ghost use Rattle.nx_script.specs.Printing.{not_utf8_text, unreadable_text, rules_text, no_view_text};
 ghost use Rattle.nx_script.specs.Printing.{located_text, caret_text, position_text};
 
 use crate::cause_name::cause_name;
-use crate::fault_line::{errors_text, view_text};
+use crate::fault_line::{write_errors, write_view};
 use crate::offer_line::offers_text;
 use crate::reply::{Refusal, Reply};
 use nx_base::cause::Cause;
-use nx_base::fault::Fault;
 use nx_base::locate_fault::LocateFault;
 use nx_base::memory::NoMemory;
 use nx_base::offer::Offers;
@@ -35,7 +33,7 @@ pub fn write_reply<O: Out>(
     match reply {
         Reply::Silent => Ok(()),
         Reply::Printed(text) => write_text(alloc, out, text.as_slice()),
-        Reply::Errors(faults) => write_faults(alloc, out, faults.as_slice()),
+        Reply::Errors(faults) => write_errors(alloc, out, faults.as_slice()),
         Reply::Frontier { at, len } => write_frontier(alloc, out, *at, *len),
         Reply::Taken(taken) => write_taken(alloc, out, *taken),
         Reply::Located(uri) => write_located(alloc, out, uri),
@@ -58,16 +56,6 @@ fn write_text<O: Out>(alloc: Global, out: &mut O, text: &[u8]) -> Result<(), Out
     Ok(())
 }
 
-/// Writes the lines that list faults, all of them at once.
-fn write_faults<O: Out>(alloc: Global, out: &mut O, faults: &[Fault]) -> Result<(), OutFault>
-    ensures written { WritesInParts result (O.told out.old) (errors_text faults.now) (O.told out.new) }
-    ensures faults { CountsOutFault result (O.faults out.old) (O.faults out.new) }
-{
-    let text = errors_text(alloc, faults).map_err(|_| OutFault::NoMemory)?;
-    out.write(alloc, text.as_slice())?;
-    Ok(())
-}
-
 /// Writes the line that tells how far the text is read, all of it at once.
 fn write_frontier<O: Out>(alloc: Global, out: &mut O, at: usize, len: usize) -> Result<(), OutFault>
     ensures written { WritesInParts result (O.told out.old) (frontier_text at len) (O.told out.new) }
@@ -85,21 +73,6 @@ fn write_taken<O: Out>(alloc: Global, out: &mut O, taken: u64) -> Result<(), Out
 {
     let line = taken_line(alloc, taken).map_err(|_| OutFault::NoMemory)?;
     out.write(alloc, line.as_bytes())?;
-    Ok(())
-}
-
-/// Writes the lines of a view, all of them at once.
-fn write_view<O: Out>(
-    alloc: Global,
-    out: &mut O,
-    index: u64,
-    faults: &[Fault],
-) -> Result<(), OutFault>
-    ensures written { WritesInParts result (O.told out.old) (view_text index faults.now) (O.told out.new) }
-    ensures faults { CountsOutFault result (O.faults out.old) (O.faults out.new) }
-{
-    let text = view_text(alloc, index, faults).map_err(|_| OutFault::NoMemory)?;
-    out.write(alloc, text.as_slice())?;
     Ok(())
 }
 

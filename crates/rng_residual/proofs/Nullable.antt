@@ -83,13 +83,13 @@ star_form (ref i) h = cc
 star_form (one_or_more p) h = cc
 star_form (choice p q) h = ⊎_elim
     (λ first.
-      let e = and_true (is_repeated p) (is_empty q) first in
-      let r = repeated_form p e.0 in
-      subst StarForm (sym (ap (λ x. choice x q) r.1 ∙ ap (λ y. choice (one_or_more r.0) y) (is_empty-is q e.1))) (parts_or_none r.0))
+    let e = and_true (is_repeated p) (is_empty q) first in
+    let r = repeated_form p e.0 in
+    subst StarForm (sym (ap (λ x. choice x q) r.1 ∙ ap (λ y. choice (one_or_more r.0) y) (is_empty-is q e.1))) (parts_or_none r.0))
     (λ second.
-      let e = and_true (is_empty p) (is_repeated q) second in
-      let r = repeated_form q e.1 in
-      subst StarForm (sym (ap (λ x. choice x q) (is_empty-is p e.0) ∙ ap (λ y. choice empty y) r.1)) (none_or_parts r.0))
+    let e = and_true (is_empty p) (is_repeated q) second in
+    let r = repeated_form q e.1 in
+    subst StarForm (sym (ap (λ x. choice x q) (is_empty-is p e.0) ∙ ap (λ y. choice empty y) r.1)) (none_or_parts r.0))
     (or_true (is_repeated p && is_empty q) (is_empty p && is_repeated q) h)
 star_form (group p q) h = cc
 star_form (interleave p q) h = cc
