@@ -1,5 +1,6 @@
 pub mod Blanks
 pub mod Cutting
+pub mod Lines
 pub mod Numbers
 pub mod Printed
 pub mod QNames

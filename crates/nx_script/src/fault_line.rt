@@ -111,6 +111,7 @@ fn place(alloc: Global, span: Span) -> Result<String, AllocError>
 }
 
 /// Adds what a fault tells beside its kind, where it tells anything.
+#[tactic(auto, using(crate::proofs::Lines::pieces_printed))]
 fn push_detail(alloc: Global, text: &mut Vec<u8>, detail: &Detail) -> Result<(), NoMemory>
     ensures { OnOk result (text.new.items ≡ text.old.items ++ detail_text detail.now) }
 {
@@ -120,5 +121,6 @@ fn push_detail(alloc: Global, text: &mut Vec<u8>, detail: &Detail) -> Result<(),
     let (front, end) = detail.pieces();
     text.push(b' ')?;
     push_text(alloc, text, front)?;
-    push_text(alloc, text, end)
+    push_text(alloc, text, end)?;
+    Ok(())
 }

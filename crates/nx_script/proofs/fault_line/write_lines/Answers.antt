@@ -1,32 +1,31 @@
-use Rattle.std.proofs.Common.{rules, ◌≡◌, ◌++◌, [], IfOk, OnOk, string_bytes, ℕ, ◌+◌, ◌-◌, ◌*◌, ◌<◌, ◌≤◌, length, ◌/◌, ◌%◌, Bool, true, false, nat_eq, nat_lt, List, ◌∷◌, slice_index_or, slice_set, bit_and, bit_or, Fits, w8, w32, w64, Bor, MutBor}
-use Rattle.nx_host.specs.Out.{WritesInParts, CountsOutFault}
-use Rattle.nx_script.specs.FaultLines.{place_text, detail_text, fault_line, fault_lines, errors_text, view_text}
+use Rattle.std.proofs.Common.{◌++◌, ◌∙◌, refl}
+use Rattle.std.proofs.lemmas.Result.{err_from_is_err_and}
+use Rattle.nx_script.specs.FaultLines.{fault_lines}
+use Rattle.nx_script.proofs.Writing.{begun, goes_on, stopped, ended}
+use Rattle.nx_script.proofs.Lines.{lines_parted}
 use Rattle.nx_script.proofs.fault_line.write_lines.Goals as goal
 
--- src/fault_line.rt:58:5
 pub loop-left-init : goal.loop-left-init
-loop-left-init g c = ?
+loop-left-init g c = (begun _ _, refl)
 
--- src/fault_line.rt:60:9
 pub returns-in_err-write_part-clause-written : goal.returns-in_err-write_part-clause-written
-returns-in_err-write_part-clause-written g c = ?
+returns-in_err-write_part-clause-written g c =
+    let part = c.split_at.result.0.now in
+    let rest = c.split_at.result.1.now in
+    let text = c.loop-left.text.items in
+    let fault = err_from_is_err_and c.from_residual.result c.from_residual.ensures.1 in
+    rw fault.1 (stopped (g.O.Out.told c.write_part.new.out) (text ++ fault_lines part) (fault_lines rest) c.loop-left.invariant.0
+    (lines_parted text c.loop-left.left.now part rest 64 c.split_at.ensures.front c.split_at.ensures.back) c.in_err-write_part.ensures.written)
 
--- src/fault_line.rt:60:9
-pub returns-in_err-write_part-clause-faults : goal.returns-in_err-write_part-clause-faults
-returns-in_err-write_part-clause-faults g c = ?
-
--- src/fault_line.rt:58:5
-pub loop-left-smaller : goal.loop-left-smaller
-loop-left-smaller g c = ?
-
--- src/fault_line.rt:58:5
 pub loop-left-preserved : goal.loop-left-preserved
-loop-left-preserved g c = ?
+loop-left-preserved g c =
+    let part = c.split_at.result.0.now in
+    let rest = c.split_at.result.1.now in
+    let text = c.loop-left.text.items in (
+      rw c.in_ok-write_part.ensures.text (goes_on (g.O.Out.told c.write_part.new.out) (text ++ fault_lines part) (fault_lines rest) c.loop-left.invariant.0
+          (lines_parted text c.loop-left.left.now part rest 64 c.split_at.ensures.front c.split_at.ensures.back) c.in_ok-write_part.ensures.written),
+      c.in_ok-write_part.ensures.faults ∙ c.loop-left.invariant.1,
+    )
 
--- src/fault_line.rt:48:1
 pub returns-clause-written : goal.returns-clause-written
-returns-clause-written g c = ?
-
--- src/fault_line.rt:48:1
-pub returns-clause-faults : goal.returns-clause-faults
-returns-clause-faults g c = ?
+returns-clause-written g c = ended c.write_part-2.result (g.O.Out.told c.write_part-2.new.out) c.loop-left.invariant.0 c.write_part-2.ensures.written

@@ -1,10 +1,12 @@
-use Rattle.std.proofs.Common.{◌≡◌, ◌++◌, [], IfOk, OnOk, string_bytes, ℕ, ◌+◌, ◌-◌, ◌*◌, ◌<◌, ◌≤◌, length}
-use Rattle.nx_host.specs.Out.{WritesInParts, CountsOutFault}
-use Rattle.nx_script.specs.FaultLines.{place_text, detail_text, fault_line, fault_lines, errors_text, view_text}
+use Rattle.std.proofs.Common.{◌≡◌, ◌++◌, length}
+use Rattle.nx_script.specs.FaultLines.{fault_lines}
+use Rattle.nx_script.proofs.Writing.{IsWritten}
 use Rattle.nx_script.proofs.fault_line.write_lines.Given as goal
 
 abbrev pub invariant-loop-left : goal.invariant-loop-left
-invariant-loop-left g l = ?
+invariant-loop-left g l =
+    IsWritten (g.O.Out.told l.fn.out) (l.fn.text.items ++ fault_lines l.fn.faults) (l.text.items ++ fault_lines l.left) (g.O.Out.told l.out)
+    × (g.O.Out.faults l.out ≡ g.O.Out.faults l.fn.out)
 
 abbrev pub decreases-loop-left : goal.decreases-loop-left
-decreases-loop-left g l = ?
+decreases-loop-left g l = length l.left
