@@ -61,9 +61,9 @@ literal_read inner tag type is = by_value (value_of (codes "type") tag.attribute
 
 in_element : (class : WrittenClass) (q first : WrittenPattern) (more : List WrittenPattern) (found : Reading (List WrittenPattern)) →
     found ≡ read (first ∷ more) → q ≡ joined group first more →
-    (found >>= λ ps. row_of group ps >>= λ r. read (element class r)) ≡ read (element class q)
+    (found >>= row_of group >>= λ r. read (element class r)) ≡ read (element class q)
 in_element class q first more found e joins =
-    ap (λ (x : Reading (List WrittenPattern)). x >>= λ ps. row_of group ps >>= λ r. read (element class r)) e
+    ap (λ (x : Reading (List WrittenPattern)). x >>= row_of group >>= λ r. read (element class r)) e
     ∙ ap (λ r. read (element class r)) (sym joins)
 
 module _ (resolve : Resolver) where

@@ -16,7 +16,6 @@ use Rattle.rnc_parse.specs.Written.{define, define_anew}
 use Rattle.rngx_read.specs.declared.element.Tag.{Tag}
 use Rattle.rngx_read.specs.declared.kind.Kind.{Kind}
 use Rattle.rngx_read.specs.declared.kind.Kind.TheVariants as kind
-use Rattle.rngx_read.specs.Classes.{IsClass}
 use Rattle.rngx_read.specs.Contexts.{Context, inside, outermost, own_namespace}
 use Rattle.rngx_read.specs.Elements.{Elements, no_elements, element_then}
 use Rattle.rngx_read.specs.Names.{Resolver, trimmed, simple_name}
@@ -129,41 +128,49 @@ module _ (resolve : Resolver) where
   has_class_sound : (context : Context) (unprefixed : Namespace) (tag : Tag) (children : Elements) (name : Option (List ℕ)) →
       value_of (codes "name") tag.attributes ≡ name →
       ((written : List ℕ) → value_of (codes "name") tag.attributes ≡ Some written → Writes tag written) →
-      {A : Type 0} (P : A → Type 0) (more : WrittenClass → List WrittenPattern → Reading A) → RowSound children →
-      ((class : WrittenClass) (content : Elements) (ps : List WrittenPattern) → HasClass resolve context unprefixed tag children class content →
-      ArePatterns resolve context content ps → Sounds P (OutAt resolve tag children) (more class ps)) →
+      (as_one : List WrittenPattern → Reading WrittenPattern) (make : WrittenClass → WrittenPattern → WrittenPattern)
+      (Fits : Elements → WrittenPattern → Type 0) (P : WrittenPattern → Type 0) → RowSound children →
+      ((content : Elements) (ps : List WrittenPattern) → ArePatterns resolve context content ps → Sounds (Fits content) (λ prefix. ⊥) (as_one ps)) →
+      ((class : WrittenClass) (content : Elements) (q : WrittenPattern) → HasClass resolve context unprefixed tag children class content →
+      Fits content q → P (make class q)) →
       Sounds P (OutAt resolve tag children)
-      (has_class_by resolve context unprefixed tag children name >>= λ class. content_by resolve context (readings resolve children) name
-      >>= λ ps. more class ps)
-  has_class_sound context unprefixed tag children (Some written) e writes P more sound h =
+      (has_class_by resolve context unprefixed tag children name >>= λ class.
+      content_by resolve context (readings resolve children) name >>= as_one >>= λ q. read (make class q))
+  has_class_sound context unprefixed tag children (Some written) e writes as_one make Fits P sound fit made =
       sound_bind (class_name_at resolve unprefixed tag.scope written) _
       (sound_weaker _ (class_name_sound resolve tag unprefixed written (writes written e)) (λ class is. is) (λ prefix needs. inl needs))
-      (λ class named. sound_bind ((readings resolve children).patterns context) _
-      (sound_weaker _ (sound.patterns context) (λ ps are. are) (λ prefix left. inr left))
-      (λ ps are. h class children ps (p.by_attribute e named) are))
-  has_class_sound context unprefixed tag no_elements None e writes P more sound h = ends
-  has_class_sound context unprefixed tag (element_then first inner rest) None e writes P more sound h =
+      (λ class named. sound_bind ((readings resolve children).patterns context >>= as_one) (λ q. read (make class q)) content_fits
+      (λ q fits. finds (made class children q (p.by_attribute e named) fits)))
+    where
+      content_fits : Sounds (Fits children) (OutAt resolve tag children) ((readings resolve children).patterns context >>= as_one)
+      content_fits =
+          sound_bind ((readings resolve children).patterns context) as_one
+          (sound_weaker _ (sound.patterns context) (λ ps are. are) (λ prefix left. inr left))
+          (λ ps are. sound_weaker (as_one ps) (fit children ps are) (λ q fits. fits) (λ prefix never. absurd never))
+  has_class_sound context unprefixed tag no_elements None e writes as_one make Fits P sound fit made = ends
+  has_class_sound context unprefixed tag (element_then first inner rest) None e writes as_one make Fits P sound fit made =
       sound_bind (class_at resolve context first inner) _
       (sound_weaker _ (class_sound resolve context first inner) (λ class is. is) (λ prefix out. inr (out_first resolve first inner rest prefix out)))
-      (λ class is. sound_bind ((readings resolve (element_then first inner rest)).behind context) _
-      (sound_weaker _ (sound.behind context) (λ ps are. are) (λ prefix left. inr left))
-      (λ ps are. behind_it class is ps are))
+      (λ class is. sound_bind ((readings resolve (element_then first inner rest)).behind context >>= as_one) (λ q. read (make class q)) content_fits
+      (λ q fits. finds (made class rest q (p.by_child e is) fits)))
     where
-      behind_it : (class : WrittenClass) → IsClass resolve context first inner class → (ps : List WrittenPattern) →
-          Behind context (element_then first inner rest) ps →
-          Sounds P (OutAt resolve tag (element_then first inner rest)) (more class ps)
-      behind_it class is ps (behind_first are) = h class rest ps (p.by_child e is) are
+      behind_it : (ps : List WrittenPattern) → Behind context (element_then first inner rest) ps →
+          Sounds (Fits rest) (OutAt resolve tag (element_then first inner rest)) (as_one ps)
+      behind_it ps (behind_first are) = sound_weaker (as_one ps) (fit rest ps are) (λ q fits. fits) (λ prefix never. absurd never)
+
+      content_fits : Sounds (Fits rest) (OutAt resolve tag (element_then first inner rest))
+          ((readings resolve (element_then first inner rest)).behind context >>= as_one)
+      content_fits =
+          sound_bind ((readings resolve (element_then first inner rest)).behind context) as_one
+          (sound_weaker _ (sound.behind context) (λ ps are. are) (λ prefix left. inr left)) behind_it
 
   element_sound : (context : Context) (tag : Tag) (children : Elements) → RowSound children → IsTag kind.Element tag →
       Sounds (IsPattern resolve context tag children) (OutAt resolve tag children)
       (element_by resolve (inside context tag) tag children (readings resolve children) (value_of (codes "name") tag.attributes))
   element_sound context tag children sound is =
       has_class_sound (inside context tag) (inside context tag).namespace tag children (value_of (codes "name") tag.attributes) refl
-      (λ written e. at_element is.called e) (IsPattern resolve context tag children) (λ class ps. row_of group ps >>= λ q. read (element class q))
-      sound
-      (λ class content ps has are. sound_bind (row_of group ps) (λ q. read (element class q))
-      (sound_weaker {S = OutAt resolve tag children} _ (row_there content ps are) (λ q row. row) (λ prefix never. absurd never))
-      (λ q row. finds (p.an_element is has row)))
+      (λ written e. at_element is.called e) (row_of group) element (IsRow resolve group (inside context tag)) (IsPattern resolve context tag children)
+      sound row_there (λ class content q has row. p.an_element is has row)
     where
       row_there : (content : Elements) (ps : List WrittenPattern) → ArePatterns resolve (inside context tag) content ps →
           Sounds (IsRow resolve group (inside context tag) content) (λ prefix. ⊥) (row_of group ps)
@@ -175,10 +182,8 @@ module _ (resolve : Resolver) where
       (attribute_by resolve (inside context tag) tag children (readings resolve children) (value_of (codes "name") tag.attributes))
   attribute_sound context tag children sound is =
       has_class_sound (inside context tag) (own_namespace tag) tag children (value_of (codes "name") tag.attributes) refl
-      (λ written e. at_attribute is.called e) (IsPattern resolve context tag children) (λ class ps. value_of_row ps >>= λ q. read (attribute class q))
-      sound
-      (λ class content ps has are. sound_bind (value_of_row ps) (λ q. read (attribute class q))
-      (value_is (inside context tag) content ps are) (λ q value. finds (p.an_attribute is has value)))
+      (λ written e. at_attribute is.called e) value_of_row attribute (IsValue resolve (inside context tag)) (IsPattern resolve context tag children)
+      sound (λ content ps are. value_is (inside context tag) content ps are) (λ class content q has value. p.an_attribute is has value)
 
   -- ---- the other forms
 

@@ -1,6 +1,6 @@
 //! The elements of a schema put together from the items of a text, while what stands in other namespaces is passed over.
 
-ghost use Rattle.std.specs.Prelude.{◌≡◌, ◌+◌, ◌<◌, ◌≤◌, ◌^◌, ◌++◌, [], map, reverse, IfOk, OnOk};
+ghost use Rattle.std.specs.Prelude.{◌≡◌, ◌+◌, ◌<◌, ◌^◌, ◌++◌, [], map, reverse, IfOk, OnOk};
 ghost use Rattle.nx_base.specs.Trees.{children_flat};
 ghost use Rattle.nx_events.specs.Among.{events_among};
 ghost use Rattle.nx_events.specs.TreeEvents.{as_event};

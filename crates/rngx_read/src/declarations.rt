@@ -1,6 +1,6 @@
 //! The namespace declarations of one element.
 
-ghost use Rattle.std.specs.Prelude.{◌≡◌, ◌==◌, Some, length, option_copied, IfOk, OnOk};
+ghost use Rattle.std.specs.Prelude.{◌≡◌, Some, option_copied, IfOk, OnOk};
 ghost use Rattle.nx_events.specs.Places.{PutsAt};
 ghost use Rattle.rngx_read.specs.Indexing.{IsIndex, uri_at};
 ghost use Rattle.rngx_read.specs.Names.{last_bound};
