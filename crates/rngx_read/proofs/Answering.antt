@@ -1,5 +1,6 @@
 -- What the program answers of the tokens and items of a text.
-use Rattle.std.proofs.Common.{◌≡◌, ◌≢◌, ℕ, ◌<◌, Some, None, List, [], ◌∷◌, length, Result, Ok, Err, refl, sym, ap, subst, ◌∙◌, arith}
+use Rattle.std.proofs.Common.{◌≡◌, ◌≢◌, ℕ, ◌<◌, Some, None, List, [], ◌∷◌, length, map, Result, Ok, Err, refl, sym, ap, subst, ◌∙◌, arith}
+use Rattle.std.proofs.lemmas.List.Elements.{Contains-append_right}
 use Rattle.nx_base.specs.Tokens.{tokens_of}
 use Rattle.nx_base.specs.declared.fault.Fault.{Fault}
 use Rattle.nx_base.specs.declared.token.Token.{Token}
@@ -21,7 +22,8 @@ use Rattle.rngx_read.specs.Marking.{first_place}
 use Rattle.rngx_read.specs.Names.{bound_in}
 use Rattle.rngx_read.specs.Reading.{read, no_form, Finds}
 use Rattle.rngx_read.specs.ReadingPatterns.{surface_at}
-use Rattle.rngx_read.specs.Reads.{IsFile, IsShallow, LeavesOut, HasBadMarkup, BeginsOne, begins_first, begins_later, RefusesAt, AnswersText, AnswersNodes}
+use Rattle.rngx_read.specs.Reads.{IsFile, IsShallow, LeavesOut, HasBadMarkup, AnswersText}
+use Rattle.rngx_read.specs.Answering.{RefusesAt, AnswersNodes, BeginsOne}
 use Rattle.rngx_read.specs.Views.{listed}
 use Rattle.rngx_read.proofs.Laws.{said, left_out, formless_is}
 
@@ -55,7 +57,7 @@ surface_refused text nodes elements tokens _ _ are found cut h = elim h [ ]
 pub nodes_answer : (text : List ℕ) (nodes : Nodes) (answer : Result Surface XReadFault) → IsReadAs text nodes → IsShallow (items_of_text text) →
     AnswersNodes text nodes answer → AnswersText text answer
 nodes_answer text nodes (Ok surface) is shallow h = record { nodes = nodes; is_read = is; shallow = shallow; says = h }
-nodes_answer text nodes (Err (fault.BadForm at)) is shallow h = (record { nodes = nodes; is_read = is; shallow = shallow; no_file = h.0 }, h.1)
+nodes_answer text nodes (Err (fault.BadForm at)) is shallow h = (record { nodes = nodes; is_read = is; shallow = shallow; no_form = h.0 }, h.1)
 nodes_answer text nodes (Err (fault.UndeclaredPrefix prefix)) is shallow h = record { nodes = nodes; is_read = is; shallow = shallow; left_out = h }
 nodes_answer text nodes (Err fault.NoMemory) is shallow h = tt
 nodes_answer text nodes (Err (fault.BadMarkup at)) is shallow h = elim h [ ]
@@ -101,7 +103,9 @@ some_token text [] are none = absurd (nothing_faulty (length text) (ap (λ (all 
 some_token text (token ∷ tokens) are none = omega arith
 
 pub begins_here : (token : Token) (behind all : List Token) (at : ℕ) → all ≡ token ∷ behind → token.from ≡ at → BeginsOne all at
-begins_here token behind all at are is = subst (λ (ts : List Token). BeginsOne ts at) (sym are) (begins_first (sym is))
+begins_here token behind all at are is = subst (λ (ts : List Token). BeginsOne ts at) (sym are) (0, omega arith, is)
 
 pub begins_behind : (token : Token) (behind all : List Token) (at : ℕ) → all ≡ token ∷ behind → BeginsOne behind at → BeginsOne all at
-begins_behind token behind all at are is = subst (λ (ts : List Token). BeginsOne ts at) (sym are) (begins_later is)
+begins_behind token behind all at are is =
+    subst (λ (ts : List Token). BeginsOne ts at) (sym are)
+    (Contains-append_right (token.from ∷ []) (map (λ (t : Token). t.from) behind) at is)

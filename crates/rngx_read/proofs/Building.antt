@@ -14,8 +14,8 @@ use Rattle.nx_events.specs.declared.item.Item.{Item}
 use Rattle.nx_events.specs.declared.item.Item.TheVariants as items
 use Rattle.rngx_read.specs.declared.element.Attribute.{Attribute}
 use Rattle.rngx_read.specs.declared.element.Tag.{Tag}
-use Rattle.rngx_read.specs.Building.{Frame, Built, bare, opened, passed_by, with_attribute, with_text, with_child, entered_by, attribute_by, string_by, left_by, closed_by, behind_event, behind_events, behind_item, behind_items}
-use Rattle.rngx_read.specs.Elements.{Nodes, no_nodes, string_then, node_then, without_declarations, declarations_and, Elements, no_elements, element_then, elements_and, schema_namespace, plain_if, plain_attributes, strings_in, elements_in}
+use Rattle.rngx_read.specs.Building.{Frame, Built, bare, opened, passed_by, with_attribute, with_text, with_child, entered_by, attribute_by, string_by, left_by, closed_by, behind_event, behind_events, behind_item, behind_items, elements_and}
+use Rattle.rngx_read.specs.Elements.{Nodes, no_nodes, string_then, node_then, without_declarations, declarations_and, Elements, no_elements, element_then, schema_namespace, plain_if, plain_attributes, strings_in, elements_in}
 
 -- ---- rows
 

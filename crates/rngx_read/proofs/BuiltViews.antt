@@ -8,8 +8,8 @@ use Rattle.rngx_read.specs.declared.build.Open.{Open}
 use Rattle.rngx_read.specs.declared.element.Element as elements
 use Rattle.rngx_read.specs.declared.element.Element.{Element}
 use Rattle.rngx_read.specs.declared.element.Tag.{Tag}
-use Rattle.rngx_read.specs.Building.{Built, Frame, bare, left_by, behind_item, behind_items}
-use Rattle.rngx_read.specs.Elements.{Nodes, declarations_and, Elements, no_elements, element_then, elements_and}
+use Rattle.rngx_read.specs.Building.{Built, Frame, bare, left_by, behind_item, behind_items, elements_and}
+use Rattle.rngx_read.specs.Elements.{Nodes, declarations_and, Elements, no_elements, element_then}
 use Rattle.rngx_read.specs.Views.{children_of, listed, frame_of, built_of}
 use Rattle.rngx_read.proofs.Building.{before_all}
 use Rattle.rngx_read.proofs.ElementViews.{tag_of_made, children_of_made, listed_push}

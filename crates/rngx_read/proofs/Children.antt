@@ -3,14 +3,14 @@ use Rattle.std.proofs.Common.{◌≡◌, ◌≤◌, List, [], ◌∷◌, length,
 use Rattle.rnc_parse.specs.Written.{WrittenClass}
 use Rattle.rngx_read.specs.declared.element.Element.{Element}
 use Rattle.rngx_read.specs.declared.element.Element as elements
-use Rattle.rngx_read.specs.Contexts.{Context}
+use Rattle.rngx_read.specs.Defaults.{Defaults}
 use Rattle.rngx_read.specs.Elements.{element_then}
 use Rattle.rngx_read.specs.Names.{Resolver}
 use Rattle.rngx_read.specs.Reading.{no_form}
 use Rattle.rngx_read.specs.ReadingClasses.{childless, class_readings}
-use Rattle.rngx_read.specs.Views.{tag_of, children_of, row_of, listed}
+use Rattle.rngx_read.specs.Views.{tag_of, children_of, elements_of_row, listed}
 
-row_listed : (n : _) (row : elements.Row_of-Element n) → row_of row ≡ listed (elements.items-the_row-Element n row)
+row_listed : (n : _) (row : elements.Row_of-Element n) → elements_of_row row ≡ listed (elements.items-the_row-Element n row)
 row_listed n elements.end_of-Element = refl
 row_listed n (elements.more_of-Element first row) = ap (element_then (tag_of first) (children_of first)) (row_listed _ row)
 
@@ -26,9 +26,9 @@ some_child [] some = absurd (omega arith)
 some_child (first ∷ more) some = refl
 
 -- nothing may stand beside an `except`
-pub no_two_excepts : (resolve : Resolver) (children : List Element) (context : Context) (all : WrittenClass) → 2 ≤ length children →
-    (class_readings resolve (listed children)).except context all ≡ no_form
+pub no_two_excepts : (resolve : Resolver) (children : List Element) (defaults : Defaults) (all : WrittenClass) → 2 ≤ length children →
+    (class_readings resolve (listed children)).except defaults all ≡ no_form
 unfolding class_readings
-no_two_excepts resolve [] context all two = absurd (omega arith)
-no_two_excepts resolve (one ∷ []) context all two = absurd (omega arith)
-no_two_excepts resolve (one ∷ next ∷ more) context all two = refl
+no_two_excepts resolve [] defaults all two = absurd (omega arith)
+no_two_excepts resolve (one ∷ []) defaults all two = absurd (omega arith)
+no_two_excepts resolve (one ∷ next ∷ more) defaults all two = refl

@@ -3,7 +3,8 @@ use Rattle.std.proofs.Common.{ℕ, ◌≡◌, List, [], ◌∷◌, ◌++◌, Vec
 use Rattle.rngx_read.specs.declared.element.Element as elements
 use Rattle.rngx_read.specs.declared.element.Element.{Element}
 use Rattle.rngx_read.specs.declared.element.Tag.{Tag}
-use Rattle.rngx_read.specs.Elements.{no_elements, element_then, elements_and}
+use Rattle.rngx_read.specs.Elements.{no_elements, element_then}
+use Rattle.rngx_read.specs.Building.{elements_and}
 use Rattle.rngx_read.specs.Views.{tag_of, children_of, listed}
 use Rattle.rngx_read.proofs.Children.{children_are}
 

@@ -8,11 +8,11 @@ use Rattle.rnc_parse.specs.declared.surface.Item.{Item}
 use Rattle.rnc_parse.specs.declared.surface.Replacement.{Replacement}
 use Rattle.rnc_parse.specs.Views.{item_of, items_in, replacement_of, replacements_in}
 use Rattle.rnc_parse.specs.Written.{item_then, no_items, replacement_then, no_replacements}
-use Rattle.rngx_read.specs.Contexts.{Context, inside}
+use Rattle.rngx_read.specs.Defaults.{Defaults, inside}
 use Rattle.rngx_read.specs.Names.{Resolver}
 use Rattle.rngx_read.specs.ReadingClasses.{class_at, class_readings}
 use Rattle.rngx_read.specs.ReadingPatterns.{Parts, readings, pattern_at, item_by, replacement_by, part_by}
-use Rattle.rngx_read.specs.Tags.{form_of}
+use Rattle.rngx_read.specs.Forms.{form_of}
 use Rattle.rngx_read.specs.Views.{tag_of, children_of, listed}
 use Rattle.rngx_read.specs.Reading.{Reading, read, no_form, no_prefix, ◌>>=◌}
 
@@ -116,64 +116,64 @@ pub replacements_in_front : (rs : List Replacement) → in_front replacement_the
 replacements_in_front [] = refl
 replacements_in_front (r ∷ rs) = ap (replacement_then (replacement_of r)) (replacements_in_front rs)
 
-module _ (resolve : Resolver) (context : Context) where
-  pub by_classes : IsByElements ◌∷◌ (λ e. class_at resolve context (tag_of e) (children_of e))
-      (λ es. (class_readings resolve (listed es)).classes context) []
+module _ (resolve : Resolver) (defaults : Defaults) where
+  pub by_classes : IsByElements ◌∷◌ (λ e. class_at resolve defaults (tag_of e) (children_of e))
+      (λ es. (class_readings resolve (listed es)).classes defaults) []
   unfolding class_at class_readings
   by_classes = record { ended = refl; went = λ first others. refl }
 
-  pub by_patterns : IsByElements ◌∷◌ (λ e. pattern_at resolve context (tag_of e) (children_of e))
-      (λ es. (readings resolve (listed es)).patterns context) []
+  pub by_patterns : IsByElements ◌∷◌ (λ e. pattern_at resolve defaults (tag_of e) (children_of e))
+      (λ es. (readings resolve (listed es)).patterns defaults) []
   unfolding pattern_at readings
   by_patterns = record { ended = refl; went = λ first others. refl }
 
   pub by_items :
       IsByElements item_then
-      (λ e. item_by resolve (inside context (tag_of e)) (tag_of e) (readings resolve (children_of e)) (form_of (tag_of e)))
-      (λ es. (readings resolve (listed es)).items context) no_items
+      (λ e. item_by resolve (inside defaults (tag_of e)) (tag_of e) (readings resolve (children_of e)) (form_of (tag_of e)))
+      (λ es. (readings resolve (listed es)).items defaults) no_items
   unfolding readings
   by_items = record { ended = refl; went = λ first others. refl }
 
   pub by_replacements :
       IsByElements replacement_then
-      (λ e. replacement_by resolve (inside context (tag_of e)) (tag_of e) (readings resolve (children_of e)) (form_of (tag_of e)))
-      (λ es. (readings resolve (listed es)).replacements context) no_replacements
+      (λ e. replacement_by resolve (inside defaults (tag_of e)) (tag_of e) (readings resolve (children_of e)) (form_of (tag_of e)))
+      (λ es. (readings resolve (listed es)).replacements defaults) no_replacements
   unfolding readings
   by_replacements = record { ended = refl; went = λ first others. refl }
 
   -- ---- the parts of a `data`
 
   abbrev part : Element → Parts → Reading Parts
-  part e before = part_by (inside context (tag_of e)) (tag_of e) (children_of e) (readings resolve (children_of e)) before.params before.except
+  part e before = part_by (inside defaults (tag_of e)) (tag_of e) (children_of e) (readings resolve (children_of e)) before.params before.except
 
   parts_here : (elements : List Element) (i : ℕ) (element : Element) (before : Parts) → i < length elements → element ≡ get_or elements i element →
-      (readings resolve (listed (drop i elements))).parts context before
-      ≡ (part element before >>= λ next. (readings resolve (listed (drop (i + 1) elements))).parts context next)
+      (readings resolve (listed (drop i elements))).parts defaults before
+      ≡ (part element before >>= λ next. (readings resolve (listed (drop (i + 1) elements))).parts defaults next)
   unfolding readings
   parts_here elements i element before within is =
-      at_drop_more (λ es. (readings resolve (listed es)).parts context before) elements i element within
-      ∙ ap (λ e. (readings resolve (listed (e ∷ drop (i + 1) elements))).parts context before) (sym is)
+      at_drop_more (λ es. (readings resolve (listed es)).parts defaults before) elements i element within
+      ∙ ap (λ e. (readings resolve (listed (e ∷ drop (i + 1) elements))).parts defaults before) (sym is)
 
   pub parts_went_on : (elements : List Element) (i : ℕ) (element : Element) (before next : Parts) (total : Reading Parts) → i < length elements →
-      element ≡ get_or elements i element → part element before ≡ read next → (readings resolve (listed (drop i elements))).parts context before
+      element ≡ get_or elements i element → part element before ≡ read next → (readings resolve (listed (drop i elements))).parts defaults before
       ≡ total →
-      (readings resolve (listed (drop (i + 1) elements))).parts context next ≡ total
+      (readings resolve (listed (drop (i + 1) elements))).parts defaults next ≡ total
   parts_went_on elements i element before next total within is e kept =
-      sym (ap (λ found. found >>= λ next. (readings resolve (listed (drop (i + 1) elements))).parts context next) e)
+      sym (ap (λ found. found >>= λ next. (readings resolve (listed (drop (i + 1) elements))).parts defaults next) e)
       ∙ sym (parts_here elements i element before within is)
       ∙ kept
 
   pub parts_stopped : (elements : List Element) (i : ℕ) (element : Element) (before : Parts) (total : Reading Parts) (why : Stop) →
       i < length elements →
-      element ≡ get_or elements i element → Halts why (part element before) → (readings resolve (listed (drop i elements))).parts context before
+      element ≡ get_or elements i element → Halts why (part element before) → (readings resolve (listed (drop i elements))).parts defaults before
       ≡ total →
       Halts why total
   parts_stopped elements i element before total why within is halts kept =
       halts_as why _ _ (sym (parts_here elements i element before within is) ∙ kept)
-      (halts_behind why (part element before) (λ next. (readings resolve (listed (drop (i + 1) elements))).parts context next) halts)
+      (halts_behind why (part element before) (λ next. (readings resolve (listed (drop (i + 1) elements))).parts defaults next) halts)
 
   pub parts_over : (elements : List Element) (i : ℕ) (before : Parts) (total : Reading Parts) → length elements ≤ i →
-      (readings resolve (listed (drop i elements))).parts context before ≡ total → total ≡ read before
+      (readings resolve (listed (drop i elements))).parts defaults before ≡ total → total ≡ read before
   unfolding readings
   parts_over elements i before total all kept =
-      sym kept ∙ at_drop_all (λ es. (readings resolve (listed es)).parts context before) elements i all
+      sym kept ∙ at_drop_all (λ es. (readings resolve (listed es)).parts defaults before) elements i all

@@ -17,7 +17,7 @@ use Rattle.rnc_parse.proofs.PatternViews.{pattern_of-Choice, pattern_of-Group, p
 use Rattle.rnc_parse.proofs.PatternViews.{item_of-Include, replacement_of-Div}
 use Rattle.rngx_read.specs.Reading.{read}
 use Rattle.rngx_read.specs.ReadingClasses.{either_of}
-use Rattle.rngx_read.specs.ReadingPatterns.{row_of, one_of_row}
+use Rattle.rngx_read.specs.ReadingPatterns.{row_joined, one_of_row}
 use Rattle.rngx_read.specs.Views.{classes_of, patterns_of}
 
 some_either : (classes : List NameClass) → length classes ≢ 0 → either_of (classes_of classes) ≡ read (joined_or either no_name (classes_of classes))
@@ -29,18 +29,18 @@ pub either_seen : (classes : Vec NameClass Global) → length classes.items ≢ 
 either_seen classes some = some_either classes.items some ∙ ap read (sym (class_of-Choice classes))
 
 some_row : (join : WrittenPattern → WrittenPattern → WrittenPattern) (none : WrittenPattern) (patterns : List Pattern) → length patterns ≢ 0 →
-    row_of join (patterns_of patterns) ≡ read (joined_or join none (patterns_of patterns))
+    row_joined join (patterns_of patterns) ≡ read (joined_or join none (patterns_of patterns))
 some_row join none [] some = absurd (some refl)
 some_row join none (first ∷ more) some = refl
 
 module _ (patterns : Vec Pattern Global) (some : length patterns.items ≢ 0) where
-  pub choice_seen : row_of choice (patterns_of patterns.items) ≡ read (pattern_of (pattern.Choice patterns))
+  pub choice_seen : row_joined choice (patterns_of patterns.items) ≡ read (pattern_of (pattern.Choice patterns))
   choice_seen = some_row choice not_allowed patterns.items some ∙ ap read (sym (pattern_of-Choice patterns))
 
-  pub group_seen : row_of group (patterns_of patterns.items) ≡ read (pattern_of (pattern.Group patterns))
+  pub group_seen : row_joined group (patterns_of patterns.items) ≡ read (pattern_of (pattern.Group patterns))
   group_seen = some_row group empty patterns.items some ∙ ap read (sym (pattern_of-Group patterns))
 
-  pub interleave_seen : row_of interleave (patterns_of patterns.items) ≡ read (pattern_of (pattern.Interleave patterns))
+  pub interleave_seen : row_joined interleave (patterns_of patterns.items) ≡ read (pattern_of (pattern.Interleave patterns))
   interleave_seen = some_row interleave empty patterns.items some ∙ ap read (sym (pattern_of-Interleave patterns))
 
 one_row : (patterns : List Pattern) → length patterns ≡ 1 → one_of_row (patterns_of patterns) ≡ read (joined_or group empty (patterns_of patterns))

@@ -30,11 +30,11 @@ use Rattle.rngx_read.specs.declared.element.Tag.{Tag}
 use Rattle.rngx_read.specs.declared.kind.Kind.{Kind}
 use Rattle.rngx_read.specs.declared.read.XReadFault.{XReadFault}
 use Rattle.rngx_read.specs.Classes.{IsClass, a_name, any_name, ns_name, a_choice, IsAllBut, all_of_them, all_but, IsEither, any_of, AreClasses, no_class, next_class}
-use Rattle.rngx_read.specs.Contexts.{Context, outermost, nearest_namespace, inside, own_namespace}
+use Rattle.rngx_read.specs.Defaults.{Defaults, outermost, nearest_namespace, inside, own_namespace}
 use Rattle.rngx_read.specs.Elements.{Elements}
 use Rattle.rngx_read.specs.Marking.{AreTextTokens}
 use Rattle.rngx_read.specs.Names.{behind_spaces, before_spaces, trimmed, name_in, simple_name, last_bound, bound_in, IsNamed, without_prefix, with_prefix, IsClassName}
-use Rattle.rngx_read.specs.Patterns.{Joins, by_group, by_interleave, by_choice, Makes, by_optional, by_zero_or_more, by_one_or_more, by_list, by_mixed, Refers, by_ref, by_parent_ref, IsLeaf, is_empty, is_text, is_not_allowed, HasClass, by_attribute, by_child, IsType, AreParams, no_param, next_param, IsReference, IsPattern, an_element, an_attribute, a_row, made, a_reference, a_leaf, an_untyped_value, a_value, a_type, a_type_but, an_external, a_grammar_of, IsValue, any_value, this_value, IsRow, row_of, ArePatterns, no_pattern, next_pattern, IsDefinition, a_start, a_define, IsItem, a_definition, a_div, an_include, AreItems, no_more_items, next_item, IsReplacement, a_definition_anew, a_div_anew, AreReplacements, no_more_replacements, next_replacement}
+use Rattle.rngx_read.specs.Patterns.{Joins, by_group, by_interleave, by_choice, Makes, by_optional, by_zero_or_more, by_one_or_more, by_list, by_mixed, Refers, by_ref, by_parent_ref, IsLeaf, is_empty, is_text, is_not_allowed, HasClass, by_attribute, by_child, IsType, AreParams, no_param, next_param, IsReference, IsPattern, an_element, an_attribute, a_row, made, a_reference, a_leaf, an_untyped_value, a_value, a_type, a_type_but, an_external, a_grammar_of, IsAttributeValue, any_value, this_value, IsRow, row_of, ArePatterns, no_pattern, next_pattern, IsDefinition, a_start, a_define, IsItem, a_definition, a_div, an_include, AreItems, no_more_items, next_item, IsReplacement, a_definition_anew, a_div_anew, AreReplacements, no_more_replacements, next_replacement}
 use Rattle.rngx_read.specs.Reads.{IsFile, pattern_file, grammar_file, AnswersText}
 use Rattle.rngx_read.specs.Tags.{attribute_of, value_of}
 use Rattle.rngx_read.proofs.ElementTexts.{UrisAreText, ValuesAreText, TagIsText, ElementsAreText, read_text}
@@ -142,8 +142,8 @@ class_name_text {written = written} is s u w = named_text is.named s u (local_te
 
 -- ---- what an element takes from those around it
 
-abbrev ContextIsText : Context → Type 0
-ContextIsText context = NamespaceIsText context.namespace × IsUtf8 context.library
+abbrev DefaultsAreText : Defaults → Type 0
+DefaultsAreText defaults = NamespaceIsText defaults.namespace × IsUtf8 defaults.library
 
 nearest_text : (own : Option (List ℕ)) (outer : Namespace) → OptionIsText own → NamespaceIsText outer → NamespaceIsText (nearest_namespace own outer)
 nearest_text None outer h o = o
@@ -153,7 +153,7 @@ or_text : (own : Option (List ℕ)) (outer : List ℕ) → OptionIsText own → 
 or_text None outer h o = o
 or_text (Some own) outer h o = h
 
-inside_text : (outer : Context) (tag : Tag) → ContextIsText outer → TagIsText tag → ContextIsText (inside outer tag)
+inside_text : (outer : Defaults) (tag : Tag) → DefaultsAreText outer → TagIsText tag → DefaultsAreText (inside outer tag)
 unfolding inside
 inside_text outer tag o h = (
   nearest_text (value_of (codes "ns") tag.attributes) outer.namespace (value_text (codes "ns") tag.attributes h.values) o.0,
@@ -173,26 +173,26 @@ joined_text P join first (next ∷ more) both one others = joined_text P join (j
 -- ---- classes
 
 mutual
-  class_text : {context : Context} {tag : Tag} {children : Elements} {class : WrittenClass} → IsClass bound_in context tag children class →
-      ContextIsText context → TagIsText tag → ElementsAreText children → ClassIsText class
-  class_text {context = context} {tag = tag} (a_name is name) c t e = class_name_text name t.uris (inside_text context tag c t).0 t.text
-  class_text {context = context} {tag = tag} (any_name is all) c t e = all_but_text all (inside_text context tag c t) tt e
-  class_text {context = context} {tag = tag} (ns_name is all) c t e = all_but_text all (inside_text context tag c t) (inside_text context tag c t).0 e
-  class_text {context = context} {tag = tag} (a_choice is names) c t e = either_text names (inside_text context tag c t) e
+  class_text : {defaults : Defaults} {tag : Tag} {children : Elements} {class : WrittenClass} → IsClass bound_in defaults tag children class →
+      DefaultsAreText defaults → TagIsText tag → ElementsAreText children → ClassIsText class
+  class_text {defaults = defaults} {tag = tag} (a_name is name) c t e = class_name_text name t.uris (inside_text defaults tag c t).0 t.text
+  class_text {defaults = defaults} {tag = tag} (any_name is all) c t e = all_but_text all (inside_text defaults tag c t) tt e
+  class_text {defaults = defaults} {tag = tag} (ns_name is all) c t e = all_but_text all (inside_text defaults tag c t) (inside_text defaults tag c t).0 e
+  class_text {defaults = defaults} {tag = tag} (a_choice is names) c t e = either_text names (inside_text defaults tag c t) e
 
-  all_but_text : {context : Context} {all class : WrittenClass} {children : Elements} → IsAllBut bound_in context all children class →
-      ContextIsText context → ClassIsText all → ElementsAreText children → ClassIsText class
+  all_but_text : {defaults : Defaults} {all class : WrittenClass} {children : Elements} → IsAllBut bound_in defaults all children class →
+      DefaultsAreText defaults → ClassIsText all → ElementsAreText children → ClassIsText class
   all_but_text all_of_them c a e = a
-  all_but_text {context = context} (all_but {tag = tag} is names) c a e = (a, either_text names (inside_text context tag c e.0) e.1)
+  all_but_text {defaults = defaults} (all_but {tag = tag} is names) c a e = (a, either_text names (inside_text defaults tag c e.0) e.1)
 
-  either_text : {context : Context} {elements : Elements} {class : WrittenClass} → IsEither bound_in context elements class → ContextIsText context →
+  either_text : {defaults : Defaults} {elements : Elements} {class : WrittenClass} → IsEither bound_in defaults elements class → DefaultsAreText defaults →
       ElementsAreText elements → ClassIsText class
   either_text (any_of {first = first} {more = more} classes is) c e =
       let each = classes_text classes c e in
       subst ClassIsText (sym is) (joined_text ClassIsText either first more (λ x y p q. (p, q)) each.0 each.1)
 
-  classes_text : {context : Context} {elements : Elements} {classes : List WrittenClass} → AreClasses bound_in context elements classes →
-      ContextIsText context → ElementsAreText elements → AllByRecursion ClassIsText classes
+  classes_text : {defaults : Defaults} {elements : Elements} {classes : List WrittenClass} → AreClasses bound_in defaults elements classes →
+      DefaultsAreText defaults → ElementsAreText elements → AllByRecursion ClassIsText classes
   classes_text no_class c e = tt
   classes_text (next_class is others) c e = (class_text is c e.0 e.1, classes_text others c e.2)
 
@@ -220,7 +220,7 @@ leaf_text is_empty = tt
 leaf_text is_text = tt
 leaf_text is_not_allowed = tt
 
-type_text : {context : Context} {tag : Tag} {type : TypeName} → IsType context tag type → ContextIsText context → TagIsText tag → TypeIsText type
+type_text : {defaults : Defaults} {tag : Tag} {type : TypeName} → IsType defaults tag type → DefaultsAreText defaults → TagIsText tag → TypeIsText type
 type_text {tag = tag} {type = type} is c t =
     (subst IsUtf8 (sym is.library_is) c.1, found_text (simple_name (codes "type") tag) type.name is.name_is (name_text (codes "type") tag t))
 
@@ -240,15 +240,15 @@ params_text (next_param {tag = tag} {param = param} is name value others) e =
       more.1,
     )
 
-reference_text : {context : Context} {tag : Tag} {file : FileReference} → IsReference context tag file → ContextIsText context → TagIsText tag →
+reference_text : {defaults : Defaults} {tag : Tag} {file : FileReference} → IsReference defaults tag file → DefaultsAreText defaults → TagIsText tag →
     ReferenceIsText file
 reference_text {tag = tag} {file = file} is c t = (
   found_text (value_of (codes "href") tag.attributes) file.uri is.uri_is (value_text (codes "href") tag.attributes t.values),
   subst NamespaceIsText (sym is.namespace_is) c.0,
 )
 
-has_class_text : {context : Context} {unprefixed : Namespace} {tag : Tag} {children content : Elements} {class : WrittenClass} →
-    HasClass bound_in context unprefixed tag children class content → ContextIsText context → NamespaceIsText unprefixed → TagIsText tag →
+has_class_text : {defaults : Defaults} {unprefixed : Namespace} {tag : Tag} {children content : Elements} {class : WrittenClass} →
+    HasClass bound_in defaults unprefixed tag children class content → DefaultsAreText defaults → NamespaceIsText unprefixed → TagIsText tag →
     ElementsAreText children → ClassIsText class × ElementsAreText content
 has_class_text {tag = tag} (by_attribute {written = written} value name) c u t e = (
   class_name_text name t.uris u (found_text (value_of (codes "name") tag.attributes) written value
@@ -260,85 +260,85 @@ has_class_text (by_child value is) c u t e = (class_text is c e.0 e.1, e.2)
 -- ---- patterns, and the items of grammars
 
 mutual
-  pattern_text : {context : Context} {tag : Tag} {children : Elements} {p : WrittenPattern} → IsPattern bound_in context tag children p →
-      ContextIsText context → TagIsText tag → ElementsAreText children → PatternIsText p
-  pattern_text {context = context} {tag = tag} (an_element is class row) c t e =
-      let inner = inside_text context tag c t in
+  pattern_text : {defaults : Defaults} {tag : Tag} {children : Elements} {p : WrittenPattern} → IsPattern bound_in defaults tag children p →
+      DefaultsAreText defaults → TagIsText tag → ElementsAreText children → PatternIsText p
+  pattern_text {defaults = defaults} {tag = tag} (an_element is class row) c t e =
+      let inner = inside_text defaults tag c t in
       let named = has_class_text class inner inner.0 t e in
       (named.0, row_text row (joins_text by_group) inner named.1)
-  pattern_text {context = context} {tag = tag} (an_attribute is class value) c t e =
-      let inner = inside_text context tag c t in
+  pattern_text {defaults = defaults} {tag = tag} (an_attribute is class value) c t e =
+      let inner = inside_text defaults tag c t in
       let named = has_class_text class inner (own_namespace_text tag t) t e in
       (named.0, content_text value inner named.1)
-  pattern_text {context = context} {tag = tag} (a_row joins is row) c t e = row_text row (joins_text joins) (inside_text context tag c t) e
-  pattern_text {context = context} {tag = tag} (made makes is row) c t e =
-      makes_text _ makes (row_text row (joins_text by_group) (inside_text context tag c t) e)
+  pattern_text {defaults = defaults} {tag = tag} (a_row joins is row) c t e = row_text row (joins_text joins) (inside_text defaults tag c t) e
+  pattern_text {defaults = defaults} {tag = tag} (made makes is row) c t e =
+      makes_text _ makes (row_text row (joins_text by_group) (inside_text defaults tag c t) e)
   pattern_text {tag = tag} (a_reference {name = name} refers is value) c t e =
       refers_text refers (found_text (simple_name (codes "name") tag) name value (name_text (codes "name") tag t))
   pattern_text (a_leaf leaf is) c t e = leaf_text leaf
   pattern_text (an_untyped_value is value) c t e = (token_text, t.text)
-  pattern_text {context = context} {tag = tag} (a_value is type) c t e = (type_text type (inside_text context tag c t) t, t.text)
-  pattern_text {context = context} {tag = tag} (a_type is type params) c t e =
-      (type_text type (inside_text context tag c t) t, (params_text params e).0)
-  pattern_text {context = context} {tag = tag} (a_type_but {except = except} is type params but row) c t e =
-      let inner = inside_text context tag c t in
+  pattern_text {defaults = defaults} {tag = tag} (a_value is type) c t e = (type_text type (inside_text defaults tag c t) t, t.text)
+  pattern_text {defaults = defaults} {tag = tag} (a_type is type params) c t e =
+      (type_text type (inside_text defaults tag c t) t, (params_text params e).0)
+  pattern_text {defaults = defaults} {tag = tag} (a_type_but {except = except} is type params but row) c t e =
+      let inner = inside_text defaults tag c t in
       let parts = params_text params e in
-      (type_text type inner t, parts.0, row_text row (joins_text by_choice) (inside_text (inside context tag) except inner parts.1.0) parts.1.1)
-  pattern_text {context = context} {tag = tag} (an_external is file) c t e = reference_text file (inside_text context tag c t) t
-  pattern_text {context = context} {tag = tag} (a_grammar_of is items) c t e = items_text items (inside_text context tag c t) e
+      (type_text type inner t, parts.0, row_text row (joins_text by_choice) (inside_text (inside defaults tag) except inner parts.1.0) parts.1.1)
+  pattern_text {defaults = defaults} {tag = tag} (an_external is file) c t e = reference_text file (inside_text defaults tag c t) t
+  pattern_text {defaults = defaults} {tag = tag} (a_grammar_of is items) c t e = items_text items (inside_text defaults tag c t) e
 
-  content_text : {context : Context} {elements : Elements} {p : WrittenPattern} → IsValue bound_in context elements p → ContextIsText context →
+  content_text : {defaults : Defaults} {elements : Elements} {p : WrittenPattern} → IsAttributeValue bound_in defaults elements p → DefaultsAreText defaults →
       ElementsAreText elements → PatternIsText p
   content_text any_value c e = tt
   content_text (this_value is) c e = pattern_text is c e.0 e.1
 
-  row_text : {join : WrittenPattern → WrittenPattern → WrittenPattern} {context : Context} {elements : Elements} {p : WrittenPattern} →
-      IsRow bound_in join context elements p → ((x y : WrittenPattern) → PatternIsText x → PatternIsText y → PatternIsText (join x y)) →
-      ContextIsText context → ElementsAreText elements → PatternIsText p
+  row_text : {join : WrittenPattern → WrittenPattern → WrittenPattern} {defaults : Defaults} {elements : Elements} {p : WrittenPattern} →
+      IsRow bound_in join defaults elements p → ((x y : WrittenPattern) → PatternIsText x → PatternIsText y → PatternIsText (join x y)) →
+      DefaultsAreText defaults → ElementsAreText elements → PatternIsText p
   row_text {join = join} (row_of {first = first} {more = more} patterns is) both c e =
       let each = patterns_text patterns c e in
       subst PatternIsText (sym is) (joined_text PatternIsText join first more both each.0 each.1)
 
-  patterns_text : {context : Context} {elements : Elements} {patterns : List WrittenPattern} → ArePatterns bound_in context elements patterns →
-      ContextIsText context → ElementsAreText elements → AllByRecursion PatternIsText patterns
+  patterns_text : {defaults : Defaults} {elements : Elements} {patterns : List WrittenPattern} → ArePatterns bound_in defaults elements patterns →
+      DefaultsAreText defaults → ElementsAreText elements → AllByRecursion PatternIsText patterns
   patterns_text no_pattern c e = tt
   patterns_text (next_pattern is others) c e = (pattern_text is c e.0 e.1, patterns_text others c e.2)
 
-  definition_text : {context : Context} {tag : Tag} {children : Elements} {name : Defined} {how : Combine} {p : WrittenPattern} →
-      IsDefinition bound_in context tag children name how p → ContextIsText context → TagIsText tag → ElementsAreText children →
+  definition_text : {defaults : Defaults} {tag : Tag} {children : Elements} {name : Defined} {how : Combine} {p : WrittenPattern} →
+      IsDefinition bound_in defaults tag children name how p → DefaultsAreText defaults → TagIsText tag → ElementsAreText children →
       DefinedIsText name × PatternIsText p
-  definition_text {context = context} {tag = tag} (a_start is how one) c t e = (tt, pattern_text one (inside_text context tag c t) e.0 e.1)
-  definition_text {context = context} {tag = tag} (a_define {name = name} is how value row) c t e = (
+  definition_text {defaults = defaults} {tag = tag} (a_start is how one) c t e = (tt, pattern_text one (inside_text defaults tag c t) e.0 e.1)
+  definition_text {defaults = defaults} {tag = tag} (a_define {name = name} is how value row) c t e = (
     found_text (simple_name (codes "name") tag) name value (name_text (codes "name") tag t),
-    row_text row (joins_text by_group) (inside_text context tag c t) e,
+    row_text row (joins_text by_group) (inside_text defaults tag c t) e,
   )
 
-  item_text : {context : Context} {tag : Tag} {children : Elements} {item : WrittenItem} → IsItem bound_in context tag children item →
-      ContextIsText context → TagIsText tag → ElementsAreText children → ItemIsText item
+  item_text : {defaults : Defaults} {tag : Tag} {children : Elements} {item : WrittenItem} → IsItem bound_in defaults tag children item →
+      DefaultsAreText defaults → TagIsText tag → ElementsAreText children → ItemIsText item
   item_text (a_definition is) c t e = definition_text is c t e
-  item_text {context = context} {tag = tag} (a_div is items) c t e = items_text items (inside_text context tag c t) e
-  item_text {context = context} {tag = tag} (an_include is file replacements) c t e =
-      let inner = inside_text context tag c t in (reference_text file inner t, replacements_text replacements inner e)
+  item_text {defaults = defaults} {tag = tag} (a_div is items) c t e = items_text items (inside_text defaults tag c t) e
+  item_text {defaults = defaults} {tag = tag} (an_include is file replacements) c t e =
+      let inner = inside_text defaults tag c t in (reference_text file inner t, replacements_text replacements inner e)
 
-  items_text : {context : Context} {elements : Elements} {items : WrittenItems} → AreItems bound_in context elements items → ContextIsText context →
+  items_text : {defaults : Defaults} {elements : Elements} {items : WrittenItems} → AreItems bound_in defaults elements items → DefaultsAreText defaults →
       ElementsAreText elements → ItemsAreText items
   items_text no_more_items c e = tt
   items_text (next_item is others) c e = (item_text is c e.0 e.1, items_text others c e.2)
 
-  replacement_text : {context : Context} {tag : Tag} {children : Elements} {replacement : WrittenReplacement} →
-      IsReplacement bound_in context tag children replacement → ContextIsText context → TagIsText tag → ElementsAreText children →
+  replacement_text : {defaults : Defaults} {tag : Tag} {children : Elements} {replacement : WrittenReplacement} →
+      IsReplacement bound_in defaults tag children replacement → DefaultsAreText defaults → TagIsText tag → ElementsAreText children →
       ReplacementIsText replacement
   replacement_text (a_definition_anew is) c t e = definition_text is c t e
-  replacement_text {context = context} {tag = tag} (a_div_anew is replacements) c t e = replacements_text replacements (inside_text context tag c t) e
+  replacement_text {defaults = defaults} {tag = tag} (a_div_anew is replacements) c t e = replacements_text replacements (inside_text defaults tag c t) e
 
-  replacements_text : {context : Context} {elements : Elements} {replacements : WrittenReplacements} →
-      AreReplacements bound_in context elements replacements → ContextIsText context → ElementsAreText elements → ReplacementsAreText replacements
+  replacements_text : {defaults : Defaults} {elements : Elements} {replacements : WrittenReplacements} →
+      AreReplacements bound_in defaults elements replacements → DefaultsAreText defaults → ElementsAreText elements → ReplacementsAreText replacements
   replacements_text no_more_replacements c e = tt
   replacements_text (next_replacement is others) c e = (replacement_text is c e.0 e.1, replacements_text others c e.2)
 
 -- ---- files
 
-outermost_text : ContextIsText outermost
+outermost_text : DefaultsAreText outermost
 outermost_text = (tt, IsUtf8-nil)
 
 file_text : {elements : Elements} {surface : WrittenSurface} → IsFile bound_in elements surface → ElementsAreText elements → HasUtf8Texts surface

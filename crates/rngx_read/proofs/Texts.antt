@@ -10,10 +10,10 @@ use Rattle.nx_events.specs.declared.item.Item.TheVariants as items
 use Rattle.rnc_parse.specs.Written.{WrittenSurface}
 use Rattle.rngx_read.specs.Elements.{Nodes, Elements, elements_in, IsReadAs}
 use Rattle.rngx_read.specs.Files.{RefusesMarkup}
-use Rattle.rngx_read.specs.Laws.{HaveNoForm, MarkupIsReadAsOne, MarkupReadIsNotRefused, MarkupIsReadOrRefused}
+use Rattle.rngx_read.specs.Laws.{MarkupIsReadAsOne, MarkupReadIsNotRefused, MarkupIsReadOrRefused}
 use Rattle.rngx_read.specs.Marking.{begin_of}
 use Rattle.rngx_read.specs.Names.{bound_in}
-use Rattle.rngx_read.specs.Reads.{IsFile, LeavesOut, Reads, IsTooDeepAt, IsShallow, open_with, open_behind}
+use Rattle.rngx_read.specs.Reads.{IsFile, LeavesOut, Reads, IsTooDeepAt, IsShallow, open_with, open_behind, HaveNoForm}
 use Rattle.rngx_read.proofs.Laws.{one_thing, read_or_refused}
 use Rattle.rngx_read.proofs.Nodes.{read_as, elements_same}
 use Rattle.rngx_read.proofs.TooDeep.{Deep, deep_end, deep_more, deep_here, deep_is}
@@ -37,7 +37,7 @@ not_refused text surface cause.BadMarkup is h = let never : [] ≡ h.1.first ∷
 not_refused text surface cause.TooDeep is h = too_deep (items_of_text text) h.0 is.shallow h.1.deep
 not_refused text surface cause.BadForm is h =
     let same = elements_same text is.nodes h.nodes is.is_read h.is_read in
-    h.no_file bound_in surface (λ scope prefix uri e. e) (subst (λ (e : Elements). IsFile bound_in e surface) same is.says)
+    h.no_form bound_in surface (λ scope prefix uri e. e) (subst (λ (e : Elements). IsFile bound_in e surface) same is.says)
 not_refused text surface cause.UndeclaredPrefix is h =
     let same = elements_same text is.nodes h.1.nodes is.is_read h.1.is_read in
     file_whole bound_in (elements_in [] h.1.nodes) surface h.0 (subst (λ (e : Elements). IsFile bound_in e surface) same is.says) h.1.left_out
@@ -68,7 +68,7 @@ by_elements : (text : List ℕ) (nodes : Nodes) → IsReadAs text nodes → IsSh
     (HaveNoForm (elements_in [] nodes) ⊎ ((prefix : List ℕ) × LeavesOut bound_in prefix (elements_in [] nodes)))) →
     Answered text
 by_elements text nodes is shallow (inl (surface, says)) = inl (surface, record { nodes = nodes; is_read = is; shallow = shallow; says = says })
-by_elements text nodes is shallow (inr (inl none)) = inr (cause.BadForm, record { nodes = nodes; is_read = is; shallow = shallow; no_file = none })
+by_elements text nodes is shallow (inr (inl none)) = inr (cause.BadForm, record { nodes = nodes; is_read = is; shallow = shallow; no_form = none })
 by_elements text nodes is shallow (inr (inr (prefix, left))) =
     inr (cause.UndeclaredPrefix, (prefix, record { nodes = nodes; is_read = is; shallow = shallow; left_out = left }))
 

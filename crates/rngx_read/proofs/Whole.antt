@@ -12,12 +12,13 @@ use Rattle.rngx_read.specs.declared.kind.Kind.{Kind}
 use Rattle.rngx_read.specs.declared.kind.Kind.TheVariants as kind
 use Rattle.rngx_read.specs.Classes.{IsClass, a_name, any_name, ns_name, a_choice, IsAllBut, all_of_them, all_but, IsEither, any_of, AreClasses}
 use Rattle.rngx_read.specs.Classes.{no_class, next_class}
-use Rattle.rngx_read.specs.Contexts.{Context, inside, outermost}
+use Rattle.rngx_read.specs.Defaults.{Defaults, inside, outermost}
 use Rattle.rngx_read.specs.Elements.{Elements, no_elements, element_then}
-use Rattle.rngx_read.specs.Kinds.{kind_text, kind_of}
+use Rattle.rngx_read.specs.Kinds.{kind_text}
+use Rattle.rngx_read.specs.Forms.{kind_of}
 use Rattle.rngx_read.specs.Names.{Resolver, trimmed, IsNamed, without_prefix, with_prefix, IsClassName}
 use Rattle.rngx_read.specs.Patterns as p
-use Rattle.rngx_read.specs.Patterns.{Joins, Makes, Refers, IsLeaf, HasClass, AreParams, IsPattern, IsValue, IsRow, ArePatterns, IsDefinition, IsItem}
+use Rattle.rngx_read.specs.Patterns.{Joins, Makes, Refers, IsLeaf, HasClass, AreParams, IsPattern, IsAttributeValue, IsRow, ArePatterns, IsDefinition, IsItem}
 use Rattle.rngx_read.specs.Patterns.{AreItems, IsReplacement, AreReplacements}
 use Rattle.rngx_read.specs.Reads.{Writes, at_element, at_attribute, in_name, NeedsPrefix, LeavesOut, here, within, behind, IsFile, pattern_file}
 use Rattle.rngx_read.specs.Reads.{grammar_file}
@@ -127,40 +128,40 @@ module _ (resolve : Resolver) where
   -- ---- classes
 
   mutual
-    class_clean : (context : Context) (tag : Tag) (children : Elements) (class : WrittenClass) → IsClass resolve context tag children class →
+    class_clean : (defaults : Defaults) (tag : Tag) (children : Elements) (class : WrittenClass) → IsClass resolve defaults tag children class →
         Clean tag × Whole children
-    class_clean context tag _ class (a_name is named) = (name_clean tag _ class is named, nothing_whole)
-    class_clean context tag children class (any_name is but) =
+    class_clean defaults tag _ class (a_name is named) = (name_clean tag _ class is named, nothing_whole)
+    class_clean defaults tag children class (any_name is but) =
         (other_clean tag kind.AnyName is (λ e. cc) (λ e. cc) (λ e. cc), but_whole _ _ children class but)
-    class_clean context tag children class (ns_name is but) =
+    class_clean defaults tag children class (ns_name is but) =
         (other_clean tag kind.NsName is (λ e. cc) (λ e. cc) (λ e. cc), but_whole _ _ children class but)
-    class_clean context tag children class (a_choice is any) =
+    class_clean defaults tag children class (a_choice is any) =
         (other_clean tag kind.Choice is (λ e. cc) (λ e. cc) (λ e. cc), either_whole _ children class any)
 
-    but_whole : (context : Context) (all : WrittenClass) (elements : Elements) (class : WrittenClass) → IsAllBut resolve context all elements class →
+    but_whole : (defaults : Defaults) (all : WrittenClass) (elements : Elements) (class : WrittenClass) → IsAllBut resolve defaults all elements class →
         Whole elements
-    but_whole context all _ _ all_of_them = nothing_whole
-    but_whole context all _ _ (all_but {except = except} {tag = tag} {children = children} is any) =
+    but_whole defaults all _ _ all_of_them = nothing_whole
+    but_whole defaults all _ _ (all_but {except = except} {tag = tag} {children = children} is any) =
         whole_then tag children no_elements (other_clean tag kind.Except is (λ e. cc) (λ e. cc) (λ e. cc)) (either_whole _ children except any)
         nothing_whole
 
-    either_whole : (context : Context) (elements : Elements) (class : WrittenClass) → IsEither resolve context elements class → Whole elements
-    either_whole context elements class (any_of {first = first} {more = more} are e) = classes_whole context elements (first ∷ more) are
+    either_whole : (defaults : Defaults) (elements : Elements) (class : WrittenClass) → IsEither resolve defaults elements class → Whole elements
+    either_whole defaults elements class (any_of {first = first} {more = more} are e) = classes_whole defaults elements (first ∷ more) are
 
-    classes_whole : (context : Context) (elements : Elements) (classes : List WrittenClass) → AreClasses resolve context elements classes →
+    classes_whole : (defaults : Defaults) (elements : Elements) (classes : List WrittenClass) → AreClasses resolve defaults elements classes →
         Whole elements
-    classes_whole context _ _ no_class = nothing_whole
-    classes_whole context _ _ (next_class {tag = tag} {children = children} {rest = rest} {class = class} {classes = classes} is are) =
-        let one = class_clean context tag children class is in
-        whole_then tag children rest one.0 one.1 (classes_whole context rest classes are)
+    classes_whole defaults _ _ no_class = nothing_whole
+    classes_whole defaults _ _ (next_class {tag = tag} {children = children} {rest = rest} {class = class} {classes = classes} is are) =
+        let one = class_clean defaults tag children class is in
+        whole_then tag children rest one.0 one.1 (classes_whole defaults rest classes are)
 
   -- ---- names of elements and attributes
 
   -- neither the element nor its children leave a prefix out, where its class is read and what follows it leaves none out
-  has_class_clean : (context : Context) (unprefixed : Namespace) (tag : Tag) (k : Kind) (children content : Elements) (class : WrittenClass) →
+  has_class_clean : (defaults : Defaults) (unprefixed : Namespace) (tag : Tag) (k : Kind) (children content : Elements) (class : WrittenClass) →
       IsTag k tag → k ≢ kind.Name →
-      HasClass resolve context unprefixed tag children class content → Whole content → Clean tag × Whole children
-  has_class_clean context unprefixed tag k children _ class is no_name (p.by_attribute {written = written} e named) whole = (clean, whole)
+      HasClass resolve defaults unprefixed tag children class content → Whole content → Clean tag × Whole children
+  has_class_clean defaults unprefixed tag k children _ class is no_name (p.by_attribute {written = written} e named) whole = (clean, whole)
     where
       clean : Clean tag
       clean prefix needs =
@@ -168,8 +169,8 @@ module _ (resolve : Resolver) where
           let both : Some needs.written ≡ Some written = sym there ∙ e in
           let same : needs.written ≡ written = cc in
           class_name_whole tag unprefixed written class prefix named needs same
-  has_class_clean context unprefixed tag k _ content class is no_name (p.by_child {first = first} {within = inner} e one) whole =
-      let first_one = class_clean context first inner class one in
+  has_class_clean defaults unprefixed tag k _ content class is no_name (p.by_child {first = first} {within = inner} e one) whole =
+      let first_one = class_clean defaults first inner class one in
       (clean, whole_then first inner content first_one.0 first_one.1 whole)
     where
       clean : Clean tag
@@ -216,87 +217,87 @@ module _ (resolve : Resolver) where
   -- ---- patterns and grammars
 
   mutual
-    pattern_clean : (context : Context) (tag : Tag) (children : Elements) (q : WrittenPattern) → IsPattern resolve context tag children q →
+    pattern_clean : (defaults : Defaults) (tag : Tag) (children : Elements) (q : WrittenPattern) → IsPattern resolve defaults tag children q →
         Clean tag × Whole children
-    pattern_clean context tag children _ (p.an_element {content = content} {class = class} {p = q} is has row) =
-        has_class_clean (inside context tag) (inside context tag).namespace tag kind.Element children content class is (λ e. cc) has
-        (row_whole _ (inside context tag) content q row)
-    pattern_clean context tag children _ (p.an_attribute {content = content} {class = class} {p = q} is has value) =
-        has_class_clean (inside context tag) _ tag kind.Attribute children content class is (λ e. cc) has
-        (value_whole (inside context tag) content q value)
-    pattern_clean context tag children q (p.a_row {this = this} {join = join} joins is row) =
-        (none_clean tag this is (joins_none this join joins), row_whole join (inside context tag) children q row)
-    pattern_clean context tag children _ (p.made {this = this} {make = make} {p = q} makes is row) =
-        (none_clean tag this is (makes_none this make makes), row_whole _ (inside context tag) children q row)
-    pattern_clean context tag _ _ (p.a_reference {this = this} {refer = refer} refers is e) =
+    pattern_clean defaults tag children _ (p.an_element {content = content} {class = class} {p = q} is has row) =
+        has_class_clean (inside defaults tag) (inside defaults tag).namespace tag kind.Element children content class is (λ e. cc) has
+        (row_whole _ (inside defaults tag) content q row)
+    pattern_clean defaults tag children _ (p.an_attribute {content = content} {class = class} {p = q} is has value) =
+        has_class_clean (inside defaults tag) _ tag kind.Attribute children content class is (λ e. cc) has
+        (value_whole (inside defaults tag) content q value)
+    pattern_clean defaults tag children q (p.a_row {this = this} {join = join} joins is row) =
+        (none_clean tag this is (joins_none this join joins), row_whole join (inside defaults tag) children q row)
+    pattern_clean defaults tag children _ (p.made {this = this} {make = make} {p = q} makes is row) =
+        (none_clean tag this is (makes_none this make makes), row_whole _ (inside defaults tag) children q row)
+    pattern_clean defaults tag _ _ (p.a_reference {this = this} {refer = refer} refers is e) =
         (none_clean tag this is (refers_none this refer refers), nothing_whole)
-    pattern_clean context tag _ q (p.a_leaf {this = this} leaf is) = (none_clean tag this is (leaf_none this q leaf), nothing_whole)
-    pattern_clean context tag _ _ (p.an_untyped_value is e) = (none_clean tag kind.Value is (λ e. cc, λ e. cc, λ e. cc), nothing_whole)
-    pattern_clean context tag _ _ (p.a_value is type) = (none_clean tag kind.Value is (λ e. cc, λ e. cc, λ e. cc), nothing_whole)
-    pattern_clean context tag children _ (p.a_type {params = params} is type are) =
+    pattern_clean defaults tag _ q (p.a_leaf {this = this} leaf is) = (none_clean tag this is (leaf_none this q leaf), nothing_whole)
+    pattern_clean defaults tag _ _ (p.an_untyped_value is e) = (none_clean tag kind.Value is (λ e. cc, λ e. cc, λ e. cc), nothing_whole)
+    pattern_clean defaults tag _ _ (p.a_value is type) = (none_clean tag kind.Value is (λ e. cc, λ e. cc, λ e. cc), nothing_whole)
+    pattern_clean defaults tag children _ (p.a_type {params = params} is type are) =
         (none_clean tag kind.Data is (λ e. cc, λ e. cc, λ e. cc), params_whole children params no_elements are nothing_whole)
-    pattern_clean context tag children _ (p.a_type_but {except = except} {within = inner} {params = params} {p = q} is type are but row) = (
+    pattern_clean defaults tag children _ (p.a_type_but {except = except} {within = inner} {params = params} {p = q} is type are but row) = (
       none_clean tag kind.Data is (λ e. cc, λ e. cc, λ e. cc),
       params_whole children params (element_then except inner no_elements) are
           (whole_then except inner no_elements (none_clean except kind.Except but (λ e. cc, λ e. cc, λ e. cc)) (row_whole _ _ inner q row)
           nothing_whole),
     )
-    pattern_clean context tag _ _ (p.an_external is file) = (none_clean tag kind.ExternalRef is (λ e. cc, λ e. cc, λ e. cc), nothing_whole)
-    pattern_clean context tag children _ (p.a_grammar_of {items = items} is are) =
-        (none_clean tag kind.Grammar is (λ e. cc, λ e. cc, λ e. cc), items_whole (inside context tag) children items are)
+    pattern_clean defaults tag _ _ (p.an_external is file) = (none_clean tag kind.ExternalRef is (λ e. cc, λ e. cc, λ e. cc), nothing_whole)
+    pattern_clean defaults tag children _ (p.a_grammar_of {items = items} is are) =
+        (none_clean tag kind.Grammar is (λ e. cc, λ e. cc, λ e. cc), items_whole (inside defaults tag) children items are)
 
-    value_whole : (context : Context) (elements : Elements) (q : WrittenPattern) → IsValue resolve context elements q → Whole elements
-    value_whole context _ _ p.any_value = nothing_whole
-    value_whole context _ q (p.this_value {tag = tag} {children = children} is) =
-        let one = pattern_clean context tag children q is in whole_then tag children no_elements one.0 one.1 nothing_whole
+    value_whole : (defaults : Defaults) (elements : Elements) (q : WrittenPattern) → IsAttributeValue resolve defaults elements q → Whole elements
+    value_whole defaults _ _ p.any_value = nothing_whole
+    value_whole defaults _ q (p.this_value {tag = tag} {children = children} is) =
+        let one = pattern_clean defaults tag children q is in whole_then tag children no_elements one.0 one.1 nothing_whole
 
-    row_whole : (join : WrittenPattern → WrittenPattern → WrittenPattern) (context : Context) (elements : Elements) (q : WrittenPattern) →
-        IsRow resolve join context elements q → Whole elements
-    row_whole join context elements q (p.row_of {first = first} {more = more} are e) = patterns_whole context elements (first ∷ more) are
+    row_whole : (join : WrittenPattern → WrittenPattern → WrittenPattern) (defaults : Defaults) (elements : Elements) (q : WrittenPattern) →
+        IsRow resolve join defaults elements q → Whole elements
+    row_whole join defaults elements q (p.row_of {first = first} {more = more} are e) = patterns_whole defaults elements (first ∷ more) are
 
-    patterns_whole : (context : Context) (elements : Elements) (qs : List WrittenPattern) → ArePatterns resolve context elements qs → Whole elements
-    patterns_whole context _ _ p.no_pattern = nothing_whole
-    patterns_whole context _ _ (p.next_pattern {tag = tag} {children = children} {rest = rest} {p = q} {ps = qs} is are) =
-        let one = pattern_clean context tag children q is in
-        whole_then tag children rest one.0 one.1 (patterns_whole context rest qs are)
+    patterns_whole : (defaults : Defaults) (elements : Elements) (qs : List WrittenPattern) → ArePatterns resolve defaults elements qs → Whole elements
+    patterns_whole defaults _ _ p.no_pattern = nothing_whole
+    patterns_whole defaults _ _ (p.next_pattern {tag = tag} {children = children} {rest = rest} {p = q} {ps = qs} is are) =
+        let one = pattern_clean defaults tag children q is in
+        whole_then tag children rest one.0 one.1 (patterns_whole defaults rest qs are)
 
-    definition_clean : (context : Context) (tag : Tag) (children : Elements) (name : Defined) (how : Combine) (q : WrittenPattern) →
-        IsDefinition resolve context tag children name how q → Clean tag × Whole children
-    definition_clean context tag _ _ how q (p.a_start {one = one} {within = inner} is combined first) =
-        let only = pattern_clean (inside context tag) one inner q first in
+    definition_clean : (defaults : Defaults) (tag : Tag) (children : Elements) (name : Defined) (how : Combine) (q : WrittenPattern) →
+        IsDefinition resolve defaults tag children name how q → Clean tag × Whole children
+    definition_clean defaults tag _ _ how q (p.a_start {one = one} {within = inner} is combined first) =
+        let only = pattern_clean (inside defaults tag) one inner q first in
         (none_clean tag kind.Start is (λ e. cc, λ e. cc, λ e. cc), whole_then one inner no_elements only.0 only.1 nothing_whole)
-    definition_clean context tag children _ how q (p.a_define is combined named row) =
-        (none_clean tag kind.Define is (λ e. cc, λ e. cc, λ e. cc), row_whole _ (inside context tag) children q row)
+    definition_clean defaults tag children _ how q (p.a_define is combined named row) =
+        (none_clean tag kind.Define is (λ e. cc, λ e. cc, λ e. cc), row_whole _ (inside defaults tag) children q row)
 
-    item_clean : (context : Context) (tag : Tag) (children : Elements) (item : WrittenItem) → IsItem resolve context tag children item →
+    item_clean : (defaults : Defaults) (tag : Tag) (children : Elements) (item : WrittenItem) → IsItem resolve defaults tag children item →
         Clean tag × Whole children
-    item_clean context tag children _ (p.a_definition {name = name} {how = how} {p = q} is) = definition_clean context tag children name how q is
-    item_clean context tag children _ (p.a_div {items = items} is are) =
-        (none_clean tag kind.Div is (λ e. cc, λ e. cc, λ e. cc), items_whole (inside context tag) children items are)
-    item_clean context tag children _ (p.an_include {replacements = replacements} is file are) =
-        (none_clean tag kind.Include is (λ e. cc, λ e. cc, λ e. cc), replacements_whole (inside context tag) children replacements are)
+    item_clean defaults tag children _ (p.a_definition {name = name} {how = how} {p = q} is) = definition_clean defaults tag children name how q is
+    item_clean defaults tag children _ (p.a_div {items = items} is are) =
+        (none_clean tag kind.Div is (λ e. cc, λ e. cc, λ e. cc), items_whole (inside defaults tag) children items are)
+    item_clean defaults tag children _ (p.an_include {replacements = replacements} is file are) =
+        (none_clean tag kind.Include is (λ e. cc, λ e. cc, λ e. cc), replacements_whole (inside defaults tag) children replacements are)
 
-    items_whole : (context : Context) (elements : Elements) (items : WrittenItems) → AreItems resolve context elements items → Whole elements
-    items_whole context _ _ p.no_more_items = nothing_whole
-    items_whole context _ _ (p.next_item {tag = tag} {children = children} {rest = rest} {item = item} {items = items} is are) =
-        let one = item_clean context tag children item is in
-        whole_then tag children rest one.0 one.1 (items_whole context rest items are)
+    items_whole : (defaults : Defaults) (elements : Elements) (items : WrittenItems) → AreItems resolve defaults elements items → Whole elements
+    items_whole defaults _ _ p.no_more_items = nothing_whole
+    items_whole defaults _ _ (p.next_item {tag = tag} {children = children} {rest = rest} {item = item} {items = items} is are) =
+        let one = item_clean defaults tag children item is in
+        whole_then tag children rest one.0 one.1 (items_whole defaults rest items are)
 
-    replacement_clean : (context : Context) (tag : Tag) (children : Elements) (replacement : WrittenReplacement) →
-        IsReplacement resolve context tag children replacement →
+    replacement_clean : (defaults : Defaults) (tag : Tag) (children : Elements) (replacement : WrittenReplacement) →
+        IsReplacement resolve defaults tag children replacement →
         Clean tag × Whole children
-    replacement_clean context tag children _ (p.a_definition_anew {name = name} {how = how} {p = q} is) =
-        definition_clean context tag children name how q is
-    replacement_clean context tag children _ (p.a_div_anew {replacements = replacements} is are) =
-        (none_clean tag kind.Div is (λ e. cc, λ e. cc, λ e. cc), replacements_whole (inside context tag) children replacements are)
+    replacement_clean defaults tag children _ (p.a_definition_anew {name = name} {how = how} {p = q} is) =
+        definition_clean defaults tag children name how q is
+    replacement_clean defaults tag children _ (p.a_div_anew {replacements = replacements} is are) =
+        (none_clean tag kind.Div is (λ e. cc, λ e. cc, λ e. cc), replacements_whole (inside defaults tag) children replacements are)
 
-    replacements_whole : (context : Context) (elements : Elements) (replacements : WrittenReplacements) →
-        AreReplacements resolve context elements replacements → Whole elements
-    replacements_whole context _ _ p.no_more_replacements = nothing_whole
-    replacements_whole context _ _
+    replacements_whole : (defaults : Defaults) (elements : Elements) (replacements : WrittenReplacements) →
+        AreReplacements resolve defaults elements replacements → Whole elements
+    replacements_whole defaults _ _ p.no_more_replacements = nothing_whole
+    replacements_whole defaults _ _
         (p.next_replacement {tag = tag} {children = children} {rest = rest} {replacement = replacement} {replacements = replacements} is are) =
-        let one = replacement_clean context tag children replacement is in
-        whole_then tag children rest one.0 one.1 (replacements_whole context rest replacements are)
+        let one = replacement_clean defaults tag children replacement is in
+        whole_then tag children rest one.0 one.1 (replacements_whole defaults rest replacements are)
 
   -- elements that say something leave no prefix out
   pub file_whole : (elements : Elements) (surface : WrittenSurface) (prefix : List ℕ) → IsFile resolve elements surface →

@@ -8,7 +8,7 @@ use Rattle.nx_events.specs.declared.item.Event.TheVariants as events
 use Rattle.nx_events.specs.declared.item.Item.{Item}
 use Rattle.nx_events.specs.declared.item.Item.TheVariants as items
 use Rattle.rngx_read.specs.declared.element.Tag.{Tag}
-use Rattle.rngx_read.specs.Elements.{Elements, no_elements, element_then, elements_and, schema_namespace, plain_if}
+use Rattle.rngx_read.specs.Elements.{Elements, no_elements, element_then, schema_namespace, plain_if}
 
 -- an open element, as far as it is read
 pub record Frame : Type 0 where
@@ -68,6 +68,11 @@ with_text frame text = record frame { tag = record frame.tag { text = frame.tag.
 abbrev pub string_by : ℕ → List ℕ → Built → Built
 string_by zero text built = record built { inner = with_text built.inner text }
 string_by (suc n) text built = built
+
+-- one row behind another
+abbrev pub elements_and : Elements → Elements → Elements
+elements_and no_elements more = more
+elements_and (element_then tag children rest) more = element_then tag children (elements_and rest more)
 
 -- an element that is read whole, behind the children of the one around it
 abbrev pub with_child : Frame → Frame → Frame

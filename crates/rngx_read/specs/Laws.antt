@@ -9,11 +9,7 @@ use Rattle.rngx_read.specs.declared.read.XReadFault.TheVariants as fault
 use Rattle.rngx_read.specs.Elements.{Elements}
 use Rattle.rngx_read.specs.Files.{RefusesMarkup, ReadsFile, RefusesFile}
 use Rattle.rngx_read.specs.Names.{Resolver, bound_in}
-use Rattle.rngx_read.specs.Reads.{IsFile, Extends, LeavesOut, Reads, HasBadMarkup, IsTooDeep, AnswersText}
-
--- the elements are in no reading, whatever the prefixes stand for that are left out
-abbrev pub HaveNoForm : Elements → Type 0
-HaveNoForm elements = (resolve : Resolver) (surface : WrittenSurface) → Extends resolve → IsFile resolve elements surface → ⊥
+use Rattle.rngx_read.specs.Reads.{IsFile, HaveNoForm, LeavesOut, Reads, HasBadMarkup, IsTooDeep, AnswersText}
 
 -- elements say one thing at most, whatever prefixes stand for
 abbrev pub ElementsSayOneThing : Type 0

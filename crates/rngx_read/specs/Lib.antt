@@ -2,7 +2,7 @@
 pub mod Kinds
 pub mod Tags
 pub mod Names
-pub mod Contexts
+pub mod Defaults
 pub mod Elements
 pub mod Classes
 pub mod Patterns
@@ -12,6 +12,8 @@ pub mod Files
 pub mod Laws
 -- ---- what private contracts cite
 pub mod Views
+pub mod Forms
+pub mod Answering
 pub mod Reading
 pub mod ReadingClasses
 pub mod ReadingPatterns

@@ -1,5 +1,5 @@
 -- What the text of a schema file in the XML syntax says, and why a text says nothing: ISO/IEC 19757-2, sections 5 and 6.
-use Rattle.std.specs.Prelude.{◌≡◌, ◌≢◌, ℕ, ◌+◌, ◌-◌, ◌≤◌, true, List, [], ◌∷◌, ◌++◌, Some, None, codes}
+use Rattle.std.specs.Prelude.{◌≡◌, ◌≢◌, ℕ, ◌+◌, ◌-◌, ◌≤◌, true, List, [], ◌∷◌, ◌++◌, Some, None, codes, map, Contains}
 use Rattle.std.specs.Prelude.{Result, Ok, Err}
 use Rattle.nx_base.specs.Tokens.{tokens_of}
 use Rattle.nx_base.specs.declared.fault.Fault.{Fault}
@@ -18,11 +18,9 @@ use Rattle.rnc_parse.specs.Views.{surface_of}
 use Rattle.rnc_parse.specs.Written.{WrittenPattern, WrittenItems, WrittenSurface, a_pattern, a_grammar}
 use Rattle.rngx_read.specs.declared.element.Tag.{Tag}
 use Rattle.rngx_read.specs.declared.kind.Kind.TheVariants as kind
-use Rattle.rngx_read.specs.declared.stop.Stop.{Stop}
-use Rattle.rngx_read.specs.declared.stop.Stop.TheVariants as stop
 use Rattle.rngx_read.specs.declared.read.XReadFault.{XReadFault}
 use Rattle.rngx_read.specs.declared.read.XReadFault.TheVariants as fault
-use Rattle.rngx_read.specs.Contexts.{inside, outermost}
+use Rattle.rngx_read.specs.Defaults.{inside, outermost}
 use Rattle.rngx_read.specs.Elements.{IsReadAs, Elements, no_elements, element_then, elements_in, Nodes}
 use Rattle.rngx_read.specs.Kinds.{kind_text}
 use Rattle.rngx_read.specs.Names.{Resolver, bound_in, trimmed}
@@ -61,7 +59,7 @@ pub record IsTooDeepAt (all : List Item) (at : ℕ) : Type 0 where
 
 -- ---- what a file says
 
--- the one element of the schema outside of all others is a grammar or another pattern, where prefixes stand for this
+-- the one element of the schema outside of all others is a grammar or another pattern, where prefixes stand for what `resolve` says
 pub data IsFile (resolve : Resolver) : Elements → WrittenSurface → Type 0 where
   pattern_file : {tag : Tag} {children : Elements} {p : WrittenPattern} → tag.local ≢ codes "grammar" →
       IsPattern resolve outermost tag children p → IsFile resolve (element_then tag children no_elements) (a_pattern p)
@@ -94,12 +92,16 @@ pub record IsTooDeep (text : List ℕ) (at : ℕ) : Type 0 where
 abbrev pub Extends : Resolver → Type 0
 Extends resolve = (scope : List Name) (prefix uri : List ℕ) → bound_in scope prefix ≡ Some uri → resolve scope prefix ≡ Some uri
 
--- it has neither a fault nor 201 open elements, and its elements are in no reading, whatever the prefixes stand for that are left out
+-- the elements are in no reading, whatever the prefixes stand for that are left out
+abbrev pub HaveNoForm : Elements → Type 0
+HaveNoForm elements = (resolve : Resolver) (surface : WrittenSurface) → Extends resolve → IsFile resolve elements surface → ⊥
+
+-- it has neither a fault nor 201 open elements, and its elements have no form
 pub record HasBadForm (text : List ℕ) : Type 0 where
   pub nodes : Nodes
   pub is_read : IsReadAs text nodes
   pub shallow : IsShallow (items_of_text text)
-  pub no_file : (resolve : Resolver) (surface : WrittenSurface) → Extends resolve → IsFile resolve (elements_in [] nodes) surface → ⊥
+  pub no_form : HaveNoForm (elements_in [] nodes)
 
 -- a name that is written at the tag where that of a class stands
 pub data Writes (tag : Tag) : List ℕ → Type 0 where
@@ -136,19 +138,8 @@ pub record HasUndeclared (text prefix : List ℕ) : Type 0 where
 -- ---- what `read` answers; want of memory is free
 
 -- the place is that of some token
-pub data BeginsOne : List Token → ℕ → Type 0 where
-  begins_first : {token : Token} {others : List Token} {at : ℕ} → at ≡ token.from → BeginsOne (token ∷ others) at
-  begins_later : {token : Token} {others : List Token} {at : ℕ} → BeginsOne others at → BeginsOne (token ∷ others) at
-
 abbrev pub BeginsToken : List ℕ → ℕ → Type 0
-BeginsToken text at = BeginsOne (tokens_of text) at
-
--- what the program answers where reading stops
-abbrev pub RefusesAt : List Token → Stop → XReadFault → Type 0
-RefusesAt tokens (stop.Form before) (fault.BadForm at) = BeginsOne tokens at
-RefusesAt tokens (stop.Prefix prefix) (fault.UndeclaredPrefix found) = found ≡ prefix
-RefusesAt tokens stop.NoMemory fault.NoMemory = Unit {0}
-RefusesAt tokens _ _ = ⊥
+BeginsToken text at = Contains (map (λ (token : Token). token.from) (tokens_of text)) at
 
 abbrev pub AnswersText : List ℕ → Result Surface XReadFault → Type 0
 AnswersText text (Ok surface) = Reads text (surface_of surface)
@@ -157,12 +148,3 @@ AnswersText text (Err (fault.TooDeep at)) = IsTooDeep text at
 AnswersText text (Err (fault.BadForm at)) = HasBadForm text × BeginsToken text at
 AnswersText text (Err (fault.UndeclaredPrefix prefix)) = HasUndeclared text prefix
 AnswersText text (Err fault.NoMemory) = Unit {0}
-
--- the same of a text that is read as these nodes
-abbrev pub AnswersNodes : List ℕ → Nodes → Result Surface XReadFault → Type 0
-AnswersNodes text nodes (Ok surface) = IsFile bound_in (elements_in [] nodes) (surface_of surface)
-AnswersNodes text nodes (Err (fault.BadForm at)) =
-    ((resolve : Resolver) (surface : WrittenSurface) → Extends resolve → IsFile resolve (elements_in [] nodes) surface → ⊥) × BeginsToken text at
-AnswersNodes text nodes (Err (fault.UndeclaredPrefix prefix)) = LeavesOut bound_in prefix (elements_in [] nodes)
-AnswersNodes text nodes (Err fault.NoMemory) = Unit {0}
-AnswersNodes text nodes (Err _) = ⊥

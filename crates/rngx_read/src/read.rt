@@ -10,13 +10,14 @@ ghost use Rattle.rngx_read.specs.Files.{behind_mark, is_markup};
 ghost use Rattle.rngx_read.specs.Names.{bound_in};
 ghost use Rattle.rngx_read.specs.Reading.{Finds};
 ghost use Rattle.rngx_read.specs.ReadingPatterns.{grammar_file_by, lone_surface, surface_at};
-ghost use Rattle.rngx_read.specs.Reads.{AnswersText, AnswersNodes, BeginsOne, RefusesAt};
-ghost use Rattle.rngx_read.specs.Tags.{form_of};
+ghost use Rattle.rngx_read.specs.Reads.{AnswersText};
+ghost use Rattle.rngx_read.specs.Answering.{RefusesAt, AnswersNodes, BeginsOne};
+ghost use Rattle.rngx_read.specs.Forms.{form_of};
 ghost use Rattle.rngx_read.specs.Views.{children_of, listed, tag_of};
 ghost use Rattle.rngx_read.specs.declared.read.XReadFault.TheVariants.{NoMemory as no_memory};
 
 use crate::build::elements_of;
-use crate::context::{inside, outermost};
+use crate::defaults::{inside, outermost};
 use crate::element::Element;
 use crate::grammar::items;
 use crate::kind::Kind;
@@ -198,10 +199,10 @@ fn grammar(alloc: Global, root: &Element) -> Result<Surface, Stop>
         (grammar_file_by bound_in (tag_of root.now) (children_of root.now) (form_of (tag_of root.now))) }
 {
     let outer = outermost();
-    let context = inside(&outer, &root.tag);
+    let defaults = inside(&outer, &root.tag);
     match root.tag.form() {
         Some(Kind::Grammar) => {
-            let items = items(alloc, &context, root.children.as_slice())?;
+            let items = items(alloc, &defaults, root.children.as_slice())?;
             Ok(Surface::Grammar(items))
         }
         _ => Err(Stop::Form(root.at)),

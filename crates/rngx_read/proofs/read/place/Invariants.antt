@@ -1,5 +1,5 @@
 use Rattle.std.proofs.Common.{ℕ, length}
-use Rattle.rngx_read.specs.Reads.{BeginsOne}
+use Rattle.rngx_read.specs.Answering.{BeginsOne}
 use Rattle.rngx_read.proofs.read.place.Given as goal
 
 abbrev pub invariant-tokens : goal.invariant-tokens
