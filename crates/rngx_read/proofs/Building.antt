@@ -1,5 +1,5 @@
 -- The elements that are put together are those of the tree.
-use Rattle.std.proofs.Common.{◌≡◌, ℕ, zero, suc, Bool, true, false, cond, List, [], ◌∷◌, ◌++◌, refl, sym, ap, ◌∙◌, append_assoc, ◌+◌, ◌≤◌, map, arith}
+use Rattle.std.proofs.Common.{◌≡◌, ℕ, zero, suc, Bool, true, false, cond, List, [], ◌∷◌, ◌++◌, refl, sym, ap, ◌∙◌, append_assoc, map}
 use Rattle.std.proofs.lemmas.List.{append-nil}
 use Rattle.std.specs.Str.{bytes_eq}
 use Rattle.nx_base.specs.Trees.{children_flat, attributes_flat}
@@ -9,12 +9,11 @@ use Rattle.nx_base.specs.declared.name.Name.{Name}
 use Rattle.nx_events.specs.Among.{events_among}
 use Rattle.nx_events.specs.TreeEvents.{as_event}
 use Rattle.nx_events.specs.declared.item.Event.{Event}
-use Rattle.nx_events.specs.declared.item.Event.TheVariants as events
 use Rattle.nx_events.specs.declared.item.Item.{Item}
 use Rattle.nx_events.specs.declared.item.Item.TheVariants as items
 use Rattle.rngx_read.specs.declared.element.Attribute.{Attribute}
 use Rattle.rngx_read.specs.declared.element.Tag.{Tag}
-use Rattle.rngx_read.specs.Building.{Frame, Built, bare, opened, passed_by, with_attribute, with_text, with_child, entered_by, attribute_by, string_by, left_by, closed_by, behind_event, behind_events, behind_item, behind_items, elements_and}
+use Rattle.rngx_read.specs.Building.{Frame, Built, bare, opened, passed_by, with_attribute, with_text, with_child, behind_event, behind_events, behind_item, behind_items, elements_and}
 use Rattle.rngx_read.specs.Elements.{Nodes, no_nodes, string_then, node_then, without_declarations, declarations_and, Elements, no_elements, element_then, schema_namespace, plain_if, plain_attributes, strings_in, elements_in}
 
 -- ---- rows
@@ -205,37 +204,3 @@ all_put all nodes start events is =
     ∙ ap (λ (built : Built). built.inner.children)
     (items_read all (children_flat (without_declarations nodes) []) (before_all nodes) events)
     ∙ all_read nodes
-
--- one more element is passed over at most
-pub passed_grows : (item : Item) (built : Built) → (behind_item item built).passed ≤ built.passed + 1
-passed_grows (items.Event (events.Enter name) span) built = entering built.passed refl
-  where
-    entering : (n : ℕ) → built.passed ≡ n → (entered_by n name built).passed ≤ built.passed + 1
-    entering zero e = by_namespace (bytes_eq name.ns schema_namespace)
-      where
-        by_namespace : (b : Bool) → (cond b (opened name built) (passed_by built)).passed ≤ built.passed + 1
-        by_namespace true = omega arith
-        by_namespace false = omega arith
-    entering (suc n) e = omega arith
-passed_grows (items.Event events.EnterLost span) built = omega arith
-passed_grows (items.Event (events.Att name value) span) built = by_passed built.passed
-  where
-    by_passed : (n : ℕ) → (attribute_by n name value built).passed ≤ built.passed + 1
-    by_passed zero = omega arith
-    by_passed (suc n) = omega arith
-passed_grows (items.Event events.TagEnd span) built = omega arith
-passed_grows (items.Event (events.Chars text) span) built = by_passed built.passed
-  where
-    by_passed : (n : ℕ) → (string_by n text built).passed ≤ built.passed + 1
-    by_passed zero = omega arith
-    by_passed (suc n) = omega arith
-passed_grows (items.Event events.Leave span) built = leaving built.passed refl
-  where
-    closing : (outer : List Frame) → (closed_by outer built).passed ≤ built.passed + 1
-    closing [] = omega arith
-    closing (frame ∷ outer) = omega arith
-
-    leaving : (n : ℕ) → built.passed ≡ n → (left_by n built).passed ≤ built.passed + 1
-    leaving zero e = closing built.outer
-    leaving (suc n) e = omega (arith, e)
-passed_grows (items.Fault fault) built = omega arith

@@ -1,17 +1,14 @@
 -- What the builder of elements holds.
-use Rattle.std.proofs.Common.{ℕ, zero, ◌≡◌, List, [], ◌∷◌, ◌++◌, map, reverse, length, refl, ap, ◌∙◌, arith}
-use Rattle.std.proofs.lemmas.List.{reverse-append, reverse-reverse}
-use Rattle.nx_base.specs.declared.name.Name.{Name}
-use Rattle.nx_events.specs.declared.item.Item.{Item}
+use Rattle.std.proofs.Common.{◌≡◌, List, [], ◌∷◌, ◌++◌, map, reverse, refl, ap, ◌∙◌}
+use Rattle.std.proofs.lemmas.List.{reverse-append}
 use Rattle.rngx_read.specs.declared.build.Builder.{Builder}
 use Rattle.rngx_read.specs.declared.build.Open.{Open}
 use Rattle.rngx_read.specs.declared.element.Element as elements
 use Rattle.rngx_read.specs.declared.element.Element.{Element}
 use Rattle.rngx_read.specs.declared.element.Tag.{Tag}
-use Rattle.rngx_read.specs.Building.{Built, Frame, bare, left_by, behind_item, behind_items, elements_and}
-use Rattle.rngx_read.specs.Elements.{Nodes, declarations_and, Elements, no_elements, element_then}
+use Rattle.rngx_read.specs.Building.{left_by, elements_and}
+use Rattle.rngx_read.specs.Elements.{Elements, no_elements, element_then}
 use Rattle.rngx_read.specs.Views.{children_of, listed, frame_of, built_of}
-use Rattle.rngx_read.proofs.Building.{before_all}
 use Rattle.rngx_read.proofs.ElementViews.{tag_of_made, children_of_made, listed_push}
 
 -- the innermost element ended, and is the last child of the one around it
@@ -39,21 +36,3 @@ left_is before last now ended outer children none outer_is now_is ended_is pushe
         (children_of_made ended.tag ended.at ended.children)
         ∙ ap (λ (o : Open). elements_and (listed o.children.items) (element_then ended.tag (listed ended.children.items) no_elements)) now_is
         ∙ ap (λ (o : Open). elements_and (listed last.children.items) (element_then o.tag (listed o.children.items) no_elements)) ended_is
-
--- one item more
-pub item_added : (item : Item) (rest all : List Item) (built : Built) → all ≡ item ∷ rest →
-    behind_items all built ≡ behind_items rest (behind_item item built)
-unfolding behind_items
-item_added item rest all built are = rw are refl
-
-pub none_added : (all : List Item) (built : Built) → length all ≡ 0 → behind_items all built ≡ built
-unfolding behind_items
-none_added [] built none = refl
-none_added (item ∷ all) built none = absurd (omega (arith, none))
-
--- nothing is read, and these declarations come
-pub start_is : (frame : Frame) (local : List ℕ) (scope : List Name) (outer : List Open) (coming declared : List (List Name)) (nodes : Nodes) →
-    frame ≡ bare local scope → local ≡ [] → scope ≡ [] → outer ≡ [] → coming ≡ reverse declared → declared ≡ declarations_and nodes [] →
-    ◌≡◌ {A = Built} (record { inner = frame; outer = map frame_of (reverse outer); passed = zero; declared = reverse coming }) (before_all nodes)
-start_is frame local scope outer coming declared nodes frame_is local_is scope_is outer_is coming_is declared_is =
-    rw (frame_is, local_is, scope_is, outer_is, coming_is, reverse-reverse declared, declared_is) refl

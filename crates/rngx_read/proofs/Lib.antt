@@ -26,5 +26,6 @@ mod ElementTexts
 mod SaidTexts
 mod Answering
 mod Marks
+mod Walking
 pub mod WholeFiles
 mod Order

@@ -1,13 +1,11 @@
 -- Which cause a text in the XML syntax is refused for, where several hold.
-use Rattle.std.proofs.Common.{◌≡◌, ℕ, List, [], ◌∷◌, Result, Ok, Err, refl, sym, ap, ◌∙◌, ◌⊎◌, inl, inr}
+use Rattle.std.proofs.Common.{◌≡◌, ℕ, List, [], ◌∷◌, Ok, Err, refl, sym, ap, ◌∙◌, inl, inr}
 use Rattle.nx_base.specs.declared.fault.Fault.{Fault}
 use Rattle.nx_events.specs.Among.{faults_among}
 use Rattle.nx_events.specs.Items.{items_of_text}
-use Rattle.rnc_parse.specs.declared.surface.Surface.{Surface}
-use Rattle.rngx_read.specs.declared.read.XReadFault.{XReadFault}
 use Rattle.rngx_read.specs.declared.read.XReadFault.TheVariants as fault
 use Rattle.rngx_read.specs.Laws.{FaultsAreToldFirst, DepthIsToldNext}
-use Rattle.rngx_read.specs.Reads.{HasBadMarkup, IsTooDeep, AnswersText}
+use Rattle.rngx_read.specs.Reads.{HasBadMarkup}
 use Rattle.rngx_read.proofs.Texts.{too_deep}
 
 no_fault : (text : List ℕ) (at : ℕ) → HasBadMarkup text at → faults_among (items_of_text text) ≡ [] → ⊥

@@ -1,5 +1,5 @@
 -- How many elements are open at once.
-use Rattle.std.proofs.Common.{◌≡◌, ℕ, ◌+◌, ◌<◌, ◌≤◌, List, [], ◌∷◌, ◌++◌, length, Option, Some, None, MatchOption, refl, sym, ap, ◌∙◌, arith}
+use Rattle.std.proofs.Common.{◌≡◌, ℕ, ◌+◌, ◌<◌, ◌≤◌, List, [], ◌∷◌, ◌++◌, Option, Some, None, MatchOption, refl, sym, ap, ◌∙◌, arith}
 use Rattle.nx_base.specs.declared.fault.Span.{Span}
 use Rattle.nx_events.specs.declared.item.Event.{Event}
 use Rattle.nx_events.specs.declared.item.Event.TheVariants.{Enter, EnterLost, Att, TagEnd, Chars, Leave}
@@ -91,7 +91,3 @@ deep_is all (Some at) h = record {
   shallow = h.shallow;
   deep = h.deep;
 }
-
-pub no_item : (all : List Item) → length all ≡ 0 → all ≡ []
-no_item [] h = refl
-no_item (item ∷ all) h = absurd (omega (arith, h))

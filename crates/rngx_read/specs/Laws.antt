@@ -1,5 +1,5 @@
 -- Laws of reading: of elements, of texts in the XML syntax, and of files in either syntax.
-use Rattle.std.specs.Prelude.{◌≡◌, ℕ, ◌⊎◌, List, Result, Ok, Err}
+use Rattle.std.specs.Prelude.{◌≡◌, ℕ, ◌⊎◌, List, Result, Err}
 use Rattle.std.specs.Str.{IsUtf8}
 use Rattle.nx_base.specs.declared.cause.Cause.{Cause}
 use Rattle.rnc_parse.specs.Written.{WrittenSurface}

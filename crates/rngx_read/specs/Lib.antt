@@ -20,3 +20,4 @@ pub mod ReadingPatterns
 pub mod Building
 pub mod Indexing
 pub mod Marking
+pub mod Walking

@@ -1,6 +1,7 @@
 -- The tokens and items of a text, as the program goes over them. No public contract rests on these.
 use Rattle.std.specs.Prelude.{ℕ, List, [], ◌∷◌, Option, Some, None}
 use Rattle.std.specs.List.{AllByRecursion}
+use Rattle.std.specs.Option.{option_or}
 use Rattle.std.specs.Str.{IsUtf8}
 use Rattle.nx_base.specs.Tokens.{IsOfKind}
 use Rattle.nx_base.specs.declared.token.Token.{Token}
@@ -26,10 +27,6 @@ abbrev pub fault_place : Item → Option ℕ
 fault_place (items.Event event span) = None
 fault_place (items.Fault fault) = Some fault.span.from
 
-abbrev pub place_or : Option ℕ → Option ℕ → Option ℕ
-place_or None later = later
-place_or (Some at) later = Some at
-
 unfoldable pub first_place : List Item → Option ℕ
 first_place [] = None
-first_place (item ∷ more) = place_or (fault_place item) (first_place more)
+first_place (item ∷ more) = option_or (fault_place item) (first_place more)

@@ -1,12 +1,9 @@
 //! The elements of a schema put together from the items of a text, while what stands in other namespaces is passed over.
 
-ghost use Rattle.std.specs.Prelude.{◌≡◌, ◌+◌, ◌<◌, ◌^◌, ◌++◌, [], map, reverse, IfOk, OnOk};
-ghost use Rattle.nx_base.specs.Trees.{children_flat};
-ghost use Rattle.nx_events.specs.Among.{events_among};
-ghost use Rattle.nx_events.specs.TreeEvents.{as_event};
+ghost use Rattle.std.specs.Prelude.{◌≡◌, ◌+◌, ◌<◌, ◌^◌, ◌++◌, OnOk};
 ghost use Rattle.rngx_read.specs.Building as building;
-ghost use Rattle.rngx_read.specs.Elements.{Nodes, without_declarations, declarations_and, elements_in};
 ghost use Rattle.rngx_read.specs.Views.{built_of, frame_of, listed};
+ghost use Rattle.rngx_read.specs.Walking.{at_start};
 
 use crate::element::{Attribute, Element, Tag};
 use crate::scope::Scope;
@@ -32,7 +29,7 @@ struct Open {
 
 /// Elements that are being put together.
 #[derive(Drop)]
-struct Builder {
+pub(crate) struct Builder {
     alloc: Global,
     /// The innermost open element of the schema. Outside of all elements, what holds the root.
     inner: Open,
@@ -69,6 +66,29 @@ fn extend(text: &mut Bytes, more: &Bytes) -> Result<(), NoMemory>
 }
 
 impl Builder {
+    /// Nothing is read, and these are the own declarations of the tags that come.
+    pub(crate) fn new(alloc: Global, declared: Vec<Names>) -> Builder
+        ensures { built_of result ≡ (at_start declared.items).built }
+    {
+        let mut declared = declared;
+        declared.reverse();
+        Builder {
+            alloc,
+            inner: bare(alloc, Bytes::new(alloc), Scope::new(), 0),
+            outer: Vec::new(alloc),
+            passed: 0,
+            declared,
+        }
+    }
+
+    /// The elements that stand outside of all others.
+    pub(crate) fn into_elements(self) -> Vec<Element>
+        ensures { listed result.items ≡ (built_of self).inner.children }
+    {
+        let Builder { inner, .. } = self;
+        inner.children
+    }
+
     /// The own declarations of the next tag.
     fn next_own(&mut self) -> Names
         ensures next { result ≡ building.next_own (built_of self.old).declared }
@@ -144,7 +164,7 @@ impl Builder {
     }
 
     /// One more item.
-    fn add(&mut self, item: &Item) -> Result<(), NoMemory>
+    pub(crate) fn add(&mut self, item: &Item) -> Result<(), NoMemory>
         requires { self.old.passed + 1 < 2 ^ 64 }
         ensures { OnOk result (built_of self.new ≡ building.behind_item item.now (built_of self.old)) }
     {
@@ -158,43 +178,4 @@ impl Builder {
             }
         }
     }
-}
-
-/// The elements of the schema that stand outside of all others, among items without faults. The own declarations of their tags
-/// stand in order.
-pub(crate) fn elements_of(
-    alloc: Global,
-    items: &[Item],
-    declared: Vec<Names>,
-) -> Result<Vec<Element>, NoMemory>
-    ensures { (nodes : Nodes) → events_among items.now ≡ map as_event (children_flat (without_declarations nodes) []) →
-        declared.items ≡ declarations_and nodes [] → IfOk result (λ elements. listed elements.items ≡ elements_in [] nodes) }
-{
-    let mut declared = declared;
-    declared.reverse();
-    let mut builder = Builder {
-        alloc,
-        inner: bare(alloc, Bytes::new(alloc), Scope::new(), 0),
-        outer: Vec::new(alloc),
-        passed: 0,
-        declared,
-    };
-    add_all(&mut builder, items)?;
-    let Builder { inner, .. } = builder;
-    Ok(inner.children)
-}
-
-/// Adds the items, in order.
-fn add_all(builder: &mut Builder, items: &[Item]) -> Result<(), NoMemory>
-    requires { builder.old.passed ≡ 0 }
-    ensures { OnOk result (built_of builder.new ≡ building.behind_items items.now (built_of builder.old)) }
-{
-    // at most as many elements are passed over as there are items
-    let _len = items.len();
-    let mut rest = items;
-    'items: while let Some((item, behind)) = rest.split_first() {
-        builder.add(item)?;
-        rest = behind;
-    }
-    Ok(())
 }

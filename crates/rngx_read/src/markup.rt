@@ -1,33 +1,25 @@
-//! The markup of a text: its items, and the namespace declarations of its tags.
+//! The markup of a text: its tokens, and the namespace declarations of its tags.
 
-ghost use Rattle.std.specs.Prelude.{◌≡◌, ◌+◌, ◌<◌, ◌≤◌, ◌^◌, ◌++◌, length, IfOk, OnOk, MatchOption};
+ghost use Rattle.std.specs.Prelude.{◌≡◌, ◌+◌, ◌<◌, ◌≤◌, ◌^◌, ◌++◌, length, IfOk, OnOk};
 ghost use Rattle.std.specs.List.{flat_map};
 ghost use Rattle.nx_base.specs.Tokens.{tokens_of, AreTokensOf};
 ghost use Rattle.nx_events.specs.InForce.{pairs_of};
-ghost use Rattle.nx_events.specs.Items.{items_of_text, own_bindings};
-ghost use Rattle.nx_events.specs.Texts.{ItemsAreText};
+ghost use Rattle.nx_events.specs.Items.{own_bindings};
 ghost use Rattle.rngx_read.specs.Elements.{declared_of_token};
-ghost use Rattle.rngx_read.specs.Marking.{AreTextTokens, as_start, begin_of, fault_place, first_place};
-ghost use Rattle.rngx_read.specs.Reads.{open_with, IsShallow, IsTooDeepAt};
+ghost use Rattle.rngx_read.specs.Marking.{AreTextTokens, as_start};
 
 use nx_base::memory::NoMemory;
 use nx_base::name::Names;
 use nx_base::sequence::TryCopy;
 use nx_base::steps::Steps;
 use nx_base::token::{Token, TokenKind};
-use nx_events::fold::items_of_tokens;
 use nx_events::in_force::scope;
-use nx_events::item::{Event, Item, Items};
-use nx_events::law::all_tokens_give_text;
 use nx_events::reader::{begin, take};
-use nx_scan::border::{tokens_are_of_kind, tokens_fit, tokens_go_on, tokens_join};
+use nx_scan::border::{tokens_are_of_kind, tokens_fit, tokens_go_on};
 use nx_scan::scan::scan_token;
 use nx_text::text::Text;
 use std::alloc::Global;
 use std::sync::ledger::Ledger;
-
-/// How many elements may be open at once.
-pub(crate) const MOST_ELEMENTS: usize = 200;
 
 /// The bytes as a text.
 pub(crate) fn as_text(alloc: Global, bytes: &str) -> Result<Text, NoMemory>
@@ -64,72 +56,6 @@ pub(crate) fn all_tokens<L: Ledger>(
         tokens.push(token)?;
     }
     Ok(tokens)
-}
-
-/// Where the fault begins that an item is.
-fn fault_at(item: &Item) -> Option<usize>
-    ensures { result ≡ fault_place item.now }
-{
-    match item {
-        Item::Event(_, _) => None,
-        Item::Fault(fault) => Some(fault.span.from),
-    }
-}
-
-/// Where the first fault begins.
-#[tactic(auto, unfolding(crate::specs::Marking::first_place))]
-pub(crate) fn first_fault(items: &[Item]) -> Option<usize>
-    ensures { result ≡ first_place items.now }
-{
-    let mut rest = items;
-    'items: while let Some((item, behind)) = rest.split_first() {
-        if let Some(at) = fault_at(item) {
-            return Some(at);
-        }
-        rest = behind;
-    }
-    None
-}
-
-/// How many elements are open behind an item, where so many are open before it.
-fn open_behind(before: usize, item: &Item) -> usize
-    requires { before < 201 }
-    ensures { result ≡ open_with before item.now }
-{
-    match item {
-        Item::Event(Event::Enter(_), _) | Item::Event(Event::EnterLost, _) => before + 1,
-        Item::Event(Event::Leave, _) => before.saturating_sub(1),
-        Item::Event(Event::Att(_, _), _)
-        | Item::Event(Event::TagEnd, _)
-        | Item::Event(Event::Chars(_), _)
-        | Item::Fault(_) => before,
-    }
-}
-
-/// Where an item begins.
-fn begins_at(item: &Item) -> usize
-    ensures { result ≡ begin_of item.now }
-{
-    match item {
-        Item::Event(_, span) => span.from,
-        Item::Fault(fault) => fault.span.from,
-    }
-}
-
-/// The place of the tag that opens the 201st element, if so many are open at once.
-pub(crate) fn too_deep_at(items: &[Item]) -> Option<usize>
-    ensures { MatchOption result (IsShallow items.now) (λ at. IsTooDeepAt items.now at) }
-{
-    let mut open: usize = 0;
-    let mut rest = items;
-    'items: while let Some((item, behind)) = rest.split_first() {
-        open = open_behind(open, item);
-        if open > MOST_ELEMENTS {
-            return Some(begins_at(item));
-        }
-        rest = behind;
-    }
-    None
 }
 
 /// The token as a start tag of the same bytes.
@@ -194,17 +120,4 @@ pub(crate) fn declared_of(
         rest = behind;
     }
     Ok(declared)
-}
-
-/// The items of a text, whose tokens these are.
-pub(crate) fn items_of(alloc: Global, tokens: &[Token], text: &Text) -> Result<Items, NoMemory>
-    requires tokens { tokens.now ≡ tokens_of text.now }
-    requires texts { AreTextTokens tokens.now }
-    ensures items { IfOk result (λ items. items ≡ items_of_text text.now) }
-    ensures texts { IfOk result ItemsAreText }
-{
-    tokens_join();
-    all_tokens_give_text();
-    let len = text.len();
-    items_of_tokens(alloc, tokens, len)
 }

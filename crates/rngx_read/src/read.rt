@@ -1,11 +1,10 @@
 //! A schema file read.
 
-ghost use Rattle.std.specs.Prelude.{◌≡◌, ◌<◌, ◌≤◌, ℕ, List, codes, length, IfOk, IsUtf8};
+ghost use Rattle.std.specs.Prelude.{◌≡◌, ◌<◌, ◌≤◌, ℕ, List, [], codes, length, IfOk, IsUtf8};
 ghost use Rattle.nx_base.specs.Tokens.{begins_with, tokens_of, AreTokensOf};
-ghost use Rattle.nx_events.specs.Items.{items_of_text};
 ghost use Rattle.rnc_parse.specs.Texts.{HasUtf8Texts};
 ghost use Rattle.rnc_parse.specs.Views.{surface_of};
-ghost use Rattle.rngx_read.specs.Elements.{IsReadAs, Nodes, no_elements};
+ghost use Rattle.rngx_read.specs.Elements.{IsReadAs, Nodes, no_elements, elements_in};
 ghost use Rattle.rngx_read.specs.Files.{behind_mark, is_markup};
 ghost use Rattle.rngx_read.specs.Names.{bound_in};
 ghost use Rattle.rngx_read.specs.Reading.{Finds};
@@ -16,20 +15,19 @@ ghost use Rattle.rngx_read.specs.Forms.{form_of};
 ghost use Rattle.rngx_read.specs.Views.{children_of, listed, tag_of};
 ghost use Rattle.rngx_read.specs.declared.read.XReadFault.TheVariants.{NoMemory as no_memory};
 
-use crate::build::elements_of;
 use crate::defaults::{inside, outermost};
 use crate::element::Element;
 use crate::grammar::items;
 use crate::kind::Kind;
-use crate::markup::{all_tokens, as_text, declared_of, first_fault, items_of, too_deep_at};
+use crate::markup::{all_tokens, as_text, declared_of};
 use crate::name::behind_spaces;
 use crate::pattern::pattern;
 use crate::stop::Stop;
+use crate::walk::elements_of;
 use nx_base::memory::NoMemory;
 use nx_base::sequence::Bytes;
 use nx_base::steps::Steps;
 use nx_base::token::Token;
-use nx_events::item::Item;
 use nx_scan::border::tokens_join;
 use rnc_parse::surface::Surface;
 use std::alloc::Global;
@@ -92,7 +90,7 @@ pub fn is_markup(text: &str) -> bool
 }
 
 /// Reads a schema file in the XML syntax: what it says, or one cause for which it says nothing. It takes memory in proportion to the
-/// text and to the namespaces of its names.
+/// text, and to the names in what it says with their namespaces.
 pub fn read<L: Ledger>(
     alloc: Global,
     text: &str,
@@ -104,39 +102,26 @@ pub fn read<L: Ledger>(
 {
     let whole = as_text(alloc, text)?;
     let tokens = all_tokens(alloc, &whole, steps)?;
-    let items = items_of(alloc, tokens.as_slice(), &whole)?;
     tokens_join();
-    read_items(alloc, tokens.as_slice(), items.as_slice(), text.len())
+    read_tokens(alloc, tokens.as_slice(), text.len())
 }
 
-/// Reads the items of a text of `len` bytes that is cut into these tokens.
-fn read_items(
-    alloc: Global,
-    tokens: &[Token],
-    items: &[Item],
-    len: usize,
-) -> Result<Surface, XReadFault>
+/// Reads a text of `len` bytes that is cut into these tokens.
+fn read_tokens(alloc: Global, tokens: &[Token], len: usize) -> Result<Surface, XReadFault>
     requires { AreTokensOf len tokens.now }
-    ensures { (text : List ℕ) → IsUtf8 text → tokens.now ≡ tokens_of text → items.now ≡ items_of_text text → AnswersText text result }
-{
-    if let Some(at) = first_fault(items) {
-        return Err(XReadFault::BadMarkup(at));
-    }
-    if let Some(at) = too_deep_at(items) {
-        return Err(XReadFault::TooDeep(at));
-    }
-    said(alloc, tokens, items, len)
-}
-
-/// What items without a fault say, among which no elements are too deep.
-fn said(alloc: Global, tokens: &[Token], items: &[Item], len: usize) -> Result<Surface, XReadFault>
-    requires { AreTokensOf len tokens.now }
-    ensures { (text : List ℕ) (nodes : Nodes) → tokens.now ≡ tokens_of text → items.now ≡ items_of_text text → IsReadAs text nodes →
-        AnswersNodes text nodes result }
+    ensures { (text : List ℕ) → IsUtf8 text → tokens.now ≡ tokens_of text → len ≡ length text → AnswersText text result }
 {
     let declared = declared_of(alloc, tokens, len)?;
-    let elements = elements_of(alloc, items, declared)?;
-    match surface(alloc, elements.as_slice()) {
+    let elements = elements_of(alloc, tokens, declared, len)?;
+    said(alloc, tokens, elements.as_slice())
+}
+
+/// What the elements of the schema outside of all others say, in a text that is cut into these tokens.
+fn said(alloc: Global, tokens: &[Token], elements: &[Element]) -> Result<Surface, XReadFault>
+    ensures { (text : List ℕ) (nodes : Nodes) → tokens.now ≡ tokens_of text → IsReadAs text nodes →
+        listed elements.now ≡ elements_in [] nodes → AnswersNodes text nodes result }
+{
+    match surface(alloc, elements) {
         Ok(surface) => Ok(surface),
         Err(stop) => Err(refused(stop, tokens)),
     }
