@@ -1,4 +1,6 @@
 pub mod DiskPathLemmas
+pub mod JoinsOrBad
+pub mod PathUris
+pub mod Splits
 pub mod TableLemmas
 pub mod TextFronts
-pub mod JoinsOrBad

@@ -20,3 +20,7 @@ NamesElsewhere uri path =
 -- the URI names this path of the disk
 abbrev pub NamesPath : List ℕ → List ℕ → Type 0
 NamesPath uri path = NamesInWork uri path ⊎ NamesElsewhere uri path
+
+-- where the disk is seen from its root, the URI names this path: no folder lies behind another's name
+abbrev pub NamesFromRoot : List ℕ → List ℕ → Type 0
+NamesFromRoot uri path = (rest : List ℕ) × (uri ≡ codes "file:///" ++ rest) × IsPathAlone rest × (path ≡ codes "/" ++ percent_decode rest)

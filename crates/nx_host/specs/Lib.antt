@@ -2,10 +2,12 @@ pub mod Calls
 pub mod Count
 pub mod Disk
 pub mod DiskPath
+pub mod DiskRoot
 pub mod Files
 pub mod MemFiles
 pub mod MemOut
 pub mod Out
+pub mod PathUri
 pub mod Table
 pub mod Uri
 pub mod Utf8

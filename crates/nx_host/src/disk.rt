@@ -7,7 +7,7 @@ ghost use Rattle.nx_host.specs.Disk.{no_map, no_bytes, IsNowhere, FindsNone, Fin
 ghost use Rattle.nx_host.specs.Files.{CountsFault, HasFile, Holds, Stores};
 
 use crate::count::one_more;
-use crate::disk_path::path_of;
+use crate::disk_path::{Start, path_from};
 use crate::files::{FileFault, Files};
 use crate::out::{Out, OutFault};
 use crate::replacement::put;
@@ -18,12 +18,13 @@ use std::io::ErrorKind;
 use std::marker::Model;
 use std::{fs, io, rt};
 
-/// The files of the disk. `file:///work/X` is the relative path X, and any other `file:///Y` the path
-/// `/Y`, both percent-decoded; a URI with a query or a fragment names no file. A store puts a new file in
+/// The files of the disk. `file:///Y` is the path `/Y`, percent-decoded; those that `new` makes take `file:///work/X` for the relative
+/// path X. A URI with a query or a fragment names no file. A store puts a new file in
 /// the place of the old one when it is whole, so one that fails leaves the old one. To a contract they are
 /// their count of faults.
 pub struct DiskFiles<'a, R> {
     rt: &'a R,
+    start: Start,
     faults: u64,
 }
 
@@ -37,16 +38,35 @@ impl<'a, R> Model for DiskFiles<'a, R> {
 
 impl<R> Drop for DiskFiles<'_, R> {
     fn drop(self) {
-        let DiskFiles { rt: _, faults: _ } = self;
+        let DiskFiles {
+            rt: _,
+            start: _,
+            faults: _,
+        } = self;
     }
 }
 
 impl<'a, R> DiskFiles<'a, R> {
-    /// The files that the runtime reaches.
+    /// The files that the runtime reaches, by URIs of which those below `file:///work/` name what lies in the folder of the process.
     pub fn new(rt: &'a R) -> DiskFiles<'a, R>
         ensures { result ≡ 0 }
     {
-        DiskFiles { rt, faults: 0 }
+        DiskFiles {
+            rt,
+            start: Start::Work,
+            faults: 0,
+        }
+    }
+
+    /// The files that the runtime reaches, seen from the root: no URI stands for another folder, and each file has one.
+    pub fn rooted(rt: &'a R) -> DiskFiles<'a, R>
+        ensures { result ≡ 0 }
+    {
+        DiskFiles {
+            rt,
+            start: Start::Root,
+            faults: 0,
+        }
     }
 
     /// How many calls failed.
@@ -79,7 +99,7 @@ impl<R: rt::Files> Files for DiskFiles<'_, R> {
         ensures faults { CountsFault result self.old self.new }
         ensures nowhere { IsNowhere uri.now → FindsNone result }
     {
-        let answer = read_file(self.rt, alloc, uri);
+        let answer = read_file(self.rt, self.start, alloc, uri);
         self.counted(answer)
     }
 
@@ -89,7 +109,7 @@ impl<R: rt::Files> Files for DiskFiles<'_, R> {
         ensures faults { CountsFault result self.old self.new }
         ensures nowhere { IsNowhere uri.now → FindsNothing result }
     {
-        let answer = has_file(self.rt, alloc, uri);
+        let answer = has_file(self.rt, self.start, alloc, uri);
         self.counted(answer)
     }
 
@@ -98,7 +118,7 @@ impl<R: rt::Files> Files for DiskFiles<'_, R> {
         ensures faults { CountsFault result self.old self.new }
         ensures nowhere { IsNowhere uri.now → IsErr result }
     {
-        let answer = write_file(self.rt, alloc, uri, bytes.as_slice());
+        let answer = write_file(self.rt, self.start, alloc, uri, bytes.as_slice());
         self.counted(answer)
     }
 }
@@ -112,30 +132,46 @@ fn is_missing(error: &io::Error) -> bool
 }
 
 /// The bytes of the file that the URI names; none where it names none, and where the file is missing.
-fn read_file<R: rt::Files>(rt: &R, alloc: Global, uri: &str) -> Result<Option<Bytes>, FileFault>
+fn read_file<R: rt::Files>(
+    rt: &R,
+    start: Start,
+    alloc: Global,
+    uri: &str,
+) -> Result<Option<Bytes>, FileFault>
     ensures { IsNowhere uri.now → FindsNone result }
 {
-    match path_of(alloc, uri)? {
+    match path_from(start, alloc, uri)? {
         Some(path) => read_path(rt, alloc, path.as_str()),
         None => Ok(None),
     }
 }
 
 /// Whether the URI names something that is there and is no folder.
-fn has_file<R: rt::Files>(rt: &R, alloc: Global, uri: &str) -> Result<bool, FileFault>
+fn has_file<R: rt::Files>(
+    rt: &R,
+    start: Start,
+    alloc: Global,
+    uri: &str,
+) -> Result<bool, FileFault>
     ensures { IsNowhere uri.now → FindsNothing result }
 {
-    match path_of(alloc, uri)? {
+    match path_from(start, alloc, uri)? {
         Some(path) => has_path(rt, path.as_str()),
         None => Ok(false),
     }
 }
 
 /// Puts the bytes into the file that the URI names, in place of what was in it.
-fn write_file<R: rt::Files>(rt: &R, alloc: Global, uri: &str, bytes: &[u8]) -> Result<(), FileFault>
+fn write_file<R: rt::Files>(
+    rt: &R,
+    start: Start,
+    alloc: Global,
+    uri: &str,
+    bytes: &[u8],
+) -> Result<(), FileFault>
     ensures { IsNowhere uri.now → IsErr result }
 {
-    match path_of(alloc, uri)? {
+    match path_from(start, alloc, uri)? {
         Some(path) => write_path(rt, alloc, path.as_str(), bytes),
         None => Err(FileFault::Failed),
     }

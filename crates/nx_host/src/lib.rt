@@ -11,6 +11,8 @@ pub mod files;
 pub mod memory_files;
 pub mod memory_out;
 pub mod out;
+pub mod path_uri;
+pub mod process;
 mod replacement;
 pub mod streams;
 pub mod uri;

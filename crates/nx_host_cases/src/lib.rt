@@ -13,3 +13,5 @@ mod reading;
 mod texts;
 #[cfg(test)]
 mod uris;
+#[cfg(test)]
+mod words;

@@ -7,13 +7,11 @@
 
 ghost use Rattle.std.specs.Prelude.{◌≡◌, ◌<◌};
 
-mod arguments;
-
-use crate::arguments::process_words;
 use nx_base::memory::NoMemory;
 use nx_base::sequence::Bytes;
 use nx_base::steps::Steps;
 use nx_host::disk::{DiskFiles, StdOut};
+use nx_host::process::process_words;
 use nx_run::run::run;
 use nx_run::status::Status;
 use nx_views::pane::{FaultPane, LimitedPane};

@@ -1,4 +1,4 @@
-//! The words that the process was started with.
+//! What the process was started with.
 
 use nx_base::memory::NoMemory;
 use nx_base::sequence::Bytes;
@@ -18,5 +18,14 @@ pub fn process_words<R: Env + AllocGlobal>(rt: &R) -> Result<Vec<Bytes>, NoMemor
         }
         Err(error) if error.kind() == ErrorKind::OutOfMemory => Err(NoMemory),
         Err(_) => Ok(words),
+    }
+}
+
+/// The path of the folder that the process is in, from the root; none where it can't be had, as one that isn't UTF-8.
+pub fn process_folder<R: Env + AllocGlobal>(rt: &R) -> Result<Option<Bytes>, NoMemory> {
+    match env::current_dir(rt) {
+        Ok(path) => Ok(Some(Bytes::from_vec(path.into_string().into_bytes()))),
+        Err(error) if error.kind() == ErrorKind::OutOfMemory => Err(NoMemory),
+        Err(_) => Ok(None),
     }
 }
