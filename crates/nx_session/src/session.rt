@@ -143,6 +143,13 @@ impl Session {
         self.text.len()
     }
 
+    /// The text.
+    pub fn text(&self) -> &Text
+        ensures { result.now ≡ self.now.editor.text }
+    {
+        &self.text
+    }
+
     /// The caret, as a byte offset of the text.
     pub fn caret(&self) -> usize
         ensures { result ≡ self.now.editor.caret }

@@ -6,7 +6,8 @@ ghost use Rattle.nx_session.specs.Editor.{files_state, opened};
 ghost use Rattle.nx_session.specs.Documents.{OpenStep, OpensBytes, SaveStep, MakeStep};
 ghost use Rattle.nx_session.specs.Viewing.{MovesViews, ViewsAreText, whole_edit};
 ghost use Rattle.nx_marks.specs.Editing.{edit_kept};
-ghost use Rattle.nx_session.specs.Marks.{EditsMarks};
+ghost use Rattle.nx_session.specs.Held.{IsWellHeld};
+ghost use Rattle.nx_session.specs.Marks.{EditsMarks, MarksAreRight};
 ghost use Rattle.nx_session.specs.LargeDocuments.{large_document};
 ghost use Rattle.nx_views.specs.States.{moved_view};
 
@@ -58,6 +59,31 @@ impl Session {
         match files.fetch(self.alloc, text_of(&uri))? {
             Some(bytes) => self.open_bytes(uri, bytes, views),
             None => Err(Refusal::Absent(uri)),
+        }
+    }
+
+    /// Edits these bytes under this URI, as `url` prints it, from now on. Bytes that are no text are refused.
+    pub fn hold_text(
+        &mut self,
+        uri: Bytes,
+        bytes: Bytes,
+        views: &mut Vec<Box<dyn View>>,
+    ) -> Reply
+        requires { IsAscii uri }
+        ensures step { OpensBytes uri bytes self.old.editor result self.new.editor }
+        ensures marks { EditsMarks (whole_edit self.old.editor self.new.editor) self.old result self.new }
+        ensures right { MarksAreRight self.new }
+        ensures held { IsWellHeld self.new }
+        ensures views { MovesViews (whole_edit self.old.editor self.new.editor) (map (λ b. state b) views.old.items) result
+            (map (λ b. state b) views.new.items) }
+        ensures views_text { ViewsAreText (map (λ b. state b) views.old.items) → ViewsAreText (map (λ b. state b) views.new.items) }
+        ensures text { ReplyIsText result }
+    {
+        let answer = self.open_bytes(uri, bytes, views);
+        self.reads_right();
+        match answer {
+            Ok(reply) => reply,
+            Err(cause) => Reply::Refused(cause),
         }
     }
 
