@@ -101,17 +101,25 @@ below_work uri path rest inner is begins alone path_is text nowhere =
     let whole : IsUtf8 (codes "/work/" ++ percent_decode inner) =
     subst IsUtf8 (path_is ∙ ap (λ (r : List ℕ). codes "/" ++ percent_decode r) begins ∙ ap (λ (r : List ℕ). codes "/" ++ r) (work_stays inner)) text in
     nowhere (codes "./" ++ percent_decode inner)
-    (inl (inner, is ∙ ap (λ (r : List ℕ). codes "file:///" ++ r) begins, (
-      (λ has. alone.0 (subst (λ (r : List ℕ). Contains r 63) (sym begins) (Contains-append_right (codes "work/") inner 63 has))),
-      (λ has. alone.1 (subst (λ (r : List ℕ). Contains r 35) (sym begins) (Contains-append_right (codes "work/") inner 35 has))),
-    ), refl))
+    (inl (
+      inner,
+      is ∙ ap (λ (r : List ℕ). codes "file:///" ++ r) begins,
+      (
+        (λ has. alone.0 (subst (λ (r : List ℕ). Contains r 63) (sym begins) (Contains-append_right (codes "work/") inner 63 has))),
+        (λ has. alone.1 (subst (λ (r : List ℕ). Contains r 35) (sym begins) (Contains-append_right (codes "work/") inner 35 has))),
+      ),
+      refl,
+    ))
     (refoldered (percent_decode inner) whole)
 
 elsewhere : (uri path rest : List ℕ) → uri ≡ codes "file:///" ++ rest → bytes_eq (take 5 rest) (codes "work/") ≡ false → IsPathAlone rest →
     path ≡ codes "/" ++ percent_decode rest → IsUtf8 path → IsNowhere uri → ⊥
 elsewhere uri path rest is other alone path_is text nowhere =
-    nowhere path (inr ((λ inner inner_is. not_stripped (codes "work/") rest inner other
-    (append_cancel_left (codes "file:///") rest (codes "work/" ++ inner) (sym is ∙ inner_is))), (rest, is, alone, path_is))) text
+    nowhere path (inr (
+      (λ inner inner_is. not_stripped (codes "work/") rest inner other
+          (append_cancel_left (codes "file:///") rest (codes "work/" ++ inner) (sym is ∙ inner_is))),
+      (rest, is, alone, path_is),
+    )) text
 
 pub leads_somewhere : (start : Start) (uri path : List ℕ) → IsPathFrom start uri (Some path) → IsUtf8 path → IsNowhere uri → ⊥
 leads_somewhere Work uri path names text nowhere = nowhere path names text

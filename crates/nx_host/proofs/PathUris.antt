@@ -123,10 +123,15 @@ leads_back_by folder word path rest other is begins small =
     let path_is : plain_path folder word ≡ codes "/" ++ percent_decode (flat_map written rest) =
     is ∙ begins ∙ ap (λ (r : List ℕ). 47 ∷ r) (sym (decoded rest bytes)) in
     record {
-      names = (flat_map written rest, uri_is, (
-        (λ has. (All-contains IsUriByte (flat_map written rest) 63 (all_written rest) has).1 refl),
-        (λ has. (All-contains IsUriByte (flat_map written rest) 35 (all_written rest) has).2 refl),
-      ), path_is);
+      names = (
+        flat_map written rest,
+        uri_is,
+        (
+          (λ has. (All-contains IsUriByte (flat_map written rest) 63 (all_written rest) has).1 refl),
+          (λ has. (All-contains IsUriByte (flat_map written rest) 35 (all_written rest) has).2 refl),
+        ),
+        path_is,
+      );
       alone = λ found (tail, tail_is, tail_alone, found_is).
           let same : tail ≡ flat_map written rest = append_cancel_left (codes "file:///") tail (flat_map written rest) (sym tail_is ∙ uri_is) in
           found_is ∙ ap (λ (r : List ℕ). codes "/" ++ percent_decode r) same ∙ sym path_is;

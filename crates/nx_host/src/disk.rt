@@ -16,7 +16,11 @@ use nx_base::sequence::Bytes;
 use std::alloc::Global;
 use std::io::ErrorKind;
 use std::marker::Model;
+use std::os::unix::fs::MetadataExt;
 use std::{fs, io, rt};
+
+/// The path of the process's standard output.
+const STANDARD_OUTPUT: &str = "/dev/stdout";
 
 /// The files of the disk. `file:///Y` is the path `/Y`, percent-decoded; those that `new` makes take `file:///work/X` for the relative
 /// path X. A URI with a query or a fragment names no file. A store puts a new file in
@@ -88,7 +92,7 @@ impl<'a, R> DiskFiles<'a, R> {
     }
 }
 
-impl<R: rt::Files> Files for DiskFiles<'_, R> {
+impl<R: rt::Files + Print> Files for DiskFiles<'_, R> {
     ghost told = { no_map };
 
     ghost faults = { λ d. d };
@@ -147,12 +151,7 @@ fn read_file<R: rt::Files>(
 }
 
 /// Whether the URI names something that is there and is no folder.
-fn has_file<R: rt::Files>(
-    rt: &R,
-    start: Start,
-    alloc: Global,
-    uri: &str,
-) -> Result<bool, FileFault>
+fn has_file<R: rt::Files>(rt: &R, start: Start, alloc: Global, uri: &str) -> Result<bool, FileFault>
     ensures { IsNowhere uri.now → FindsNothing result }
 {
     match path_from(start, alloc, uri)? {
@@ -162,7 +161,7 @@ fn has_file<R: rt::Files>(
 }
 
 /// Puts the bytes into the file that the URI names, in place of what was in it.
-fn write_file<R: rt::Files>(
+fn write_file<R: rt::Files + Print>(
     rt: &R,
     start: Start,
     alloc: Global,
@@ -195,15 +194,28 @@ fn has_path<R: rt::Files>(rt: &R, path: &str) -> Result<bool, FileFault> {
     }
 }
 
-/// Puts the bytes into the file at the path, in place of what was in it.
-fn write_path<R: rt::Files>(
+/// Puts the bytes into the file at the path, in place of what was in it. Where that is the file of the process's standard output,
+/// as `/dev/stdout` is, they are written there behind what was, so that nothing is lost of either.
+fn write_path<R: rt::Files + Print>(
     rt: &R,
     alloc: Global,
     path: &str,
     bytes: &[u8],
 ) -> Result<(), FileFault> {
-    put(rt, alloc, path, bytes)?;
+    if is_standard_output(rt, path) {
+        write_whole(&mut io::writer(rt), bytes)?;
+    } else {
+        put(rt, alloc, path, bytes)?;
+    }
     Ok(())
+}
+
+/// Whether the path leads to the file that the process writes its standard output to.
+fn is_standard_output<R: rt::Files>(rt: &R, path: &str) -> bool {
+    match (fs::metadata(rt, path), fs::metadata(rt, STANDARD_OUTPUT)) {
+        (Ok(named), Ok(own)) => named.dev() == own.dev() && named.ino() == own.ino(),
+        _ => false,
+    }
 }
 
 /// Standard output. To a contract it is its count of faults.

@@ -19,11 +19,7 @@ pub(crate) enum Start {
 }
 
 /// The path that the URI names where paths begin there; none where it names none that is a text.
-pub(crate) fn path_from(
-    start: Start,
-    alloc: Global,
-    uri: &str,
-) -> Result<Option<String>, NoMemory>
+pub(crate) fn path_from(start: Start, alloc: Global, uri: &str) -> Result<Option<String>, NoMemory>
     ensures { IfOk result (λ named. IsPathFrom start uri.now (option_map string_bytes named)) }
 {
     match start {

@@ -17,15 +17,23 @@ const OWNER_ALONE: u32 = 0o600;
 const EVERYBODY: u32 = 0o666;
 
 /// Puts the bytes into the file at the path. A regular file, and one that isn't there yet, is made beside
-/// its place and takes it when it is whole. What is no regular file, as a terminal, and a link that leads
-/// to nothing are written where they are.
+/// its place and takes it when it is whole. What is no regular file, as a terminal, a file that is reached by
+/// a name that the system makes for it, and a link that leads to nothing are written where they are.
 pub(crate) fn put<R: rt::Files>(rt: &R, alloc: Global, path: &str, bytes: &[u8]) -> io::Result<()> {
     match fs::metadata(rt, path) {
-        Ok(there) if there.is_file() => put_over(rt, alloc, path, bytes),
+        Ok(there) if there.is_file() && !is_of_system(path) => put_over(rt, alloc, path, bytes),
         Ok(_) => put_in_place(rt, path, bytes),
         Err(error) if error.kind() == ErrorKind::NotFound => put_new(rt, alloc, path, bytes),
         Err(error) => Err(error),
     }
+}
+
+/// Whether the path is one of those that the system makes, as `/dev/fd/3`: what it leads to is open, and a new file in its place
+/// would be nobody's.
+fn is_of_system(path: &str) -> bool {
+    ["/dev/", "/proc/"]
+        .iter()
+        .any(|folder| path.starts_with(*folder))
 }
 
 /// Puts the bytes in the place of a regular file, or of the one that a link leads to. The new file has
