@@ -2,6 +2,7 @@
 
 use nx_base::character::{is_name, is_nc_name};
 use nx_base::character_code::{char_of_code, code_of_digits};
+use nx_base::detail::Detail;
 use nx_base::edit::{Edit, moved};
 use nx_base::equal::Equal;
 use nx_base::fault::{Fault, Faults, Kind, Span};
@@ -9,6 +10,7 @@ use nx_base::memory::NoMemory;
 use nx_base::name::{Name, Names};
 use nx_base::offer::{Offer, OfferList};
 use nx_base::sequence::{Bytes, Sequence, TryCopy};
+use nx_base::shared_bytes::SharedBytes;
 use std::alloc::Global;
 
 fn bytes_of(alloc: Global, text: &str) -> Result<Bytes, NoMemory> {
@@ -176,7 +178,7 @@ fn one_fault(alloc: Global) -> Result<Faults, NoMemory> {
     faults.push(Fault {
         span: Span { from: 2, to: 7 },
         kind: Kind::Unknown,
-        detail: bytes_of(alloc, "x")?,
+        detail: Detail::of(bytes_of(alloc, "x")?)?,
     })?;
     Ok(faults)
 }
@@ -192,7 +194,7 @@ fn is_shifted(fault: Option<&Fault>) -> bool {
         Some(fault) => {
             fault.span == Span { from: 2, to: 10 }
                 && fault.kind == Kind::Unknown
-                && fault.detail.as_slice() == b"x".as_slice()
+                && fault.detail.pieces().0 == b"x".as_slice()
         }
         None => false,
     }
@@ -209,6 +211,39 @@ fn are_shifted(faults: Result<Faults, NoMemory>) -> bool {
 fn edits_move_places_and_faults(rt: HostRuntime) {
     assert!(rt; are_moved());
     assert!(rt; are_shifted(shifted(rt.alloc())));
+}
+
+// A detail of these two pieces.
+fn pieces(alloc: Global, front: &str, end: &str) -> Result<Detail, NoMemory> {
+    Detail::with_end(
+        bytes_of(alloc, front)?,
+        SharedBytes::of(bytes_of(alloc, end)?)?,
+    )
+}
+
+// Whether two details of two pieces each are equal, and so are a copy of the first and the second.
+fn are_equal(alloc: Global, a: (&str, &str), b: (&str, &str)) -> Result<bool, NoMemory> {
+    let one = pieces(alloc, a.0, a.1)?;
+    let other = pieces(alloc, b.0, b.1)?;
+    Ok(one.equals(&other) && other.equals(&one.copy()?))
+}
+
+fn is_equal(alloc: Global, a: (&str, &str), b: (&str, &str)) -> bool {
+    are_equal(alloc, a, b) == Ok(true)
+}
+
+fn are_joined(alloc: Global) -> bool {
+    is_equal(alloc, ("a needs", " b c"), ("a needs b", " c"))
+        && is_equal(alloc, ("abc", ""), ("", "abc"))
+        && is_equal(alloc, ("", ""), ("", ""))
+        && !is_equal(alloc, ("ab", "c"), ("ab", "d"))
+        && !is_equal(alloc, ("ab", "c"), ("abc", "d"))
+        && !is_equal(alloc, ("ab", ""), ("", "abc"))
+}
+
+#[test]
+fn details_are_their_pieces_joined(rt: HostRuntime) {
+    assert!(rt; are_joined(rt.alloc()));
 }
 
 // Whether a text is a name or not, and one without a colon or not.

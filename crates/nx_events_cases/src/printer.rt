@@ -64,7 +64,9 @@ impl Printer {
         if write!(self.told, "{kind:?} ").is_err() {
             self.is_whole = false;
         }
-        self.text(fault.detail.as_slice());
+        let (front, end) = fault.detail.pieces();
+        self.text(front);
+        self.text(end);
         self.word(";");
     }
 

@@ -1,7 +1,7 @@
+use nx_base::detail::Detail;
 use nx_base::edit::Edit;
 use nx_base::fault::{Fault, Faults, Kind, Span};
 use nx_base::memory::NoMemory;
-use nx_base::sequence::Bytes;
 use nx_views::numbered::close_at;
 use nx_views::pane::{FaultPane, LimitedPane, RefusingPane};
 use nx_views::refresh::refresh;
@@ -48,7 +48,7 @@ fn faults_at(alloc: Global, places: &str) -> Result<Faults, NoMemory> {
             faults.push(Fault {
                 span: Span { from, to: from + 1 },
                 kind: Kind::BadMarkup,
-                detail: Bytes::new(alloc),
+                detail: Detail::new(),
             })?;
         }
     }

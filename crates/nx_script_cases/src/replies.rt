@@ -1,6 +1,7 @@
 ghost use Rattle.std.specs.Prelude.{ℕ, List, Option, None};
 
 use nx_base::cause::Cause;
+use nx_base::detail::Detail;
 use nx_base::fault::{Fault, Faults, Kind, Span};
 use nx_base::locate_fault::LocateFault;
 use nx_base::memory::NoMemory;
@@ -43,12 +44,12 @@ fn faults(alloc: Global) -> Result<Faults, NoMemory> {
     faults.push(Fault {
         span: Span { from: 3, to: 14 },
         kind: Kind::BadName,
-        detail: bytes_of(alloc, "é \n\u{7f}\\\u{80}")?,
+        detail: Detail::of(bytes_of(alloc, "é \n\u{7f}\\\u{80}")?)?,
     })?;
     faults.push(Fault {
         span: Span { from: 0, to: 0 },
         kind: Kind::NoRoot,
-        detail: Bytes::new(alloc),
+        detail: Detail::new(),
     })?;
     Ok(faults)
 }
@@ -162,6 +163,45 @@ fn faults_are_listed(rt: HostRuntime) {
     assert!(rt; prints_no_faults(rt.alloc()));
     assert!(rt; prints_faults(rt.alloc(), "errors: 2\n"));
     assert!(rt; prints_faults(rt.alloc(), "view 1: 2\n"));
+}
+
+/// This many faults without a detail, each of no bytes at the start.
+fn many_faults(alloc: Global, count: u64) -> Result<Faults, NoMemory> {
+    let mut faults = Faults::new(alloc);
+    for _ in 0..count {
+        faults.push(Fault {
+            span: Span { from: 0, to: 0 },
+            kind: Kind::NoRoot,
+            detail: Detail::new(),
+        })?;
+    }
+    Ok(faults)
+}
+
+/// How a list of so many of them prints.
+fn many_lines(alloc: Global, count: u64) -> Option<String> {
+    let mut text = format!(in alloc; "errors: {count}\n").ok()?;
+    for _ in 0..count {
+        text.push_str("0-0 NoRoot\n").ok()?;
+    }
+    Some(text)
+}
+
+/// Whether a list of so many faults prints in so many writes.
+fn prints_many(alloc: Global, count: u64, writes: u64) -> bool {
+    match (many_faults(alloc, count), many_lines(alloc, count)) {
+        (Ok(faults), Some(want)) => prints(alloc, &Reply::Errors(faults), want.as_str(), writes),
+        _ => false,
+    }
+}
+
+/// At most 64 lines are written at once.
+#[test]
+fn long_lists_are_written_in_parts(rt: HostRuntime) {
+    let alloc = rt.alloc();
+    assert!(rt; prints_many(alloc, 64, 1));
+    assert!(rt; prints_many(alloc, 65, 2));
+    assert!(rt; prints_many(alloc, 200, 4));
 }
 
 const OFFER_LINES: &str =

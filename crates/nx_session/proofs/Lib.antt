@@ -6,6 +6,7 @@ pub mod Counting
 pub mod Edited
 pub mod Filing
 pub mod Finishing
+pub mod FilesGrammar
 pub mod Fitness
 pub mod Holding
 pub mod Locating

@@ -6,8 +6,9 @@ ghost use Rattle.nx_session.specs.Marks.{OneEditTakesFew};
 ghost use Rattle.nx_session.specs.Rereading.{RereadingSameEventsTakesFew, RereadingTakesFew};
 ghost use Rattle.nx_session.specs.Step.{RefusalsLeaveTheDocument};
 ghost use Rattle.nx_session.specs.TagFaults.{TagsTouchFewFaults};
-ghost use Rattle.nx_session.specs.Validity.{NoErrorsIsValid};
+ghost use Rattle.nx_session.specs.Validity.{NoErrorsIsValid, NoErrorsIsValidForFiles};
 
+use nx_document::law::documents_are_writable;
 use nx_host::uri::joins_is_decided;
 use nx_recovery::law::{recovery_is_one, same_events_have_item_faults};
 use nx_scan::border::tokens_join;
@@ -48,6 +49,15 @@ pub fn allowed_lines_are_done()
 pub fn no_errors_is_valid()
     ensures { NoErrorsIsValid }
 {}
+
+/// Where the schema that is held is what can be used of a grammar that files define, `errors` lists no fault exactly where the text is a
+/// well-formed document which that grammar matches as the files define it; unless there was no memory to list any.
+pub fn no_errors_is_valid_for_files()
+    ensures { NoErrorsIsValidForFiles }
+{
+    documents_are_writable();
+    no_errors_is_valid();
+}
 
 /// Where the faults of a text are all of elements that aren't closed, a `finish` at its end that is done leaves one fewer; and where it has
 /// none, a `rename` to a name that resolves to the same leaves none.

@@ -86,7 +86,9 @@ pub(crate) fn tell_fault(told: &mut String, fault: &Fault) -> Result<(), Fail> {
     )?;
     if !fault.detail.is_empty() {
         told.push(' ')?;
-        told.push_str(words_in(fault.detail.as_slice()))?;
+        let (front, end) = fault.detail.pieces();
+        told.push_str(words_in(front))?;
+        told.push_str(words_in(end))?;
     }
     Ok(())
 }

@@ -63,12 +63,7 @@ impl Session {
     }
 
     /// Edits these bytes under this URI, as `url` prints it, from now on. Bytes that are no text are refused.
-    pub fn hold_text(
-        &mut self,
-        uri: Bytes,
-        bytes: Bytes,
-        views: &mut Vec<Box<dyn View>>,
-    ) -> Reply
+    pub fn hold_text(&mut self, uri: Bytes, bytes: Bytes, views: &mut Vec<Box<dyn View>>) -> Reply
         requires { IsAscii uri }
         ensures step { OpensBytes uri bytes self.old.editor result self.new.editor }
         ensures marks { EditsMarks (whole_edit self.old.editor self.new.editor) self.old result self.new }
