@@ -3,6 +3,7 @@ pub mod Cutting
 pub mod Elements
 pub mod Giving
 pub mod Making
+pub mod Named
 pub mod RuleItems
 pub mod RuleTexts
 pub mod Spellings

@@ -26,7 +26,7 @@ pub either : {A : Type 0} (P : A → Type 0) (b : Bool) (x y : A) → P x → P 
 either P true x y px py = px
 either P false x y px py = py
 
-value_text : (local : List ℕ) (all : List Item) → ItemsAreText all → IsTextIfGiven (value_among local all)
+pub value_text : (local : List ℕ) (all : List Item) → ItemsAreText all → IsTextIfGiven (value_among local all)
 unfolding value_among
 value_text local [] h = tt
 value_text local (items.Event (Att name value) span ∷ more) h =

@@ -6,6 +6,8 @@ pub mod DocumentElements
 pub mod Leading
 pub mod Locates
 pub mod Unambiguous
+-- ---- the schema that a document names itself: what `named_schema` answers, and `is_fault` and `value_among` of RulesRead
+pub mod NamedSchemas
 -- ---- what private contracts and proofs cite
 pub mod Answering
 pub mod ElementsFound

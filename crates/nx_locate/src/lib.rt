@@ -30,6 +30,8 @@ mod read;
 pub mod rule;
 mod rules_file;
 mod uri_pattern;
+pub mod xml_model;
 
 pub use locating::locate;
 pub use nx_base::locate_fault::LocateFault;
+pub use xml_model::named_schema;

@@ -100,7 +100,7 @@ fn attribute_in(item: &Item) -> Option<Attribute<'_>>
 }
 
 /// A copy of the value of the attribute with this name, among the attributes with which the items begin.
-fn value(tag: &[Item], local: &[u8]) -> Result<Option<Bytes>, NoMemory>
+pub(crate) fn value(tag: &[Item], local: &[u8]) -> Result<Option<Bytes>, NoMemory>
     ensures { IfOk result (λ found. found ≡ value_among local.now tag.now) }
 {
     let mut rest = tag;

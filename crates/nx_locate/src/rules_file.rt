@@ -28,7 +28,7 @@ use std::alloc::Global;
 use std::sync::ledger::Ledger;
 
 /// The bytes as a text.
-fn as_text(alloc: Global, bytes: &str) -> Result<Text, NoMemory>
+pub(crate) fn as_text(alloc: Global, bytes: &str) -> Result<Text, NoMemory>
     ensures { IfOk result (λ text. text ≡ bytes.now) }
 {
     let mut text = Text::new(alloc);
@@ -65,7 +65,11 @@ fn all_tokens<L: Ledger>(
 }
 
 /// What the text holds, read without a schema.
-fn all_items<L: Ledger>(alloc: Global, text: &Text, steps: &mut Steps<L>) -> Result<Items, NoMemory>
+pub(crate) fn all_items<L: Ledger>(
+    alloc: Global,
+    text: &Text,
+    steps: &mut Steps<L>,
+) -> Result<Items, NoMemory>
     ensures items { IfOk result (λ items. items ≡ items_of_text text.now) }
     ensures texts { IfOk result ItemsAreText }
     ensures steps { steps.old ≤ steps.new }
