@@ -13,6 +13,7 @@ use nx_base::name::Names;
 use nx_base::sequence::TryCopy;
 use nx_base::steps::Steps;
 use nx_base::token::{Token, TokenKind};
+use nx_events::declares;
 use nx_events::in_force::scope;
 use nx_events::reader::{begin, take};
 use nx_scan::border::{tokens_are_of_kind, tokens_fit, tokens_go_on};
@@ -69,12 +70,15 @@ fn as_start(token: &Token) -> Result<Token, NoMemory>
     })
 }
 
-/// The own declarations of a tag: those in force behind a start tag of its bytes that stands alone.
-#[tactic(auto, using(crate::proofs::Declaring::own_are))]
+/// The own declarations of a tag: those in force behind a start tag of its bytes that stands alone. Most tags have none.
+#[tactic(auto, using(crate::proofs::Declaring::own_are, crate::proofs::Declaring::none_are))]
 fn own_of(alloc: Global, tag: &Token) -> Result<Names, NoMemory>
     requires { tag.now.from + length tag.now.bytes < 2 ^ 64 }
     ensures { IfOk result (λ own. own ≡ pairs_of (own_bindings tag.now)) }
 {
+    if !declares(alloc, tag)? {
+        return Ok(Names::new(alloc));
+    }
     let start = as_start(tag)?;
     let mut state = begin(alloc)?;
     take(alloc, &mut state, &start)?;
