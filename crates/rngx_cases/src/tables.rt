@@ -63,6 +63,14 @@ pub(crate) const SCHEMAS: &str =
 <group @ xmlns:p="v"><attribute name="p:a" xmlns:p="w"/><attribute name="p:a"/></group>
 => (,attribute {w}a(text),attribute {v}a(text))
 
+<group @ xmlns:p0="u0" xmlns:p1="u1" xmlns:p2="u2" xmlns:p3="u3" xmlns:p4="u4" xmlns:p5="u5" xmlns:p6="u6" xmlns:p7="u7" xmlns:p8="u8"
+xmlns:p9="u9" xmlns:p10="u10" xmlns:p11="u11" xmlns:p12="u12" xmlns:p13="u13" xmlns:p14="u14" xmlns:p15="u15" xmlns:p16="u16"
+xmlns:p17="u17" xmlns:p18="u18" xmlns:p19="u19" xmlns:p20="u20" xmlns:p21="u21" xmlns:p22="u22" xmlns:p23="u23" xmlns:p24="u24"
+xmlns:p25="u25" xmlns:p26="u26" xmlns:p27="u27" xmlns:p28="u28" xmlns:p29="u29" xmlns:p30="u30" xmlns:p31="u31" xmlns:p32="u32"
+xmlns:p33="u33">
+<attribute name="p0:a"/><attribute name="p33:a" xmlns:p33="v"/><attribute name="p33:a"/></group>
+=> (,attribute {u0}a(text),attribute {v}a(text),attribute {u33}a(text))
+
 <attribute name="p:a" @/>
 => UndeclaredPrefix 'p'
 
