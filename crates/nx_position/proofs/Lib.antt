@@ -1,0 +1,4 @@
+pub mod Changing
+pub mod CodeUnits
+pub mod Lines
+pub mod Steps
