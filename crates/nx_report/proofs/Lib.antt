@@ -1,0 +1,4 @@
+pub mod Plain
+pub mod Listing
+pub mod Words
+pub mod Shown

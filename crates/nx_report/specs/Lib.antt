@@ -1,0 +1,9 @@
+pub mod Causes
+pub mod Expected
+pub mod Kinds
+pub mod Lines
+pub mod Lists
+pub mod Names
+pub mod Printed
+pub mod Sentences
+pub mod Words
