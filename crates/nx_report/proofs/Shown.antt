@@ -1,7 +1,7 @@
 -- No control character is in a report, but the line feed at its end.
-use Rattle.std.proofs.Common.{◌≡◌, ◌∙◌, ◌⊎◌, inl, inr, ℕ, zero, suc, ◌+◌, ◌<◌, ◌≤◌, ◌/◌, ◌%◌, Bool, true, false, cond, not, List, [], ◌∷◌, ◌++◌, length, take, drop, map}
+use Rattle.std.proofs.Common.{◌≡◌, ◌∙◌, ◌⊎◌, inl, inr, ℕ, zero, suc, ◌+◌, ◌<◌, ◌≤◌, ◌/◌, ◌%◌, Bool, true, false, cond, not, List, [], ◌∷◌, ◌++◌, length, take, map}
 use Rattle.std.proofs.Common.{refl, sym, ap, arith, append_assoc, eqb-true, ◌-◌}
-use Rattle.std.specs.Prelude.{nat_lt, ◌==◌, ◌&&◌, ◌||◌, if◌then◌else◌, codes, Option, None, Some}
+use Rattle.std.specs.Prelude.{◌==◌, ◌&&◌, ◌||◌, if◌then◌else◌, codes, Option, None, Some}
 use Rattle.std.specs.Fmt.{digits, digits_onto, digit_glyph, decimal}
 use Rattle.std.specs.List.{list_all, flat_map}
 use Rattle.std.specs.Str.{bytes_eq}
@@ -10,7 +10,6 @@ use Rattle.std.proofs.lemmas.List.Folds.{list_all-append}
 use Rattle.nx_base.specs.PrintedNames.{name_text}
 use Rattle.nx_base.specs.declared.cause.Cause.{Cause}
 use Rattle.nx_base.specs.declared.cause.Cause.TheVariants as causes
-use Rattle.nx_base.specs.declared.fault.Fault.{Fault}
 use Rattle.nx_base.specs.declared.fault.Kind.{Kind}
 use Rattle.nx_base.specs.declared.fault.Kind.TheVariants as kinds
 use Rattle.nx_base.specs.declared.offer.Offer.{Offer}
@@ -28,7 +27,7 @@ use Rattle.nx_report.specs.Expected.{of_namespace, offer_text, expected_text}
 use Rattle.nx_report.specs.Kinds.{kind_name}
 use Rattle.nx_report.specs.Sentences.{element_name, needs, lacking, wrong_value, sentence_of}
 use Rattle.nx_report.specs.Causes.{cause_text, trouble_text, about_text}
-use Rattle.nx_report.specs.Lines.{severity_word, place_text, head, errors_word, fault_line, summary_line, trouble_line, message_line, is_shown, IsOneLine, LinesAreOneLine}
+use Rattle.nx_report.specs.Lines.{severity_word, place_text, head, errors_word, is_shown, IsOneLine, LinesAreOneLine}
 
 abbrev Shown : List ℕ → Type 0
 Shown text = list_all is_shown text ≡ true
@@ -320,25 +319,25 @@ one_line front is = record { front = front; whole = refl; shown = is }
 pub lines_are : LinesAreOneLine
 lines_are = record {
   faults = λ name place fault expected.
-  let start = head name (Some place) severities.Error ++ sentence_of fault.kind fault.detail expected ++ codes " [" ++ kind_name fault.kind in
-  record {
-    front = start ++ codes "]";
-    whole = sym (append_assoc start (codes "]") (codes "\n"));
-    shown = both start (codes "]")
-    (both (head name (Some place) severities.Error ++ sentence_of fault.kind fault.detail expected ++ codes " [") (kind_name fault.kind)
-    (both (head name (Some place) severities.Error ++ sentence_of fault.kind fault.detail expected) (codes " [")
-    (both (head name (Some place) severities.Error) (sentence_of fault.kind fault.detail expected) (head_shown name (Some place) severities.Error)
-    (sentence_shown fault.kind fault.detail expected)) refl) (kind_shown fault.kind)) refl;
-  };
+      let start = head name (Some place) severities.Error ++ sentence_of fault.kind fault.detail expected ++ codes " [" ++ kind_name fault.kind in
+      record {
+        front = start ++ codes "]";
+        whole = sym (append_assoc start (codes "]") (codes "\n"));
+        shown = both start (codes "]")
+            (both (head name (Some place) severities.Error ++ sentence_of fault.kind fault.detail expected ++ codes " [") (kind_name fault.kind)
+            (both (head name (Some place) severities.Error ++ sentence_of fault.kind fault.detail expected) (codes " [")
+            (both (head name (Some place) severities.Error) (sentence_of fault.kind fault.detail expected) (head_shown name (Some place) severities.Error)
+            (sentence_shown fault.kind fault.detail expected)) refl) (kind_shown fault.kind)) refl;
+      };
   summaries = λ name count.
-  one_line (printed_text name ++ codes ": " ++ decimal count ++ errors_word count)
-  (both (printed_text name ++ codes ": " ++ decimal count) (errors_word count)
-  (both (printed_text name ++ codes ": ") (decimal count) (both (printed_text name) (codes ": ") (printed_shown name) refl) (decimal_shown count)) (errors_shown count));
+      one_line (printed_text name ++ codes ": " ++ decimal count ++ errors_word count)
+      (both (printed_text name ++ codes ": " ++ decimal count) (errors_word count)
+      (both (printed_text name ++ codes ": ") (decimal count) (both (printed_text name) (codes ": ") (printed_shown name) refl) (decimal_shown count)) (errors_shown count));
   troubles = λ name place trouble told.
-  one_line (head name place severities.Error ++ trouble_text trouble ++ about_text told)
-  (both (head name place severities.Error ++ trouble_text trouble) (about_text told)
-  (both (head name place severities.Error) (trouble_text trouble) (head_shown name place severities.Error) (trouble_shown trouble)) (about_shown told));
+      one_line (head name place severities.Error ++ trouble_text trouble ++ about_text told)
+      (both (head name place severities.Error ++ trouble_text trouble) (about_text told)
+      (both (head name place severities.Error) (trouble_text trouble) (head_shown name place severities.Error) (trouble_shown trouble)) (about_shown told));
   messages = λ name place severity told.
-  one_line (head name place severity ++ printed_text told)
-  (both (head name place severity) (printed_text told) (head_shown name place severity) (printed_shown told));
+      one_line (head name place severity ++ printed_text told)
+      (both (head name place severity) (printed_text told) (head_shown name place severity) (printed_shown told));
 }

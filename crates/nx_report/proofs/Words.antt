@@ -1,12 +1,12 @@
 -- The words of a detail, one after another.
-use Rattle.std.proofs.Common.{◌≡◌, ◌∙◌, ℕ, suc, ◌+◌, ◌<◌, ◌≤◌, Bool, true, false, cond, not, List, [], ◌∷◌, ◌++◌, length, take, drop, map, refl, sym, ap, arith}
+use Rattle.std.proofs.Common.{◌≡◌, ◌∙◌, ℕ, suc, ◌+◌, ◌<◌, ◌≤◌, Bool, true, false, cond, List, [], ◌∷◌, ◌++◌, length, take, drop, map, refl, sym, ap, arith}
 use Rattle.std.specs.Prelude.{nat_lt, codes}
 use Rattle.std.proofs.lemmas.List.{length-drop}
 use Rattle.nx_report.specs.Lists.{introduced}
 use Rattle.nx_report.specs.Names.{quoted_name}
 use Rattle.nx_report.specs.Sentences.{lacking}
 use Rattle.nx_report.proofs.Listing.{told_from, begun, further}
-use Rattle.nx_report.specs.Words.{ends_word, in_braces_behind, word_len, onto, words_in, words, first_word, behind_word, words_behind, needed_words}
+use Rattle.nx_report.specs.Words.{ends_word, in_braces_behind, word_len, onto, words_in, words, first_word, behind_word, words_behind}
 
 -- a word ends with a space or the text
 parted : (in_braces : Bool) (text : List ℕ)

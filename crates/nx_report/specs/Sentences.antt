@@ -38,10 +38,10 @@ sentence_of kinds.BadText detail expected = codes "\"]]>\" may not stand in text
 sentence_of kinds.BadComment detail expected = codes "a comment may neither hold \"--\" nor end with \"-\" in front of its end"
 sentence_of kinds.BadPi detail expected =
     codes "a processing instruction begins with a name that has no \":\" and isn't \"xml\", with a space behind it"
-sentence_of kinds.BadDecl detail expected = codes "the XML declaration isn't of its form, or names an encoding other than UTF-8"
+sentence_of kinds.BadDecl detail expected = codes "the XML declaration isn't of its form, or names an encoding other than UTF-8 and US-ASCII"
 sentence_of kinds.Unclosed detail expected = codes "this has no end"
 sentence_of kinds.Misplaced detail expected =
-    codes "an XML declaration may stand at the very start of a document only, and a document type in front of its root"
+    codes "an XML declaration may stand at the very start of a document only, and one document type in front of its root"
 sentence_of kinds.TextOutside detail expected = codes "text may not stand outside of the root element"
 sentence_of kinds.MissingEnd detail expected = codes "element " ++ quoted detail ++ codes " has no end tag: that of an element around it stands first"
 sentence_of kinds.ExtraEnd detail expected = codes "no element " ++ quoted detail ++ codes " is open that this tag could end"

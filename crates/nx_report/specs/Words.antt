@@ -1,5 +1,5 @@
 -- The words of a detail: names as they print, and `needs`, with a space between them.
-use Rattle.std.specs.Prelude.{ℕ, ◌+◌, Bool, true, false, ◌==◌, not, ◌&&◌, cond, List, [], ◌∷◌, take, drop}
+use Rattle.std.specs.Prelude.{ℕ, ◌+◌, Bool, false, ◌==◌, not, ◌&&◌, cond, List, [], ◌∷◌, take, drop}
 
 -- a space between words, and none in the braces of a namespace
 abbrev pub ends_word : Bool → ℕ → Bool

@@ -23,7 +23,8 @@ pub(crate) fn cause_text(cause: Cause) -> &'static str
         Cause::IncludeLoop => "a file refers to itself, perhaps through others",
         Cause::NoDefinition => "a name is referred to or overridden that has no definition",
         Cause::NoStart => "the grammar has no start",
-        Cause::CombineClash => "definitions of one name don't say how they are combined, or say it in two ways",
+        Cause::CombineClash =>
+            "definitions of one name don't say how they are combined, or say it in two ways",
         Cause::RefLoop => "a definition leads back to itself without an element between",
         Cause::BadExcept => "a wildcard is excepted from a wildcard",
         Cause::XmlnsName => "a name is used that belongs to the declaration of namespaces",
@@ -33,7 +34,8 @@ pub(crate) fn cause_text(cause: Cause) -> &'static str
         Cause::BadParam => "the value of a datatype's parameter isn't of its form",
         Cause::BadValue => "a value isn't one of its datatype",
         Cause::TooManyExcepts => "more than 128 values are excepted at once",
-        Cause::UnsupportedExcept => "from a datatype something is excepted that isn't a choice of its values",
+        Cause::UnsupportedExcept =>
+            "from a datatype something is excepted that isn't a choice of its values",
         Cause::Path => "a pattern stands in one in which it may not stand",
         Cause::Mixture => "data or a value stands beside elements or text",
         Cause::AttributeOverlap => "two attributes of one element can have the same name",

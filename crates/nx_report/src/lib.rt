@@ -15,5 +15,7 @@ mod name;
 mod printed;
 pub mod sentence;
 pub mod severity;
+#[cfg(test)]
+mod tests;
 pub mod trouble;
 mod word;

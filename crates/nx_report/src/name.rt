@@ -16,10 +16,7 @@ fn local_len(name: &[u8]) -> usize
     ensures len { result ≡ suffix_len is_no_brace name.now }
     ensures bound { result ≤ length name.now }
 {
-    name.iter()
-        .rev()
-        .take_while(|byte| **byte != b'}')
-        .count()
+    name.iter().rev().take_while(|byte| **byte != b'}').count()
 }
 
 /// A name's namespace in its braces, which is nothing where it has none, and its local part.

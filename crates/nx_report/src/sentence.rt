@@ -65,12 +65,12 @@ fn push_sentence_of(
         ),
         Kind::BadDecl => push_words(
             out,
-            "the XML declaration isn't of its form, or names an encoding other than UTF-8",
+            "the XML declaration isn't of its form, or names an encoding other than UTF-8 and US-ASCII",
         ),
         Kind::Unclosed => push_words(out, "this has no end"),
         Kind::Misplaced => push_words(
             out,
-            "an XML declaration may stand at the very start of a document only, and a document type in front of its root",
+            "an XML declaration may stand at the very start of a document only, and one document type in front of its root",
         ),
         Kind::TextOutside => push_words(out, "text may not stand outside of the root element"),
         Kind::MissingEnd => push_about(
@@ -81,7 +81,13 @@ fn push_sentence_of(
             " has no end tag: that of an element around it stands first",
         ),
         Kind::ExtraEnd => {
-            push_about(alloc, out, "no element ", detail, " is open that this tag could end")
+            push_about(
+                alloc,
+                out,
+                "no element ",
+                detail,
+                " is open that this tag could end",
+            )
         }
         Kind::UnclosedElement => push_about(alloc, out, "element ", detail, " has no end tag"),
         Kind::SecondRoot => push_about(
@@ -101,7 +107,13 @@ fn push_sentence_of(
         ),
         Kind::UndeclaredPrefix => push_undeclared(alloc, out, detail),
         Kind::DuplicateAttribute => {
-            push_about(alloc, out, "attribute ", detail, " stands twice in this tag")
+            push_about(
+                alloc,
+                out,
+                "attribute ",
+                detail,
+                " stands twice in this tag",
+            )
         }
         Kind::BadBinding => push_about(alloc, out, "", detail, " may not declare this namespace"),
         Kind::Unknown => push_unknown(alloc, out, detail),
@@ -133,7 +145,7 @@ fn push_about(
 /// Adds that a prefix isn't declared.
 fn push_undeclared(alloc: Global, out: &mut Vec<u8>, prefix: &[u8]) -> Result<(), NoMemory>
     ensures { OnOk result (out.new.items ≡ out.old.items
-            ++ (codes "prefix " ++ quoted prefix.now ++ codes " isn't declared, by an attribute \"xmlns:" ++ printed_text prefix.now ++ codes "\"")) }
+        ++ (codes "prefix " ++ quoted prefix.now ++ codes " isn't declared, by an attribute \"xmlns:" ++ printed_text prefix.now ++ codes "\"")) }
 {
     push_about(
         alloc,
@@ -170,7 +182,7 @@ fn push_not_allowed(
     expected: &[Offer],
 ) -> Result<(), NoMemory>
     ensures { OnOk result (out.new.items ≡ out.old.items ++ (codes "element " ++ element_name name.now ++ codes " may not stand here"
-            ++ expected_text (codes "; here may stand ") (namespace_of name.now) (codes "element") expected.now)) }
+        ++ expected_text (codes "; here may stand ") (namespace_of name.now) (codes "element") expected.now)) }
 {
     push_element(alloc, out, name)?;
     push_words(out, " may not stand here")?;
@@ -192,7 +204,7 @@ fn push_unknown_attribute(
     expected: &[Offer],
 ) -> Result<(), NoMemory>
     ensures { OnOk result (out.new.items ≡ out.old.items ++ (codes "attribute " ++ quoted_name [] name.now ++ codes " may not stand here"
-            ++ expected_text (codes "; here may stand ") [] (codes "attribute") expected.now)) }
+        ++ expected_text (codes "; here may stand ") [] (codes "attribute") expected.now)) }
 {
     push_words(out, "attribute ")?;
     push_quoted_name(alloc, out, b"", name)?;
@@ -227,7 +239,7 @@ fn push_bad_value(
     expected: &[Offer],
 ) -> Result<(), NoMemory>
     ensures { OnOk result (out.new.items ≡ out.old.items
-            ++ (wrong_value name.now ++ expected_text (codes "; it may be ") [] (codes "value") expected.now)) }
+        ++ (wrong_value name.now ++ expected_text (codes "; it may be ") [] (codes "value") expected.now)) }
 {
     push_wrong_value(alloc, out, name)?;
     push_expected(alloc, out, "; it may be ", b"", "value", expected)
@@ -250,13 +262,7 @@ fn push_needs(alloc: Global, out: &mut Vec<u8>, detail: &[u8]) -> Result<(), NoM
     ensures { OnOk result (out.new.items ≡ out.old.items ++ needs detail.now) }
 {
     let (name, rest) = split_word(detail);
-    push_names_behind(
-        alloc,
-        out,
-        ": needs ",
-        namespace_of(name),
-        skip_word(rest),
-    )
+    push_names_behind(alloc, out, ": needs ", namespace_of(name), skip_word(rest))
 }
 
 /// Adds what is wrong with an element, and which ones it needs.

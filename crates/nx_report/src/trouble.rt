@@ -41,7 +41,11 @@ fn not_utf8(alloc: Global, at: usize) -> Result<String, AllocError>
 }
 
 /// Adds what is wrong with a file.
-pub(crate) fn push_trouble(alloc: Global, out: &mut Vec<u8>, trouble: Trouble) -> Result<(), NoMemory>
+pub(crate) fn push_trouble(
+    alloc: Global,
+    out: &mut Vec<u8>,
+    trouble: Trouble,
+) -> Result<(), NoMemory>
     ensures { OnOk result (out.new.items ≡ out.old.items ++ trouble_text trouble) }
 {
     match trouble {
@@ -55,7 +59,10 @@ pub(crate) fn push_trouble(alloc: Global, out: &mut Vec<u8>, trouble: Trouble) -
         Trouble::NoMemory => push_words(out, "there is no memory for this"),
         Trouble::BadRules => push_words(out, "this isn't a file of rules that locate schemas"),
         Trouble::RulesLoop => {
-            push_words(out, "this file of rules includes itself, perhaps through others")
+            push_words(
+                out,
+                "this file of rules includes itself, perhaps through others",
+            )
         }
         Trouble::NoSchema => push_words(out, "no schema is found for this document"),
         Trouble::Schema(cause) => push_words(out, cause_text(cause)),

@@ -1,4 +1,4 @@
-use Rattle.std.proofs.Common.{◌≡◌, ◌∙◌, ◌++◌, ◌-◌, ℕ, length, ap, arith}
+use Rattle.std.proofs.Common.{◌∙◌, ◌++◌, ℕ, ap, arith}
 use Rattle.nx_report.specs.Expected.{offer_text, expected_text}
 use Rattle.nx_report.specs.Lists.{more_text}
 use Rattle.nx_report.proofs.Listing.{ended}

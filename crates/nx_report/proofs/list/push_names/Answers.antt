@@ -1,4 +1,4 @@
-use Rattle.std.proofs.Common.{◌+◌, length, ap, arith}
+use Rattle.std.proofs.Common.{length, ap, arith}
 use Rattle.nx_report.proofs.Words.{names_begun, names_further, behind_word-le}
 use Rattle.nx_report.proofs.list.push_names.Goals as goal
 
@@ -8,7 +8,7 @@ loop-space-init c =
     let short = behind_word-le text rest c.split_word.ensures.rest in
     record {
       told = names_begun c.args.out.now.items c.args.introduction.now c.args.own.now text c.split_word.result.0.now rest c.push_words.new.out.items c.push_quoted_name.new.out.items
-      c.split_word.ensures.word c.split_word.ensures.rest c.in_ok-push_words.ensures c.in_ok-push_quoted_name.ensures;
+          c.split_word.ensures.word c.split_word.ensures.rest c.in_ok-push_words.ensures c.in_ok-push_quoted_name.ensures;
       few = omega (arith, short);
     }
 
@@ -20,6 +20,6 @@ loop-space-preserved c =
     let len = ap length is in let few = c.loop-space.invariant.few in
     record {
       told = names_further c.args.own.now left names c.split_word-in-Some.result.0.now rest c.loop-space.out.items c.push_other_name.new.out.items _ c.in-Some._space.now c.loop-space.others
-      is c.split_word-in-Some.ensures.word c.split_word-in-Some.ensures.rest c.loop-space.invariant.told c.in_ok-push_other_name.ensures;
+          is c.split_word-in-Some.ensures.word c.split_word-in-Some.ensures.rest c.loop-space.invariant.told c.in_ok-push_other_name.ensures;
       few = omega (arith, short, len, few);
     }
