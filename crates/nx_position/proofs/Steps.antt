@@ -1,12 +1,12 @@
 -- Positions go on from byte to byte.
-use Rattle.std.proofs.Common.{◌≡◌, ◌∙◌, ℕ, zero, suc, ◌+◌, ◌-◌, ◌<◌, ◌≤◌, Bool, true, false, cond, List, [], ◌∷◌, ◌++◌, length}
-use Rattle.std.proofs.Common.{take, drop, get_or, refl, sym, ap, ap₂, arith, length-append, not-suc-le-zero}
+use Rattle.std.proofs.Common.{◌≡◌, ◌∙◌, ℕ, zero, suc, ◌+◌, ◌-◌, ◌<◌, ◌≤◌, Bool, true, false, cond, List, [], ◌∷◌, length}
+use Rattle.std.proofs.Common.{take, drop, get_or, refl, sym, ap, arith, length-append}
 use Rattle.std.specs.List.{prefix_len}
 use Rattle.std.specs.Str.{IsUtf8}
 use Rattle.std.proofs.lemmas.List.Sums.{sum_by-cons}
 use Rattle.nx_position.specs.declared.position.Encoding.{Encoding}
 use Rattle.nx_position.specs.declared.position.Position.{Position}
-use Rattle.nx_position.specs.Positions.{ends_line, behind_line, from_line, lines_ended, is_content, content, byte_units, units, line_start, position_of}
+use Rattle.nx_position.specs.Positions.{ends_line, behind_line, from_line, lines_ended, is_content, content, byte_units, units, position_of}
 use Rattle.nx_position.specs.Steps.{position_behind, PositionsGoOn}
 use Rattle.nx_position.proofs.Lines.{lines_tail, few_in_line, is_split, none_behind}
 
@@ -139,9 +139,9 @@ pub go_on : PositionsGoOn
 go_on e text = (
   starts e text,
   λ at less.
-  let next : at + 1 ≡ suc at = omega arith in
-  ap (position_of e text) next ∙ goes_on e text at less
-  ∙ ap (λ (n : ℕ). position_behind e (get_or text at 0) (drop n text) (position_of e text at)) (sym next),
+      let next : at + 1 ≡ suc at = omega arith in
+      ap (position_of e text) next ∙ goes_on e text at less
+      ∙ ap (λ (n : ℕ). position_behind e (get_or text at 0) (drop n text) (position_of e text at)) (sym next),
 )
 
 lines_ended-le : (at : ℕ) (text : List ℕ) → lines_ended at text ≤ at

@@ -1,5 +1,5 @@
 -- How positions go on from byte to byte.
-use Rattle.std.specs.Prelude.{◌≡◌, ℕ, suc, ◌+◌, ◌<◌, List, length, drop, cond, slice_index}
+use Rattle.std.specs.Prelude.{◌≡◌, ℕ, ◌+◌, ◌<◌, List, length, drop, cond, slice_index}
 use Rattle.nx_position.specs.declared.position.Encoding.{Encoding}
 use Rattle.nx_position.specs.declared.position.Position.{Position}
 use Rattle.nx_position.specs.Positions.{ends_line, is_content, byte_units, position_of}
