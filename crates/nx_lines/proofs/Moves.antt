@@ -1,16 +1,14 @@
 -- How a cursor's position goes on and back.
 use Rattle.std.proofs.Common.{◌≡◌, ◌∙◌, ℕ, zero, suc, ◌+◌, ◌-◌, ◌<◌, ◌≤◌, ◌^◌, Bool, true, false, cond, List, [], ◌∷◌, ◌++◌, length}
-use Rattle.std.proofs.Common.{take, drop, get_or, min, refl, sym, ap, subst, arith, ◌⊎◌, inl, inr, length-append, append_assoc}
+use Rattle.std.proofs.Common.{take, drop, get_or, min, refl, sym, ap, arith, ◌⊎◌, inl, inr, append_assoc}
 use Rattle.std.specs.Prelude.{◌==◌, not, ◌&&◌, ◌||◌}
 use Rattle.std.specs.List.{prefix_len}
-use Rattle.std.specs.Str.{IsUtf8}
 use Rattle.std.proofs.lemmas.Bool.{cases_lt}
-use Rattle.std.proofs.lemmas.List.Sums.{sum_by-cons, prefix_len-le-length}
+use Rattle.std.proofs.lemmas.List.Sums.{sum_by-cons}
 use Rattle.nx_position.specs.declared.position.Encoding.{Encoding}
 use Rattle.nx_position.specs.declared.position.Encoding.TheVariants.{Utf8}
 use Rattle.nx_position.specs.declared.position.Position.{Position}
 use Rattle.nx_position.specs.Positions.{begins_with_feed, ends_line, is_content, lines_ended, byte_units, units, position_of}
-use Rattle.nx_position.specs.Steps.{position_behind}
 use Rattle.nx_position.proofs.Steps.{go_on, small, shifted, one_in_front}
 use Rattle.nx_text.specs.Reading.{StandFrom}
 use Rattle.nx_lines.specs.declared.cursor.Cursor.{Cursor}

@@ -1,5 +1,5 @@
 -- Positions as they are shown to people: a byte order mark in front of a text is no character of its first line.
-use Rattle.std.specs.Prelude.{◌≡◌, ℕ, ◌-◌, Bool, ◌==◌, ◌&&◌, List, [], ◌∷◌, drop, cond, slice_index, nat_lt}
+use Rattle.std.specs.Prelude.{ℕ, ◌-◌, Bool, ◌==◌, ◌&&◌, List, [], ◌∷◌, drop, cond, slice_index, nat_lt}
 use Rattle.nx_position.specs.declared.position.Encoding.{Encoding}
 use Rattle.nx_position.specs.declared.position.Position.{Position}
 use Rattle.nx_position.specs.Positions.{position_of, units}

@@ -6,5 +6,7 @@
 
 pub mod cursor;
 mod mark;
+#[cfg(test)]
+mod tests;
 
 pub use cursor::Cursor;

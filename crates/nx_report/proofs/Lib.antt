@@ -2,3 +2,4 @@ pub mod Plain
 pub mod Listing
 pub mod Words
 pub mod Shown
+pub mod Details

@@ -1,5 +1,8 @@
 -- The words of a detail: names as they print, and `needs`, with a space between them.
-use Rattle.std.specs.Prelude.{ℕ, ◌+◌, Bool, false, ◌==◌, not, ◌&&◌, cond, List, [], ◌∷◌, take, drop}
+use Rattle.std.specs.Prelude.{◌≡◌, ℕ, ◌+◌, Bool, true, false, ◌==◌, not, ◌&&◌, ◌||◌, cond, List, [], ◌∷◌, ◌++◌, take, drop, map, codes}
+use Rattle.std.specs.List.{list_all, flat_map}
+use Rattle.nx_base.specs.PrintedNames.{name_text}
+use Rattle.nx_base.specs.declared.name.Name.{Name}
 
 -- a space between words, and none in the braces of a namespace
 abbrev pub ends_word : Bool → ℕ → Bool
@@ -43,3 +46,26 @@ words_behind (space ∷ text) = words text
 -- what a detail `NAME needs A B ..` says is needed
 abbrev pub needed_words : List ℕ → List (List ℕ)
 needed_words text = drop 2 (words text)
+
+-- not the brace that closes a namespace
+abbrev pub is_no_end : ℕ → Bool
+is_no_end byte = not (byte == 125)
+
+-- neither a space nor the brace that opens a namespace
+abbrev pub is_no_border : ℕ → Bool
+is_no_border byte = not ((byte == 32) || (byte == 123))
+
+-- a name that can be told from others in a detail: of those that documents have, all but the ones in a namespace with a closing brace
+abbrev pub is_separable : Name → Bool
+is_separable name = list_all is_no_end name.ns && list_all is_no_border name.local
+
+-- names, each behind a space
+abbrev pub spaced : List Name → List ℕ
+spaced names = flat_map (λ name. codes " " ++ name_text name) names
+
+-- so the words of a detail are the names of which it was made
+pub record DetailsAreRead : Type 0 where
+  pub lists : (name : Name) (others : List Name) → list_all is_separable (name ∷ others) ≡ true →
+      words (name_text name ++ spaced others) ≡ map name_text (name ∷ others)
+  pub needs : (name : Name) (needed : List Name) → list_all is_separable (name ∷ needed) ≡ true →
+      needed_words (name_text name ++ (codes " needs" ++ spaced needed)) ≡ map name_text needed

@@ -1,6 +1,5 @@
-use Rattle.std.proofs.Common.{◌≡◌, ◌∙◌, ◌+◌, ◌<◌, ◌^◌, ℕ, Bool, true, false, get_or, sym, ap, arith}
-use Rattle.nx_position.specs.declared.position.Position.{Position}
-use Rattle.nx_position.specs.Positions.{is_content, byte_units, position_of}
+use Rattle.std.proofs.Common.{◌≡◌, ◌∙◌, ◌+◌, ℕ, true, false, get_or, sym, ap, arith}
+use Rattle.nx_position.specs.Positions.{is_content, byte_units}
 use Rattle.nx_lines.proofs.Moves.{Ends, at_of, behind_end, behind_content, behind_return, few_lines, few_behind}
 use Rattle.nx_lines.proofs.cursor.position_behind.Goals as goal
 

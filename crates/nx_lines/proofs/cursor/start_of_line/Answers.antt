@@ -1,4 +1,4 @@
-use Rattle.std.proofs.Common.{◌≡◌, ◌∙◌, ◌-◌, ◌+◌, ◌<◌, ◌≤◌, ℕ, length, true, false, sym, ap, subst, arith}
+use Rattle.std.proofs.Common.{◌≡◌, ◌∙◌, ◌-◌, ◌+◌, ℕ, true, false, sym, ap, arith}
 use Rattle.nx_position.specs.Positions.{lines_ended, position_of}
 use Rattle.nx_lines.proofs.Moves.{Ends, same_lines, line_begins}
 use Rattle.nx_lines.proofs.cursor.start_of_line.Goals as goal
@@ -8,8 +8,7 @@ loop-start-preserved c =
     let text = c.args.text.now in let at = c.loop-start.start - 1 in
     let invariant = c.loop-start.invariant.0 in let within = c.requires.within in
     let next : at + 1 ≡ c.loop-start.start = omega arith in
-    let ends : Ends text at false = sym c.ends_line_at.ensures ∙ c.if-not-ends_line_at.true in
-    (
+    let ends : Ends text at false = sym c.ends_line_at.ensures ∙ c.if-not-ends_line_at.true in (
       omega (arith, invariant),
       same_lines text at (omega (arith, invariant, within)) ends ∙ ap (λ (n : ℕ). lines_ended n text) next ∙ c.loop-start.invariant.1,
     )

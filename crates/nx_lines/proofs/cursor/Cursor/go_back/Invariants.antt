@@ -1,4 +1,4 @@
-use Rattle.std.proofs.Common.{◌≡◌, ◌-◌, ◌≤◌}
+use Rattle.std.proofs.Common.{◌≡◌}
 use Rattle.nx_lines.specs.Cursors.{IsAtPlace}
 use Rattle.nx_lines.proofs.cursor.Cursor.go_back.Given as goal
 

@@ -1,6 +1,5 @@
-use Rattle.std.proofs.Common.{◌≡◌, ◌∙◌, ◌+◌, ◌<◌, ◌≤◌, ◌^◌, ℕ, length, take, sym, ap, arith}
-use Rattle.nx_position.specs.Positions.{is_content, units, position_of}
-use Rattle.std.specs.List.{prefix_len}
+use Rattle.std.proofs.Common.{◌≡◌, ◌∙◌, ◌+◌, ◌≤◌, ℕ, length, take, sym, ap, arith}
+use Rattle.nx_position.specs.Positions.{position_of}
 use Rattle.std.proofs.lemmas.List.{length-take, length-take-le}
 use Rattle.nx_lines.proofs.Moves.{at_of, passed_there, passed_few}
 use Rattle.nx_lines.proofs.cursor.Cursor.pass_content.Goals as goal
@@ -28,7 +27,7 @@ returns-clause-place c =
     record {
       within = omega (arith, count, short, bound, least, behind, within);
       position = ap (λ (n : ℕ). at_of self.position.line (self.position.column + n)) c.units.ensures
-      ∙ passed_there self.encoding c.args.text.now self.at c.min.result c.content_len.result c.piece_at-piece.result.now self.position
-      c.piece_at-piece.ensures.piece c.requires.place.position c.content_len.ensures.len
-      ∙ sym (ap (λ (n : ℕ). position_of self.encoding c.args.text.now (self.at + n)) count);
+          ∙ passed_there self.encoding c.args.text.now self.at c.min.result c.content_len.result c.piece_at-piece.result.now self.position
+          c.piece_at-piece.ensures.piece c.requires.place.position c.content_len.ensures.len
+          ∙ sym (ap (λ (n : ℕ). position_of self.encoding c.args.text.now (self.at + n)) count);
     }

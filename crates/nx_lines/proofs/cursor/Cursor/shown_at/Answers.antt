@@ -1,4 +1,4 @@
-use Rattle.std.proofs.Common.{◌≡◌, ◌∙◌, sym, ap}
+use Rattle.std.proofs.Common.{◌∙◌, sym, ap}
 use Rattle.nx_lines.specs.Shown.{unmarked}
 use Rattle.nx_lines.proofs.Marks.{shown}
 use Rattle.nx_lines.proofs.cursor.Cursor.shown_at.Goals as goal

@@ -1,7 +1,6 @@
-use Rattle.std.proofs.Common.{◌≡◌, ◌∙◌, ◌-◌, ◌+◌, ◌<◌, ◌≤◌, ℕ, length, true, sym, ap, arith}
-use Rattle.nx_position.specs.declared.position.Position.{Position}
+use Rattle.std.proofs.Common.{◌≡◌, ◌∙◌, ◌-◌, ◌+◌, ℕ, sym, ap, arith}
 use Rattle.nx_position.specs.Positions.{lines_ended, position_of}
-use Rattle.nx_lines.proofs.Moves.{Ends, at_of, line_in_front}
+use Rattle.nx_lines.proofs.Moves.{at_of, line_in_front}
 use Rattle.nx_lines.proofs.cursor.Cursor.step_back.Goals as goal
 
 pub overflow_sub-self : goal.overflow_sub-self
