@@ -217,7 +217,7 @@ fn files_are_replaced(rt: HostRuntime) {
 }
 
 // Whether a store on this disk fails.
-fn refuses<R: rt::Files>(disk: &R, alloc: Global, uri: &str) -> bool {
+fn refuses<R: rt::Files + Print>(disk: &R, alloc: Global, uri: &str) -> bool {
     let mut files = DiskFiles::new(disk);
     memory::stores(&mut files, alloc, uri, "failed")
 }

@@ -116,7 +116,12 @@ fn is_rooted(rt: &HostRuntime, files: &mut DiskFiles<'_, HostRuntime>) -> bool {
         && stores(files, rt.alloc(), &uri)
         && finds(files, rt.alloc(), &uri, "text")
         && fs::metadata(rt, STORED).is_ok()
-        && memory::finds(files, rt.alloc(), "file:///work/nx_host_rooted_test/a%20b%23.txt", "none")
+        && memory::finds(
+            files,
+            rt.alloc(),
+            "file:///work/nx_host_rooted_test/a%20b%23.txt",
+            "none",
+        )
         && files.failures() == 0
         && is_done(fs::remove_dir_all(rt, FOLDER))
 }

@@ -1,6 +1,7 @@
 //! A disk on which one thing fails that a store asks of it, and all else goes as on the disk below.
 
 use std::alloc::Allocator;
+use std::fmt::Display;
 use std::fs::{Metadata, OpenFile, OpenOptions, Permissions};
 use std::io::{Error, ErrorKind, PipeReader, PipeWriter, Read, Seek, SeekFrom, Write};
 use std::os::fd::BorrowedFd;
@@ -35,6 +36,25 @@ pub struct FailingFile<F> {
 
 fn full_disk() -> Error {
     Error::from(ErrorKind::StorageFull)
+}
+
+// Standard output goes as below.
+impl<R: Print> Print for FailingDisk<'_, R> {
+    fn print<D: Display + Drop>(&self, value: D) -> io::Result<()> {
+        self.disk.print(value)
+    }
+
+    fn println<D: Display + Drop>(&self, value: D) -> io::Result<()> {
+        self.disk.println(value)
+    }
+
+    fn write_all(&self, bytes: &[u8]) -> io::Result<()> {
+        self.disk.write_all(bytes)
+    }
+
+    fn write_some(&self, bytes: &[u8]) -> io::Result<usize> {
+        self.disk.write_some(bytes)
+    }
 }
 
 impl<F: Read> Read for FailingFile<F> {
