@@ -69,11 +69,11 @@ others_are word (other ∷ others) is =
 pub details_are : DetailsAreRead
 details_are = record {
   lists = λ name others is.
-  let parts = and_parts (is_separable name) (list_all is_separable others) is in
-  name_word name (spaced others) parts.0 ∙ others_are (name_text name) others parts.1;
+      let parts = and_parts (is_separable name) (list_all is_separable others) is in
+      name_word name (spaced others) parts.0 ∙ others_are (name_text name) others parts.1;
   needs = λ name needed is.
-  let parts = and_parts (is_separable name) (list_all is_separable needed) is in
-  ap (drop 2) (name_word name (codes " needs" ++ spaced needed) parts.0
-  ∙ behind (name_text name) (words_in false (codes "needs" ++ spaced needed))
-  ∙ ap (λ ws. name_text name ∷ ws) (outside (codes "needs") (spaced needed) refl ∙ others_are (codes "needs") needed parts.1));
+      let parts = and_parts (is_separable name) (list_all is_separable needed) is in
+      ap (drop 2) (name_word name (codes " needs" ++ spaced needed) parts.0
+      ∙ behind (name_text name) (words_in false (codes "needs" ++ spaced needed))
+      ∙ ap (λ ws. name_text name ∷ ws) (outside (codes "needs") (spaced needed) refl ∙ others_are (codes "needs") needed parts.1));
 }
