@@ -8,3 +8,5 @@ mod located;
 mod tables;
 #[cfg(test)]
 mod tests;
+#[cfg(test)]
+mod xml_model;

@@ -79,7 +79,7 @@ fn told(alloc: Global, answer: Result<Option<Bytes>, LocateFault>) -> Result<Str
     }
 }
 
-fn text_of(alloc: Global, text: &str) -> Result<Text, NoMemory> {
+pub(crate) fn text_of(alloc: Global, text: &str) -> Result<Text, NoMemory> {
     let mut whole = Text::new(alloc);
     match whole.insert(0, text) {
         Ok(()) => Ok(whole),
