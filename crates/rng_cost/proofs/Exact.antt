@@ -10,7 +10,7 @@ use Rattle.rng_core.specs.Patterns.{one_or_more, choice, group, interleave}
 use Rattle.rng_cost.specs.Costs.{HasCost, cost_empty, cost_text, cost_data, cost_value, cost_list, cost_attribute, cost_one_or_more}
 use Rattle.rng_cost.specs.Costs.{cost_first, cost_second, cost_group, cost_interleave, cost_ref, IsLarge}
 use Rattle.rng_cost.specs.Least.{cost_at, least, AreRight, AreLeast}
-use Rattle.rng_cost.specs.Rounds.{AreSettledTo}
+use Rattle.rng_cost.specs.Rounds.{AreSettledFrom}
 
 pub within : {g : List Definition} {costs : List ℕ} → AreRight g costs → (p : Pattern) → least costs p ≤ 10001
 within r not_allowed = omega arith
@@ -63,7 +63,7 @@ module _ {g : List Definition} {costs : List ℕ} where
   sound r (interleave p q) small = costs_as (interleave p q) (omega (arith, small))
       (cost_interleave (sound r p (omega (arith, small))) (sound r q (omega (arith, small))))
 
-  pub complete : AreSettledTo g (length g) costs → {p : Pattern} {n : ℕ} → HasCost g p n → least costs p ≤ n
+  pub complete : AreSettledFrom g 0 costs → {p : Pattern} {n : ℕ} → HasCost g p n → least costs p ≤ n
   complete s cost_empty = omega arith
   complete s cost_text = omega arith
   complete s cost_data = omega arith
@@ -75,7 +75,7 @@ module _ {g : List Definition} {costs : List ℕ} where
   complete s (cost_second c) = omega (arith, complete s c)
   complete s (cost_group c e) = omega (arith, complete s c, complete s e)
   complete s (cost_interleave c e) = omega (arith, complete s c, complete s e)
-  complete s (cost_ref {i = i} {d = d} at c) = omega (arith, complete s c, s.settled i d (slice_get_within g i d at) at)
+  complete s (cost_ref {i = i} {d = d} at c) = omega (arith, complete s c, s.settled i d (omega arith) at)
 
   -- and so by any least costs
   pub complete_by : AreLeast g costs → {p : Pattern} {n : ℕ} → HasCost g p n → least costs p ≤ n
@@ -92,10 +92,10 @@ module _ {g : List Definition} {costs : List ℕ} where
   complete_by a (cost_interleave c e) = omega (arith, complete_by a c, complete_by a e)
   complete_by a (cost_ref {i = i} {d = d} {n = n} at c) = omega (arith, a.least i n (record { definition = d; is = at; costs = c }))
 
-  pub are_least : AreRight g costs → AreSettledTo g (length g) costs → AreLeast g costs
+  pub are_least : AreRight g costs → AreSettledFrom g 0 costs → AreLeast g costs
   are_least r s = record {
     right = r;
-    least = λ i n c. omega (arith, complete s c.costs, s.settled i c.definition (slice_get_within g i c.definition c.is) c.is);
+    least = λ i n c. omega (arith, complete s c.costs, s.settled i c.definition (omega arith) c.is);
   }
 
   pub over_is_large : AreLeast g costs → IsOver costs → IsLarge g

@@ -12,7 +12,7 @@ use Rattle.std.proofs.lemmas.Option.{slice_get_within, slice_get-map, slice_get_
 use Rattle.rng_core.specs.Patterns.{Definition}
 use Rattle.rng_cost.specs.Costs.{ContentCosts}
 use Rattle.rng_cost.specs.Least.{cost_at, least, AreRight}
-use Rattle.rng_cost.specs.Rounds.{AreSettledTo, Settles, Falls, total}
+use Rattle.rng_cost.specs.Rounds.{AreSettledFrom, Settles, Falls, total}
 use Rattle.rng_cost.proofs.Exact.{within, sound}
 
 elsewhere : (old new : List ℕ) (k n : ℕ) → new ≡ set old k n → (i : ℕ) → (i ≡ k → ⊥) → cost_at new i ≡ cost_at old i
@@ -67,11 +67,11 @@ module _ {g : List Definition} where
       ];
     }
 
-  none_settled : (costs : List ℕ) → AreSettledTo g 0 costs
-  none_settled costs = record { settled = λ i d low at. absurd (omega (arith, low)) }
+  none_settled : (costs : List ℕ) (n : ℕ) → n ≡ length g → AreSettledFrom g n costs
+  none_settled costs n all = record { settled = λ i d low at. absurd (omega (arith, low, all, slice_get_within g i d at)) }
 
-  one_settled : (k : ℕ) (costs : List ℕ) (d : Definition) → slice_get g k ≡ Some d → AreSettledTo g k costs
-      → cost_at costs k ≤ least costs d.content → AreSettledTo g (k + 1) costs
+  one_settled : (k : ℕ) (costs : List ℕ) (d : Definition) → slice_get g k ≡ Some d → AreSettledFrom g (k + 1) costs
+      → cost_at costs k ≤ least costs d.content → AreSettledFrom g k costs
   one_settled k costs d at s here = record {
     settled = λ i e low there. elim (cases_eq i k) [
       | inl same ↦
@@ -84,8 +84,8 @@ module _ {g : List Definition} where
   }
 
 -- one content more
-pub falls_more : (g : List Definition) (k : ℕ) (old middle new : List ℕ) (d : Definition) (fell one : Bool) → slice_get g k ≡ Some d
-    → length old ≡ length g → Falls g k old middle fell → Settles middle new k d.content one → Falls g (k + 1) old new (one || fell)
+falls_more : (g : List Definition) (k : ℕ) (old middle new : List ℕ) (d : Definition) (fell one : Bool) → slice_get g k ≡ Some d
+    → length old ≡ length g → Falls g (k + 1) old middle fell → Settles middle new k d.content one → Falls g k old new (one || fell)
 falls_more g k old middle new d false false at many f s =
     let same : middle ≡ old = f.1 in
     (one_settled k old d at f.0 (subst (λ (x : List ℕ). cost_at x k ≤ least x d.content) same s.0), s.1 ∙ same)
@@ -104,19 +104,22 @@ falls_more g k old middle new d true true at many f s =
       ap (λ (x : List ℕ). length x) s.1 ∙ length-set middle k (least middle d.content) ∙ f.2,
     )
 
-pub falls_first : (g : List Definition) (costs : List ℕ) → Falls g 0 costs costs false
-falls_first g costs = (none_settled costs, refl)
+pub falls_down : (g : List Definition) (k m : ℕ) (old middle new : List ℕ) (d : Definition) (fell one : Bool) → m ≡ k + 1 → slice_get g k ≡ Some d
+    → length old ≡ length g → Falls g m old middle fell → Settles middle new k d.content one → Falls g k old new (one || fell)
+falls_down g k m old middle new d fell one next at many f s =
+    falls_more g k old middle new d fell one at many (subst (λ (n : ℕ). Falls g n old middle fell) next f) s
+
+pub falls_first : (g : List Definition) (n : ℕ) (costs : List ℕ) → n ≡ length g → Falls g n costs costs false
+falls_first g n costs all = (none_settled costs n all, refl)
 
 -- a round is right, and what it doesn't change is settled
 pub round_right : (g : List Definition) (n : ℕ) (old new : List ℕ) (fell : Bool) → AreRight g old → Falls g n old new fell → AreRight g new
 round_right g n old new true r f = f.0 r
 round_right g n old new false r f = subst (λ (x : List ℕ). AreRight g x) (sym f.1) r
 
-pub round_settled : (g : List Definition) (n : ℕ) (old new : List ℕ) (fell : Bool) → n ≡ length g → Falls g n old new fell → fell ≡ false
-    → AreSettledTo g (length g) new
-round_settled g n old new true all f is = absurd (false≢true (sym is))
-round_settled g n old new false all f is = subst (λ (x : List ℕ). AreSettledTo g (length g) x) (sym f.1)
-    (subst (λ (k : ℕ). AreSettledTo g k old) all f.0)
+pub round_settled : (g : List Definition) (old new : List ℕ) (fell : Bool) → Falls g 0 old new fell → fell ≡ false → AreSettledFrom g 0 new
+round_settled g old new true f is = absurd (false≢true (sym is))
+round_settled g old new false f is = subst (λ (x : List ℕ). AreSettledFrom g 0 x) (sym f.1) f.0
 
 -- a number that falls with each round
 abbrev pub flag : Bool → ℕ

@@ -38,15 +38,18 @@ fn settle(costs: &mut Vec<u32>, number: usize, content: &Pat) -> bool
     false
 }
 
-/// Looks at each content once, and answers whether some cost fell.
+/// Looks at each content once, and answers whether some cost fell. What an element holds mostly has a later number than the element,
+/// so the last content comes first: a content that is looked at behind all that it holds needs no further round.
 fn settle_all(costs: &mut Vec<u32>, defs: &Defs) -> bool
     requires { length costs.old.items ≡ length defs.now }
-    ensures { Falls (map definition_of defs.now) (length defs.now) costs.old.items costs.new.items result }
+    ensures { Falls (map definition_of defs.now) 0 costs.old.items costs.new.items result }
 {
     let defs = defs.as_slice();
     let mut fell = false;
-    for number in 0..defs.len() {
-        let one = settle(costs, number, &defs[number].content);
+    let mut left = defs.len();
+    while left > 0 {
+        left -= 1;
+        let one = settle(costs, left, &defs[left].content);
         fell = either(one, fell);
     }
     fell

@@ -1,4 +1,4 @@
-use Rattle.std.proofs.Common.{◌≡◌, ◌∙◌, ℕ, List, sym, ap, arith, length, map, true, false}
+use Rattle.std.proofs.Common.{◌≡◌, ◌∙◌, ℕ, List, sym, ap, arith, map}
 use Rattle.std.proofs.lemmas.Bool.{false≢true}
 use Rattle.std.proofs.lemmas.List.{length-map}
 use Rattle.rng_core.specs.Patterns.{Definition}
@@ -16,13 +16,11 @@ loop-falling-init c = record {
 pub loop-falling-preserved : goal.loop-falling-preserved
 loop-falling-preserved c =
     let g : List Definition = map definition_of c.args.defs.now in
-    let count : ℕ = length c.args.defs.now in
     let old : List ℕ = c.loop-falling.costs.items in
     let new : List ℕ = c.settle_all-falling.new.costs.items in
     record {
-      right = round_right g count old new c.settle_all-falling.result c.loop-falling.invariant.right c.settle_all-falling.ensures;
-      settled = round_settled g count old new c.settle_all-falling.result (sym (length-map c.args.defs.now definition_of))
-          c.settle_all-falling.ensures;
+      right = round_right g 0 old new c.settle_all-falling.result c.loop-falling.invariant.right c.settle_all-falling.ensures;
+      settled = round_settled g old new c.settle_all-falling.result c.settle_all-falling.ensures;
     }
 
 pub loop-falling-smaller : goal.loop-falling-smaller
@@ -30,7 +28,7 @@ loop-falling-smaller c =
     let g : List Definition = map definition_of c.args.defs.now in
     let old : List ℕ = c.loop-falling.costs.items in
     let new : List ℕ = c.settle_all-falling.new.costs.items in
-    let smaller = round_smaller g (length c.args.defs.now) old new c.settle_all-falling.result c.settle_all-falling.ensures in
+    let smaller = round_smaller g 0 old new c.settle_all-falling.result c.settle_all-falling.ensures in
     let on : flag c.loop-falling.falling ≡ 1 = ap flag c.loop-falling-test.true in
     omega (arith, smaller, on)
 

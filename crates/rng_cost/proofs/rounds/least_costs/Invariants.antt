@@ -1,14 +1,14 @@
-use Rattle.std.proofs.Common.{◌≡◌, ◌+◌, ◌*◌, false, length, map}
+use Rattle.std.proofs.Common.{◌≡◌, ◌+◌, ◌*◌, false, map}
 use Rattle.rng_core.specs.Meaning.{definition_of}
 use Rattle.rng_cost.specs.Least.{AreRight}
-use Rattle.rng_cost.specs.Rounds.{AreSettledTo, total}
+use Rattle.rng_cost.specs.Rounds.{AreSettledFrom, total}
 use Rattle.rng_cost.proofs.Passing.{flag}
 use Rattle.rng_cost.proofs.rounds.least_costs.Given as goal
 
 abbrev pub invariant-loop-falling : goal.invariant-loop-falling
 invariant-loop-falling l = record {
   right : AreRight (map definition_of l.defs) l.costs.items;
-  settled : l.falling ≡ false → AreSettledTo (map definition_of l.defs) (length (map definition_of l.defs)) l.costs.items;
+  settled : l.falling ≡ false → AreSettledFrom (map definition_of l.defs) 0 l.costs.items;
 }
 
 abbrev pub decreases-loop-falling : goal.decreases-loop-falling
