@@ -1,5 +1,6 @@
--- The leaves of a content that were kept, and an element that begins by them.
+-- The leaves of a content, and what its elements begin with, that were kept, and an element that begins by them.
 use Rattle.std.proofs.Common.{◌≡◌, ℕ, List, [], ◌∷◌, ◌++◌, map, reverse, Bool, true, false, Option, None, Some, refl, sym, subst, ap, ◌∙◌}
+use Rattle.std.proofs.Common.{append_assoc}
 use Rattle.std.specs.Prelude.{IsTrue, slice_get, cond}
 use Rattle.std.specs.Option.{option_map}
 use Rattle.std.specs.Borrow.{Bor}
@@ -18,7 +19,8 @@ use Rattle.rng_fill.specs.Contents.{AreLeavesOf}
 use Rattle.rng_fill.specs.Sorted.{attribute_leaves, ref_leaves, string_leaves, takes_string, first_of}
 use Rattle.rng_fill.specs.Strings.{AreSoundTexts, has_some_string}
 use Rattle.rng_fill.specs.Fillable.{HasFilling, CanBeFilled}
-use Rattle.rng_fill.specs.Doing.{AddsAttributes, AddsString, AreTasksOf, Begins}
+use Rattle.rng_fill.specs.Doing.{AddsAttributes, AddsString, adds_none, adds_text, AreTasksOf, Begins}
+use Rattle.rng_fill.specs.Heads.{AddsStringOf, IsBeginning, IsBeginningOf}
 use Rattle.rng_fill.proofs.Adding.{none_found, one_found}
 use Rattle.rng_fill.proofs.Going.{elements_start, string_start}
 
@@ -91,3 +93,43 @@ module _ {g : List Definition} {costs : List ℕ} (fit : CanBeFilled g costs) {i
       (is ∙ ap (λ (t : List Pattern). first_of (string_leaves t)) h.same) in
       string_start fit h.definition h.at are (subst (λ (t : List Pattern). AddsAttributes (attribute_leaves t) old two) h.same atts) closed
       l found.0 found.1 pushed adds
+
+-- ---- moves that were kept, behind others
+
+attributes_behind : {ps : List Pattern} {added : List Move} (old : List Move) → AddsAttributes ps [] added → AddsAttributes ps old (old ++ added)
+attributes_behind old w = record {
+  attributes = w.attributes;
+  matched = w.matched;
+  values = w.values;
+  added = w.added;
+  is = ap (λ (t : List Move). old ++ t) w.is;
+  events = w.events;
+}
+
+string_behind : {leaf : Pattern} {one two : List Move} (old : List Move) → AddsString leaf one two → AddsString leaf (old ++ one) (old ++ two)
+string_behind old (adds_none w same) = adds_none w (ap (λ (t : List Move). old ++ t) same)
+string_behind {one = one} old (adds_text {text = text} w some more) =
+    adds_text w some (ap (λ (t : List Move). old ++ t) more ∙ sym (append_assoc old one (move.Chars text ∷ [])))
+
+-- what an element begins with fits to the leaves that are known of its content
+pub same_leaves : {g : List Definition} {costs : List ℕ} {i : ℕ} {ps : List Pattern} {moves : List Move} → AreLeavesOf g costs i ps
+    → IsBeginningOf g costs i moves → IsBeginning ps moves
+same_leaves {costs = costs} {moves = moves} h w =
+    let same : w.definition ≡ h.definition = cc in
+    subst (λ (t : List Pattern). IsBeginning t moves) (ap (λ (d : Definition). leaves costs d.content) same ∙ sym h.same) w.beginning
+
+module _ {g : List Definition} {costs : List ℕ} (fit : CanBeFilled g costs) {i : ℕ} {ps : List Pattern} (h : AreLeavesOf g costs i ps)
+    {tasks tasks' : List Task} (are : AreTasksOf g tasks) {kept old new : List Move} (b : IsBeginning ps kept) (is : new ≡ old ++ kept) where
+  pub kept_elements : None ≡ first_of (string_leaves ps)
+      → tasks' ≡ (tasks ++ task.Leave ∷ []) ++ reverse (map task.Element (ref_leaves ps)) → Begins g costs i tasks tasks' old new
+  kept_elements none pushed =
+      let closed : kept ≡ b.tag ++ move.TagEnd ∷ [] = subst (λ (o : Option Pattern). AddsStringOf o (b.tag ++ move.TagEnd ∷ []) kept) (sym none) b.string in
+      begun_elements fit h are (attributes_behind old b.attributes)
+      (is ∙ ap (λ (t : List Move). old ++ t) closed ∙ sym (append_assoc old b.tag (move.TagEnd ∷ []))) none pushed
+
+  pub kept_string : (l : Pattern) → Some l ≡ first_of (string_leaves ps) → tasks' ≡ tasks ++ task.Leave ∷ [] → Begins g costs i tasks tasks' old new
+  kept_string l some pushed =
+      let adds : AddsString l (b.tag ++ move.TagEnd ∷ []) kept =
+      subst (λ (o : Option Pattern). AddsStringOf o (b.tag ++ move.TagEnd ∷ []) kept) (sym some) b.string in
+      subst (λ (t : List Move). Begins g costs i tasks tasks' old t) (sym is)
+      (begun_string fit h are (attributes_behind old b.attributes) (sym (append_assoc old b.tag (move.TagEnd ∷ []))) l some pushed (string_behind old adds))

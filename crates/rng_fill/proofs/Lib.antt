@@ -14,3 +14,4 @@ mod Living
 mod Boxes
 mod Held
 mod OneWay
+mod KnownHeads

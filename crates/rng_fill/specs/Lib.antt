@@ -8,4 +8,5 @@ pub mod Fillable
 pub mod Contents
 pub mod Written
 pub mod Doing
+pub mod Heads
 pub mod Laws

@@ -3,9 +3,11 @@
 ghost use Rattle.std.specs.Prelude.{◌<◌, [], length, OnOk};
 ghost use Rattle.rng_fill.specs.Contents.{definitions_in, costs_in, AreRead};
 ghost use Rattle.rng_fill.specs.Fillable.{CanBeFilled, IsNamed};
+ghost use Rattle.rng_fill.specs.Heads.{AreHeads};
 ghost use Rattle.rng_fill.specs.Doing.{AddsElement, AddsInside, Continues, IsTaskOf, AreTasksOf, Steps};
 
 use crate::contents::Contents;
+use crate::heads::Heads;
 use crate::moves::{Move, Moves};
 use nx_base::memory::NoMemory;
 
@@ -20,16 +22,25 @@ pub(crate) enum Task {
 
 impl Contents<'_> {
     /// Writes the next of what is to be done.
-    fn step(&self, task: Task, tasks: &mut Vec<Task>, moves: &mut Moves) -> Result<(), NoMemory>
+    fn step(
+        &self,
+        task: Task,
+        heads: &mut Heads,
+        tasks: &mut Vec<Task>,
+        moves: &mut Moves,
+    ) -> Result<(), NoMemory>
         requires read { AreRead self.now }
         requires fit { CanBeFilled (definitions_in self.now) (costs_in self.now) }
         requires task { IsTaskOf (definitions_in self.now) task }
+        requires heads { AreHeads (definitions_in self.now) (costs_in self.now) heads.old }
         requires tasks { AreTasksOf (definitions_in self.now) tasks.old.items }
-        ensures { OnOk result (Steps (definitions_in self.now) (costs_in self.now) task tasks.old.items tasks.new.items moves.old moves.new) }
+        ensures steps { OnOk result (Steps (definitions_in self.now) (costs_in self.now) task tasks.old.items tasks.new.items
+            moves.old moves.new) }
+        ensures heads { AreHeads (definitions_in self.now) (costs_in self.now) heads.new }
     {
         match task {
             Task::Element(number) => {
-                self.start(number, tasks, moves)?;
+                self.start(number, heads, tasks, moves)?;
                 Ok(())
             }
             Task::Leave => {
@@ -40,43 +51,65 @@ impl Contents<'_> {
     }
 
     /// Writes all that is to be done.
-    fn finish(&self, tasks: &mut Vec<Task>, moves: &mut Moves) -> Result<(), NoMemory>
+    fn finish(
+        &self,
+        heads: &mut Heads,
+        tasks: &mut Vec<Task>,
+        moves: &mut Moves,
+    ) -> Result<(), NoMemory>
         requires read { AreRead self.now }
         requires fit { CanBeFilled (definitions_in self.now) (costs_in self.now) }
+        requires heads { AreHeads (definitions_in self.now) (costs_in self.now) heads.old }
         requires tasks { AreTasksOf (definitions_in self.now) tasks.old.items }
-        ensures { OnOk result (Continues (definitions_in self.now) tasks.old.items [] moves.old moves.new) }
+        ensures continues { OnOk result (Continues (definitions_in self.now) tasks.old.items [] moves.old moves.new) }
+        ensures heads { AreHeads (definitions_in self.now) (costs_in self.now) heads.new }
     {
         while let Some(task) = tasks.pop() {
-            self.step(task, tasks, moves)?;
+            self.step(task, heads, tasks, moves)?;
         }
         Ok(())
     }
 
     /// Adds the moves of an element that the definition of a number allows, with a name of its class. It takes as many steps as it adds
-    /// moves.
-    pub fn write_element(&self, number: u32, moves: &mut Moves) -> Result<(), NoMemory>
+    /// moves, and what the heads take that weren't known.
+    pub fn write_element(
+        &self,
+        number: u32,
+        heads: &mut Heads,
+        moves: &mut Moves,
+    ) -> Result<(), NoMemory>
         requires read { AreRead self.now }
         requires fit { CanBeFilled (definitions_in self.now) (costs_in self.now) }
+        requires heads { AreHeads (definitions_in self.now) (costs_in self.now) heads.old }
         requires named { IsNamed (definitions_in self.now) number }
-        ensures { OnOk result (AddsElement (definitions_in self.now) number moves.old moves.new) }
+        ensures added { OnOk result (AddsElement (definitions_in self.now) number moves.old moves.new) }
+        ensures heads { AreHeads (definitions_in self.now) (costs_in self.now) heads.new }
     {
         let mut tasks: Vec<Task> = Vec::new(self.alloc);
         tasks.push(Task::Element(number))?;
-        self.finish(&mut tasks, moves)?;
+        self.finish(heads, &mut tasks, moves)?;
         Ok(())
     }
 
     /// Adds the moves of what is in an element that the definition of a number allows, behind its name: attributes, the end of the
     /// start tag, children, and the element's end. The name is given.
-    pub fn write_inside(&self, number: u32, moves: &mut Moves) -> Result<(), NoMemory>
+    pub fn write_inside(
+        &self,
+        number: u32,
+        heads: &mut Heads,
+        moves: &mut Moves,
+    ) -> Result<(), NoMemory>
         requires read { AreRead self.now }
         requires fit { CanBeFilled (definitions_in self.now) (costs_in self.now) }
+        requires heads { AreHeads (definitions_in self.now) (costs_in self.now) heads.old }
         requires inside { number < length (definitions_in self.now) }
-        ensures { OnOk result (AddsInside (definitions_in self.now) number moves.old moves.new) }
+        ensures added { OnOk result (AddsInside (definitions_in self.now) number moves.old moves.new) }
+        ensures heads { AreHeads (definitions_in self.now) (costs_in self.now) heads.new }
     {
         let mut tasks: Vec<Task> = Vec::new(self.alloc);
-        self.begin(number, &mut tasks, moves)?;
-        self.finish(&mut tasks, moves)?;
+        let head = self.head(number, heads)?;
+        self.begin(number, head.moves, &mut tasks, moves)?;
+        self.finish(heads, &mut tasks, moves)?;
         Ok(())
     }
 }

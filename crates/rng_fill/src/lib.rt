@@ -1,8 +1,9 @@
 //! Fillings: elements that the definitions of a schema allow, with the least that their contents ask for.
 //!
-//! Of each content the leaves of its least cost are filled (rng_cost); they are found once for each definition (`contents`). An element is
-//! written along a stack of what is still to be done (`element`), so that elements may nest as deep as they need: first the
-//! attributes are written, then the end of the tag and a string, or the elements are put on the stack. Each element costs three more
+//! Of each content the leaves of its least cost are filled (rng_cost); they are found once for each definition (`contents`), and so is
+//! what its elements begin with, where one is written (`heads`): their name, their attributes and their string. An element is
+//! written along a stack of what is still to be done (`element`), so that elements may nest as deep as they need: first what it begins
+//! with is written, then its elements are put on the stack. Each element costs three more
 //! than its content, so the stack empties. What a leaf is filled with is told by `names`, a name of its class, and by `strings`, a
 //! value or a string; `words` makes those of lists.
 //!
@@ -13,6 +14,7 @@
 mod attributes;
 pub mod contents;
 pub mod element;
+pub mod heads;
 pub mod law;
 mod leaf;
 pub mod moves;
@@ -22,4 +24,5 @@ pub mod strings;
 mod words;
 
 pub use contents::Contents;
+pub use heads::Heads;
 pub use moves::{Move, Moves};

@@ -4,6 +4,10 @@
 //! a local part that it doesn't mention; and a name in a namespace that it doesn't mention. Names that it mentions outside of
 //! excepts come first, and the letter `a` before anything longer, since that is what somebody would write.
 //!
+//! Each name that is tried takes a look at the whole class. So each part of a choice is first asked by itself for a name that it
+//! doesn't mention (`simple_name`), and the class for that one alone: classes of schemas that have a name have one of these, and
+//! thousands of names in an except are read a few times, not thousands of times.
+//!
 //! Choices nest to the left, so the walks here go down their left side in a loop, as those of rng_core do.
 
 ghost use Rattle.std.specs.Prelude.{◌≡◌, ◌+◌, None, true, false, replicate, IfOk, option_copied};
@@ -215,6 +219,98 @@ fn unmentioned_name(
     Ok(found)
 }
 
+/// The namespace in which a part of a class has names that is no choice; no namespace, where it has them in any.
+fn namespace_of(part: &NameClass) -> &[u8] {
+    let mut left = part;
+    loop {
+        match left {
+            NameClass::AnyName => return b"",
+            NameClass::NsName(ns) => return ns.as_slice(),
+            NameClass::Name(name) => return name.ns.as_slice(),
+            NameClass::Except(all, _) => left = all,
+            NameClass::Choice(_, _) => return b"",
+        }
+    }
+}
+
+/// The name with this local part in the namespace of a part of the class, if both have it.
+#[inline(never)]
+fn tried_alone(
+    alloc: Global,
+    bearer: Bearer,
+    class: &NameClass,
+    part: &NameClass,
+    local: &[u8],
+) -> Result<Option<Name>, NoMemory>
+    ensures { IfOk result (IsNameElse (Unit {0}) bearer (class_of class.now)) }
+{
+    let Some(name) = tried(alloc, bearer, part, namespace_of(part), local)? else {
+        return Ok(None);
+    };
+    if has_as(bearer, class, &name) {
+        return Ok(Some(name));
+    }
+    Ok(None)
+}
+
+/// A name with this local part that a part of the class has which isn't a choice, nor a name alone. Each such part is asked by itself.
+fn in_some_part(
+    alloc: Global,
+    bearer: Bearer,
+    class: &NameClass,
+    part: &NameClass,
+    local: &[u8],
+) -> Result<Option<Name>, NoMemory>
+    ensures { IfOk result (IsNameElse (Unit {0}) bearer (class_of class.now)) }
+{
+    let mut left = part;
+    loop {
+        match left {
+            NameClass::Name(_) => return Ok(None),
+            NameClass::AnyName => return tried_alone(alloc, bearer, class, left, local),
+            NameClass::NsName(_) => return tried_alone(alloc, bearer, class, left, local),
+            NameClass::Except(_, _) => return tried_alone(alloc, bearer, class, left, local),
+            NameClass::Choice(front, last) => {
+                if let Some(name) = in_some_part(alloc, bearer, class, last, local)? {
+                    return Ok(Some(name));
+                }
+                left = front;
+            }
+        }
+    }
+}
+
+/// A name with this local part, in no namespace or in that of a part of the class.
+fn simple_name_with(
+    alloc: Global,
+    bearer: Bearer,
+    class: &NameClass,
+    local: &[u8],
+) -> Result<Option<Name>, NoMemory>
+    ensures { IfOk result (IsNameElse (Unit {0}) bearer (class_of class.now)) }
+{
+    if let Some(name) = tried(alloc, bearer, class, b"", local)? {
+        return Ok(Some(name));
+    }
+    in_some_part(alloc, bearer, class, class, local)
+}
+
+/// A name that the class doesn't mention, found by asking each part of a choice by itself.
+fn simple_name(alloc: Global, bearer: Bearer, class: &NameClass) -> Result<Option<Name>, NoMemory>
+    ensures { IfOk result (IsNameElse (Unit {0}) bearer (class_of class.now)) }
+{
+    let short = letters(alloc, 1)?;
+    if let Some(name) = simple_name_with(alloc, bearer, class, short.as_slice())? {
+        return Ok(Some(name));
+    }
+    let long = longer(alloc, class)?;
+    if let Some(name) = simple_name_with(alloc, bearer, class, long.as_slice())? {
+        return Ok(Some(name));
+    }
+    let found = tried(alloc, bearer, class, long.as_slice(), short.as_slice())?;
+    Ok(found)
+}
+
 /// A name of a class that an element, or an attribute, can have.
 fn some_name(alloc: Global, bearer: Bearer, class: &NameClass) -> Result<Option<Name>, NoMemory>
     ensures { IfOk result (IsNameAnswer bearer (class_of class.now)) }
@@ -224,6 +320,9 @@ fn some_name(alloc: Global, bearer: Bearer, class: &NameClass) -> Result<Option<
     }
     if let Some(name) = mentioned_name(bearer, class, class, false) {
         return Ok(Some(name.copy()?));
+    }
+    if let Some(name) = simple_name(alloc, bearer, class)? {
+        return Ok(Some(name));
     }
     if let Some(name) = unmentioned_name(alloc, bearer, class)? {
         return Ok(Some(name));

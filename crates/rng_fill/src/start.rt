@@ -1,6 +1,6 @@
 //! How an element begins.
 
-ghost use Rattle.std.specs.Prelude.{◌≡◌, ◌<◌, [], ◌∷◌, ◌++◌, map, length, reverse, false, OnOk, IsTrue};
+ghost use Rattle.std.specs.Prelude.{◌≡◌, ◌<◌, [], ◌∷◌, ◌++◌, map, length, reverse, false, OnOk, IfOk, IsTrue};
 ghost use Rattle.std.specs.Option.{option_map};
 ghost use Rattle.std.specs.List.{AllByRecursion};
 ghost use Rattle.rng_core.specs.Meaning.{pattern_of};
@@ -11,12 +11,13 @@ ghost use Rattle.rng_fill.specs.Fillable.{CanBeFilled, HasFilling, IsNamed};
 ghost use Rattle.rng_fill.specs.Sorted.{ref_leaves, string_leaves, first_of, takes_string};
 ghost use Rattle.rng_fill.specs.Strings.{AreSoundTexts, has_some_string};
 ghost use Rattle.rng_fill.specs.Doing.{AddsString, Begins, Steps, AreTasksOf};
+ghost use Rattle.rng_fill.specs.Heads.{AddsStringOf, IsBeginning, IsBeginningOf, AreHeads};
 
 use crate::attributes::write_attributes;
 use crate::contents::Contents;
 use crate::element::Task;
+use crate::heads::{Head, Heads};
 use crate::moves::{Move, Moves};
-use crate::names::element_name;
 use crate::strings::string_of;
 use nx_base::memory::NoMemory;
 use rng_core::grammar::Pat;
@@ -105,31 +106,54 @@ fn write_string(alloc: Global, leaf: &Pat, moves: &mut Moves) -> Result<(), NoMe
     Ok(())
 }
 
+/// Writes the string among leaves, if one of them is a string's, but for the empty one.
+fn write_some_string(alloc: Global, leaves: &[&Pat], moves: &mut Moves) -> Result<(), NoMemory>
+    requires { AllByRecursion HasFilling (patterns_of leaves.now) }
+    ensures { OnOk result (AddsStringOf (first_of (string_leaves (patterns_of leaves.now))) moves.old moves.new) }
+{
+    match string_leaf(leaves) {
+        Some(leaf) => {
+            write_string(alloc, leaf, moves)?;
+            Ok(())
+        }
+        None => Ok(()),
+    }
+}
+
+/// What elements with these leaves begin with, behind their name: attributes, the end of the start tag, and the string, if there is one.
+pub(crate) fn beginning(alloc: Global, leaves: &[&Pat]) -> Result<Moves, NoMemory>
+    requires { AllByRecursion HasFilling (patterns_of leaves.now) }
+    ensures { IfOk result (IsBeginning (patterns_of leaves.now)) }
+{
+    let mut moves = Moves::new(alloc);
+    write_attributes(alloc, leaves, &mut moves)?;
+    moves.push(Move::TagEnd)?;
+    write_some_string(alloc, leaves, &mut moves)?;
+    Ok(moves)
+}
+
 impl Contents<'_> {
-    /// Writes the attributes of an element of a definition and the end of its start tag, and what is in it, if that is a string; elements
-    /// are put on the stack.
+    /// Begins what is in an element of a definition by the moves that it begins with; its elements are put on the stack.
     pub(crate) fn begin(
         &self,
         number: u32,
+        beginning: Moves,
         tasks: &mut Vec<Task>,
         moves: &mut Moves,
     ) -> Result<(), NoMemory>
         requires read { AreRead self.now }
         requires fit { CanBeFilled (definitions_in self.now) (costs_in self.now) }
         requires inside { number < length (definitions_in self.now) }
+        requires beginning { IsBeginningOf (definitions_in self.now) (costs_in self.now) number beginning }
         requires tasks { AreTasksOf (definitions_in self.now) tasks.old.items }
         ensures { OnOk result (Begins (definitions_in self.now) (costs_in self.now) number tasks.old.items tasks.new.items
             moves.old moves.new) }
     {
-        let leaves = self.leaves_at(number);
-        write_attributes(self.alloc, leaves, moves)?;
-        moves.push(Move::TagEnd)?;
+        moves.append(beginning)?;
         tasks.push(Task::Leave)?;
+        let leaves = self.leaves_at(number);
         match string_leaf(leaves) {
-            Some(leaf) => {
-                write_string(self.alloc, leaf, moves)?;
-                Ok(())
-            }
+            Some(_) => Ok(()),
             None => {
                 push_elements(leaves, tasks)?;
                 Ok(())
@@ -141,24 +165,28 @@ impl Contents<'_> {
     pub(crate) fn start(
         &self,
         number: u32,
+        heads: &mut Heads,
         tasks: &mut Vec<Task>,
         moves: &mut Moves,
     ) -> Result<(), NoMemory>
         requires read { AreRead self.now }
         requires fit { CanBeFilled (definitions_in self.now) (costs_in self.now) }
         requires named { IsNamed (definitions_in self.now) number }
+        requires heads { AreHeads (definitions_in self.now) (costs_in self.now) heads.old }
         requires tasks { AreTasksOf (definitions_in self.now) tasks.old.items }
-        ensures { OnOk result (Steps (definitions_in self.now) (costs_in self.now) (task.Element number) tasks.old.items tasks.new.items
+        ensures steps { OnOk result (Steps (definitions_in self.now) (costs_in self.now) (task.Element number) tasks.old.items tasks.new.items
             moves.old moves.new) }
+        ensures heads { AreHeads (definitions_in self.now) (costs_in self.now) heads.new }
     {
-        let Some(def) = self.defs.get(number as usize) else {
-            unreachable!();
-        };
-        let Some(name) = element_name(self.alloc, &def.class)? else {
+        let Head {
+            name,
+            moves: beginning,
+        } = self.head(number, heads)?;
+        let Some(name) = name else {
             unreachable!();
         };
         moves.push(Move::Enter(name))?;
-        self.begin(number, tasks, moves)?;
+        self.begin(number, beginning, tasks, moves)?;
         Ok(())
     }
 }

@@ -1,18 +1,15 @@
-use Rattle.std.proofs.Common.{Option, sym, subst, ap, ◌∙◌}
-use Rattle.std.specs.Option.{option_map}
-use Rattle.std.proofs.lemmas.Option.{slice_get-map}
+use Rattle.std.proofs.Common.{Option, subst}
 use Rattle.nx_base.specs.declared.name.Name.{Name}
-use Rattle.rng_core.specs.Meaning.{class_of, definition_of}
 use Rattle.rng_core.specs.declared.name_class.Bearer.TheVariants.{Element}
 use Rattle.rng_fill.specs.Contents.{definitions_in, costs_in}
 use Rattle.rng_fill.specs.Strings.{IsNameAnswer}
 use Rattle.rng_fill.proofs.Going.{named_start}
 use Rattle.rng_fill.proofs.contents.Contents.start.Goals as goal
 
-pub returns : goal.returns
-returns c =
-    let at = slice_get-map definition_of c.args.self.now.defs.now c.args.number ∙ ap (option_map definition_of) (sym c.in-Some.ensures) in
-    named_start (definitions_in c.args.self.now) (costs_in c.args.self.now) c.args.number (definition_of c.in-Some.def.now) c.in-Some-2.name
-    c.args.tasks.now.items c.begin.new.tasks.items c.args.moves.now c.push.new.self c.begin.new.moves at
-    (subst (λ (o : Option Name). IsNameAnswer Element (class_of c.in-Some.def.now.class) o) c.in-Some-2.is c.in_ok-name.ensures)
+pub returns-clause-steps : goal.returns-clause-steps
+returns-clause-steps c =
+    let w = c.in_ok-name.ensures.head in
+    named_start (definitions_in c.args.self.now) (costs_in c.args.self.now) c.args.number w.definition c.in-Some.name
+    c.args.tasks.now.items c.begin.new.tasks.items c.args.moves.now c.push.new.self c.begin.new.moves w.at
+    (subst (λ (o : Option Name). IsNameAnswer Element w.definition.class o) c.in-Some.is w.name)
     c.in_ok-push.ensures.ok c.in_ok-begin.ensures

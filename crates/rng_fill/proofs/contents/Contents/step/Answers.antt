@@ -9,5 +9,9 @@ pub returns-in_ok-push-in-Leave : goal.returns-in_ok-push-in-Leave
 returns-in_ok-push-in-Leave c =
     let g = definitions_in c.args.self.now in
     let costs = costs_in c.args.self.now in
-    subst (λ (x : Task). Steps g costs x c.args.tasks.now.items c.args.tasks.now.items c.args.moves.now c.push.new.self) (sym c.in-Leave.is)
-    (ends g costs c.args.tasks.now.items c.args.moves.now c.push.new.self c.requires.tasks c.in_ok-push-in-Leave.ensures.ok)
+    record {
+      steps =
+          subst (λ (x : Task). Steps g costs x c.args.tasks.now.items c.args.tasks.now.items c.args.moves.now c.push.new.self) (sym c.in-Leave.is)
+          (ends g costs c.args.tasks.now.items c.args.moves.now c.push.new.self c.requires.tasks c.in_ok-push-in-Leave.ensures.ok);
+      heads = c.requires.heads;
+    }
