@@ -1,9 +1,11 @@
 //! Runs the example scripts, one behind another, as `nxml` would, and tells of each example schema whether it can be used, how
-//! much of it documents can use, and whether it defines the same grammar in the XML syntax.
+//! much of it documents can use, whether a matcher takes what elements of each definition are filled with, and whether it defines the
+//! same grammar in the XML syntax.
 #![tactic(auto)]
 
 ghost use Rattle.std.specs.Prelude.{◌≡◌, ◌<◌, IfOk};
 ghost use Rattle.rng_core.specs.Soundness.{IsSound};
+ghost use Rattle.rng_fill_cases.specs.Usable.{IsUsable};
 
 use nx_base::sequence::Bytes;
 use nx_base::steps::Steps;
@@ -13,10 +15,14 @@ use nx_run::status::Status;
 use nx_views::pane::{FaultPane, LimitedPane};
 use nx_views::view::View;
 use rng_core::grammar::{Def, Grammar};
+use rng_fill::law::pruned_are_unmixed;
+use rng_fill_cases::judging::{Judgement, judged};
 use rng_live::prune::prune;
+use rng_live::schema::Schema;
 use rng_restrict::check::check;
 use rng_simplify::fault::SchemaFault;
 use rng_simplify::simplify::simplify;
+use std::alloc::Global;
 use std::io;
 use std::marker::Brand;
 use std::sync::ledger::{Blank, Ledger};
@@ -204,6 +210,18 @@ fn judge(rt: &HostRuntime, schema: &str, answer: Result<Grammar, SchemaFault>) -
     }
 }
 
+/// A word for what becomes of elements that each definition of a pruned schema is filled with.
+fn word_of(alloc: Global, schema: Schema) -> &'static str
+    requires { IsUsable schema.grammar }
+{
+    match judged(alloc, schema) {
+        Ok(Judgement::Filled) => "each filled",
+        Ok(Judgement::Large) => "too large to fill",
+        Ok(Judgement::Wrong) => "filled wrongly",
+        Err(_) => "no memory to fill them",
+    }
+}
+
 /// Prints which restriction the schema's grammar breaks, or what is left of it where its dead parts are pruned.
 fn judge_grammar(rt: &HostRuntime, schema: &str, grammar: Grammar) -> io::Result<()>
     requires { IsSound grammar }
@@ -212,10 +230,12 @@ fn judge_grammar(rt: &HostRuntime, schema: &str, grammar: Grammar) -> io::Result
     if let Err(fault) = check(rt.alloc(), &grammar) {
         return println!(rt; "{schema}: {fault:?}");
     }
+    pruned_are_unmixed();
     match prune(rt.alloc(), grammar) {
         Ok(pruned) => {
             let live = pruned.grammar().defs.len();
-            println!(rt; "{schema}: {count} definitions, {live} of them live")
+            let filled = word_of(rt.alloc(), pruned);
+            println!(rt; "{schema}: {count} definitions, {live} of them live, {filled}")
         }
         Err(fault) => println!(rt; "{schema}: {fault:?}"),
     }
