@@ -1,0 +1,11 @@
+pub mod Escaping
+pub mod Naming
+pub mod Spellings
+pub mod Tags
+pub mod Pieces
+pub mod Documents
+pub mod Reading
+pub mod Completing
+pub mod Begun
+pub mod Written
+pub mod Writing
