@@ -88,12 +88,14 @@ quoted_shown : (text : List ℕ) → Shown (quoted text)
 quoted_shown text = both (codes "\"" ++ printed_text text) (codes "\"") (both (codes "\"") (printed_text text) refl (printed_shown text)) refl
 
 short_shown : (own name : List ℕ) → Shown (short_name own name)
-short_shown own name = by (bytes_eq (namespace_of name) xml_namespace) (bytes_eq (namespace_of name) own)
+short_shown own name = by (bytes_eq (namespace_of name) xml_namespace) (bytes_eq (namespace_of name) own) (bytes_eq (namespace_of name) [])
   where
-    by : (a b : Bool) → Shown (cond a (codes "xml:" ++ printed_text (local_of name)) (cond b (printed_text (local_of name)) (printed_text name)))
-    by true b = both (codes "xml:") (printed_text (local_of name)) refl (printed_shown (local_of name))
-    by false true = printed_shown (local_of name)
-    by false false = printed_shown name
+    by : (a b c : Bool) → Shown (cond a (codes "xml:" ++ printed_text (local_of name))
+        (cond b (printed_text (local_of name)) (cond c (codes "{}" ++ printed_text name) (printed_text name))))
+    by true b c = both (codes "xml:") (printed_text (local_of name)) refl (printed_shown (local_of name))
+    by false true c = printed_shown (local_of name)
+    by false false true = both (codes "{}") (printed_text name) refl (printed_shown name)
+    by false false false = printed_shown name
 
 name_shown : (own name : List ℕ) → Shown (quoted_name own name)
 name_shown own name = both (codes "\"" ++ short_name own name) (codes "\"") (both (codes "\"") (short_name own name) refl (short_shown own name)) refl
@@ -183,9 +185,9 @@ sentence_shown kinds.SecondRoot detail expected = about (codes "element ") detai
 sentence_shown kinds.NoRoot detail expected = refl
 sentence_shown kinds.BadName detail expected = both (quoted detail) _ (quoted_shown detail) refl
 sentence_shown kinds.UndeclaredPrefix detail expected =
-    both (codes "prefix " ++ quoted detail ++ codes " isn't declared, by an attribute \"xmlns:" ++ printed_text detail) (codes "\"")
-    (both (codes "prefix " ++ quoted detail ++ codes " isn't declared, by an attribute \"xmlns:") (printed_text detail)
-    (about (codes "prefix ") detail (codes " isn't declared, by an attribute \"xmlns:") refl refl) (printed_shown detail)) refl
+    both (codes "prefix " ++ quoted detail ++ codes " isn't declared; it needs an attribute \"xmlns:" ++ printed_text detail) (codes "\"")
+    (both (codes "prefix " ++ quoted detail ++ codes " isn't declared; it needs an attribute \"xmlns:") (printed_text detail)
+    (about (codes "prefix ") detail (codes " isn't declared; it needs an attribute \"xmlns:") refl refl) (printed_shown detail)) refl
 sentence_shown kinds.DuplicateAttribute detail expected = about (codes "attribute ") detail _ refl refl
 sentence_shown kinds.BadBinding detail expected = both (quoted detail) _ (quoted_shown detail) refl
 sentence_shown kinds.Unknown detail expected = both (codes "the schema knows no element ") (quoted_name [] detail) refl (name_shown [] detail)

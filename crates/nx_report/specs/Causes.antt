@@ -11,7 +11,7 @@ use Rattle.nx_report.specs.Printed.{quoted}
 abbrev pub cause_text : Cause → List ℕ
 cause_text causes.BadEscape = codes "this escape denotes no character"
 cause_text causes.BadLiteral = codes "this literal has no end"
-cause_text causes.BadCharacter = codes "this character may not stand in a schema"
+cause_text causes.BadCharacter = codes "this character may not stand here"
 cause_text causes.Syntax = codes "this isn't the compact syntax of RELAX NG"
 cause_text causes.TooDeep = codes "more than 200 brackets or elements are open here"
 cause_text causes.UndeclaredPrefix = codes "a prefix isn't declared"
@@ -24,7 +24,7 @@ cause_text causes.NoDefinition = codes "a name is referred to or overridden that
 cause_text causes.NoStart = codes "the grammar has no start"
 cause_text causes.CombineClash = codes "definitions of one name don't say how they are combined, or say it in two ways"
 cause_text causes.RefLoop = codes "a definition leads back to itself without an element between"
-cause_text causes.BadExcept = codes "a wildcard is excepted from a wildcard"
+cause_text causes.BadExcept = codes "a wildcard may not be excepted from one that is no wider"
 cause_text causes.XmlnsName = codes "a name is used that belongs to the declaration of namespaces"
 cause_text causes.TooLarge = codes "the schema is too large"
 cause_text causes.UnknownType = codes "a datatype isn't known"

@@ -50,7 +50,7 @@ message_line name place severity words = head name place severity ++ printed_tex
 abbrev pub is_shown : ℕ → Bool
 is_shown byte = not (is_control byte)
 
--- a line, with its end and no other control character
+-- a line, with its end and no other control character of ASCII
 pub record IsOneLine (line : List ℕ) : Type 0 where
   pub front : List ℕ
   pub whole : line ≡ front ++ codes "\n"

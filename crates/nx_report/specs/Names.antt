@@ -1,5 +1,5 @@
 -- Names of elements and attributes, which a detail has as `{NAMESPACE}LOCAL`, in a sentence.
-use Rattle.std.specs.Prelude.{ℕ, ◌-◌, Bool, ◌==◌, not, cond, List, ◌++◌, length, take, drop, codes}
+use Rattle.std.specs.Prelude.{ℕ, ◌-◌, Bool, ◌==◌, not, cond, List, [], ◌++◌, length, take, drop, codes}
 use Rattle.std.specs.List.{suffix_len}
 use Rattle.std.specs.Str.{bytes_eq}
 use Rattle.nx_report.specs.Printed.{printed_text}
@@ -18,11 +18,12 @@ local_of name = drop (length name - suffix_len is_no_brace name) name
 abbrev pub xml_namespace : List ℕ
 xml_namespace = codes "{http://www.w3.org/XML/1998/namespace}"
 
--- a name where one namespace, in its braces or none, goes without saying
+-- a name where one namespace, in its braces or none, goes without saying; where that is a namespace, a name in none has empty braces
 abbrev pub short_name : List ℕ → List ℕ → List ℕ
 short_name own name =
     cond (bytes_eq (namespace_of name) xml_namespace) (codes "xml:" ++ printed_text (local_of name))
-    (cond (bytes_eq (namespace_of name) own) (printed_text (local_of name)) (printed_text name))
+    (cond (bytes_eq (namespace_of name) own) (printed_text (local_of name))
+    (cond (bytes_eq (namespace_of name) []) (codes "{}" ++ printed_text name) (printed_text name)))
 
 -- the same in quotes
 abbrev pub quoted_name : List ℕ → List ℕ → List ℕ

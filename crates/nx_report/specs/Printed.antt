@@ -1,4 +1,4 @@
--- Texts of documents as a terminal is shown them: no control character is written as it is.
+-- Texts of documents as a terminal is shown them: no control character of ASCII is written as it is.
 use Rattle.std.specs.Prelude.{ℕ, Bool, nat_lt, ◌==◌, ◌||◌, if◌then◌else◌, List, [], ◌∷◌, ◌++◌, codes, false}
 use Rattle.std.specs.Fmt.{digits}
 use Rattle.std.specs.List.{flat_map}

@@ -50,7 +50,7 @@ sentence_of kinds.SecondRoot detail expected = codes "element " ++ quoted detail
 sentence_of kinds.NoRoot detail expected = codes "the document has no element"
 sentence_of kinds.BadName detail expected = quoted detail ++ codes " is no name: it may have one \":\", with a name on both sides"
 sentence_of kinds.UndeclaredPrefix detail expected =
-    codes "prefix " ++ quoted detail ++ codes " isn't declared, by an attribute \"xmlns:" ++ printed_text detail ++ codes "\""
+    codes "prefix " ++ quoted detail ++ codes " isn't declared; it needs an attribute \"xmlns:" ++ printed_text detail ++ codes "\""
 sentence_of kinds.DuplicateAttribute detail expected = codes "attribute " ++ quoted detail ++ codes " stands twice in this tag"
 sentence_of kinds.BadBinding detail expected = quoted detail ++ codes " may not declare this namespace"
 sentence_of kinds.Unknown detail expected = codes "the schema knows no element " ++ quoted_name [] detail

@@ -12,7 +12,7 @@ pub(crate) fn cause_text(cause: Cause) -> &'static str
     match cause {
         Cause::BadEscape => "this escape denotes no character",
         Cause::BadLiteral => "this literal has no end",
-        Cause::BadCharacter => "this character may not stand in a schema",
+        Cause::BadCharacter => "this character may not stand here",
         Cause::Syntax => "this isn't the compact syntax of RELAX NG",
         Cause::TooDeep => "more than 200 brackets or elements are open here",
         Cause::UndeclaredPrefix => "a prefix isn't declared",
@@ -26,7 +26,7 @@ pub(crate) fn cause_text(cause: Cause) -> &'static str
         Cause::CombineClash =>
             "definitions of one name don't say how they are combined, or say it in two ways",
         Cause::RefLoop => "a definition leads back to itself without an element between",
-        Cause::BadExcept => "a wildcard is excepted from a wildcard",
+        Cause::BadExcept => "a wildcard may not be excepted from one that is no wider",
         Cause::XmlnsName => "a name is used that belongs to the declaration of namespaces",
         Cause::TooLarge => "the schema is too large",
         Cause::UnknownType => "a datatype isn't known",

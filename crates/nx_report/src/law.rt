@@ -3,7 +3,7 @@
 ghost use Rattle.nx_report.specs.Lines.{LinesAreOneLine};
 ghost use Rattle.nx_report.specs.Words.{DetailsAreRead};
 
-/// Each report is one line: whatever names, details and offers hold, its only control character is the line feed at its end.
+/// Each report is one line: whatever names, details and offers hold, its only control character of ASCII is the line feed at its end.
 pub fn lines_are_one_line()
     ensures { LinesAreOneLine }
 {}

@@ -2,7 +2,7 @@
 //!
 //! `guide.xml:12:5: error: element "para" may not stand here yet: needs "title" [NotYet]`: a file as it was named, a place, a sentence, and
 //! the kind of the fault. What each kind says stands in one table (specs/Sentences.antt). Texts of documents are written so that no
-//! control character of theirs reaches a terminal, and so that each report is one line.
+//! ASCII control character of theirs reaches a terminal, and so that each report is one line.
 #![tactic(auto)]
 
 mod cause;

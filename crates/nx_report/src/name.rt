@@ -43,7 +43,13 @@ fn push_name(alloc: Global, out: &mut Vec<u8>, own: &[u8], name: &[u8]) -> Resul
         push_words(out, "xml:")?;
         return push_printed(alloc, out, local);
     }
-    push_printed(alloc, out, if namespace == own { local } else { name })
+    if namespace == own {
+        return push_printed(alloc, out, local);
+    }
+    if namespace == b"".as_slice() {
+        push_words(out, "{}")?;
+    }
+    push_printed(alloc, out, name)
 }
 
 /// Adds a name in quotes, without its namespace where that goes without saying.

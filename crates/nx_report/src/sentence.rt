@@ -145,14 +145,14 @@ fn push_about(
 /// Adds that a prefix isn't declared.
 fn push_undeclared(alloc: Global, out: &mut Vec<u8>, prefix: &[u8]) -> Result<(), NoMemory>
     ensures { OnOk result (out.new.items ≡ out.old.items
-        ++ (codes "prefix " ++ quoted prefix.now ++ codes " isn't declared, by an attribute \"xmlns:" ++ printed_text prefix.now ++ codes "\"")) }
+        ++ (codes "prefix " ++ quoted prefix.now ++ codes " isn't declared; it needs an attribute \"xmlns:" ++ printed_text prefix.now ++ codes "\"")) }
 {
     push_about(
         alloc,
         out,
         "prefix ",
         prefix,
-        " isn't declared, by an attribute \"xmlns:",
+        " isn't declared; it needs an attribute \"xmlns:",
     )?;
     push_printed(alloc, out, prefix)?;
     push_words(out, "\"")

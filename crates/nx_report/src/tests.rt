@@ -83,7 +83,7 @@ const SENTENCES: [(Kind, &str, &str); 37] = [
     (
         Kind::UndeclaredPrefix,
         "p",
-        "prefix \"p\" isn't declared, by an attribute \"xmlns:p\"",
+        "prefix \"p\" isn't declared; it needs an attribute \"xmlns:p\"",
     ),
     (
         Kind::DuplicateAttribute,
@@ -128,7 +128,7 @@ const SENTENCES: [(Kind, &str, &str); 37] = [
     (
         Kind::NotYet,
         "{urn:x y}p needs {urn:x y}t {urn:z}i s",
-        "element \"p\" may not stand here yet: needs \"t\", \"{urn:z}i\", \"s\"",
+        "element \"p\" may not stand here yet: needs \"t\", \"{urn:z}i\", \"{}s\"",
     ),
     (
         Kind::UnknownAttribute,
@@ -249,7 +249,7 @@ fn what_is_expected_is_told(rt: HostRuntime) {
     let alloc = rt.alloc();
     let offers = elements(alloc).expect(&rt, "memory");
     let wanted =
-        "element \"p\" may not stand here; here may stand \"a\", \"b\", any element of namespace \"urn:z\", any other element, \"</q:s>\"";
+        "element \"p\" may not stand here; here may stand \"a\", \"{}b\", any element of namespace \"urn:z\", any other element, \"</q:s>\"";
     assert!(rt;
         says(
             alloc,
