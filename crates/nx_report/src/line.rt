@@ -64,7 +64,7 @@ fn push_kind(out: &mut Vec<u8>, kind: Kind) -> Result<(), NoMemory>
     push_words(out, "]\n")
 }
 
-/// Adds the line of a fault of a document: the file as it was named, the place at which the fault begins, a sentence, and the kind. What
+/// Adds the line of a fault of a document, or, where there is no memory, perhaps a part of it: the file as it was named, the place at which the fault begins, a sentence, and the kind. What
 /// is expected in its place are the offers of completion there; `NotAllowed`, `UnknownAttribute` and `BadValue` tell them.
 pub fn push_fault_line(
     alloc: Global,
@@ -92,7 +92,7 @@ fn errors_text(alloc: Global, count: usize) -> Result<String, AllocError>
     }
 }
 
-/// Adds the line behind the faults of a document: how many there are.
+/// Adds the line behind the faults of a document: how many there are. Without memory a part of it may have been added.
 pub fn push_summary(
     alloc: Global,
     out: &mut Vec<u8>,
@@ -107,7 +107,7 @@ pub fn push_summary(
     push_words(out, "\n")
 }
 
-/// Adds why a file can't be used: a document, a schema or rules. What that is about is the name of a definition, an element or a file, or
+/// Adds why a file can't be used, or, where there is no memory, perhaps a part of that line: a document, a schema or rules. What that is about is the name of a definition, an element or a file, or
 /// nothing.
 pub fn push_trouble_line(
     alloc: Global,
@@ -125,7 +125,7 @@ pub fn push_trouble_line(
     push_words(out, "\n")
 }
 
-/// Adds words about a file.
+/// Adds words about a file. Without memory a part of them may have been added.
 pub fn push_message_line(
     alloc: Global,
     out: &mut Vec<u8>,

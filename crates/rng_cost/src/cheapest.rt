@@ -2,7 +2,7 @@
 //!
 //! One walk finds the leaves and the cost of both sides of a choice, and then lets go of those of the dearer side. So each node is
 //! looked at once, however long a chain of choices is. Where the second side is cheaper its leaves, 10,000 at most, are
-//! moved to the place of the first side's.
+//! moved to the place of the first side's, at each choice above them.
 
 ghost use Rattle.std.specs.Prelude.{◌≡◌, ◌≤◌, [], ◌∷◌, ◌++◌, nat_le, min, length, take, drop, if◌then◌else◌, IfOk, OnOk};
 ghost use Rattle.rng_core.specs.Meaning.{pattern_of};

@@ -71,7 +71,7 @@ impl Contents<'_> {
     }
 
     /// Adds the moves of an element that the definition of a number allows, with a name of its class. It takes as many steps as it adds
-    /// moves, and what the heads take that weren't known.
+    /// moves, and what the heads take that weren't known. Without memory some of the moves may have been added.
     pub fn write_element(
         &self,
         number: u32,
