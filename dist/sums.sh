@@ -1,4 +1,4 @@
-# Which crates a program is made of, and the sums by which a shipped program is known. Sourced by nxml, dist/update and
+# Which crates a program is made of, and the sums by which a shipped program is known. Sourced by dist/run.sh, dist/update and
 # dist/compare, which set `top`, the repository's folder.
 
 # The words behind a name in the manifest, as `sources nxml 5f..`.
@@ -12,6 +12,7 @@ crates=()
 
 find_crates() {
   local name rest
+  libraries=() seen=() crates=()
   while IFS=: read -r name rest; do
     name=${name%% *}
     [[ -z $name || $name == '#'* ]] || libraries[$name]=${rest%%#*}

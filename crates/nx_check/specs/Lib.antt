@@ -1,0 +1,12 @@
+pub mod Words
+pub mod Naming
+pub mod Sources
+pub mod Schemas
+pub mod Reasons
+pub mod Stopping
+pub mod Telling
+pub mod Reports
+pub mod Files
+pub mod Codes
+pub mod Output
+pub mod Check

@@ -1,0 +1,30 @@
+//! Documents from the command line, checked and told in words.
+//!
+//! `check` is the whole of the program `nxml-check`: words, files and an output in, bytes and a status out. It reads the words by clap
+//! (`words`), and takes the documents that they name one after another (`file`): a document is fetched (`document`), its schema found
+//! (`source`), an editor for that schema made or taken that was kept from a document before (`kept`), and what the editor lists as
+//! faults becomes lines (`report`). What can't be checked is a `reason`, and a line, too
+//! (`trouble`), which tells where reading a schema file stops (`stop`).
+//!
+//! What a run does stands in specs/Check.antt, over Files (what becomes of a document), Naming, Sources and Schemas (which document
+//! that is, and its schema), Reports and Telling (the lines), and Reasons.
+#![tactic(auto)]
+
+pub mod check;
+pub mod document;
+mod file;
+pub mod input;
+pub mod kept;
+pub mod reason;
+pub mod recent;
+mod report;
+mod source;
+pub mod status;
+pub mod stop;
+pub mod told;
+mod trouble;
+pub mod words;
+
+pub use document::STANDARD_INPUT;
+pub use recent::Recent;
+pub use status::Status;

@@ -1,0 +1,11 @@
+//! Whole checks over files and outputs in memory. All of this is for tests.
+#![tactic(auto)]
+
+#[cfg(test)]
+mod checking;
+#[cfg(test)]
+mod documents;
+#[cfg(test)]
+mod rows;
+#[cfg(test)]
+mod tests;

@@ -1,0 +1,102 @@
+# Runs a proved program in the caller's folder, with the caller's words and exit status. Sourced by nxml and nxml-check, which set
+# `top`, the repository's folder, `program`, the crate, `name`, by which it is called, and `words`, which come before the caller's.
+#
+# That is the program in dist/, which the gate built, as long as the sources are those that it was built of. Where they
+# aren't, on another kind of machine, and where NXML_PROVE is set, the program is proved and built here first.
+set -u
+
+# The status where there is no program to run; the program's own end at 5.
+readonly NOT_BUILT=70
+
+readonly shipped=$top/dist/$program built=$top/crates/$program/out/$program
+# Remembers that the shipped program is that of these sources, and where they stand. It is newer than all of them.
+readonly told=$top/dist/.told-$program
+
+# Whether it was told before that the shipped program is that of the sources, and nothing changed since. All files and folders
+# are listed, so that no folder has to be read: where a file is new or gone, its folder has changed.
+is_known() {
+  [[ -f $told && -x $shipped ]] || return 1
+  local changed places
+  changed=$(cd "$top" >/dev/null && find -files0-from "dist/.told-$program" -prune -newer "dist/.told-$program" -print -quit 2>&1)
+  if [[ $changed == *files0-from* ]]; then
+    # Before its version 4.9 find takes no list from a file.
+    mapfile -d '' -t places <"$told"
+    changed=$(cd "$top" >/dev/null && find "${places[@]}" -prune -newer "dist/.told-$program" -print -quit 2>&1)
+  fi
+  [[ -z $changed ]]
+}
+
+# Whether the shipped program is that of the sources, and runs here. Where it is, that is remembered.
+is_that_of_sources() {
+  [[ $OSTYPE == linux* && $HOSTTYPE == x86_64 && -x $shipped ]] || return 1
+  local beside=$told.$$
+  # Made before the sources are read, so that what changes meanwhile is newer.
+  { list_sources; printf '%s\0' "dist/$program" dist/MANIFEST; } 2>/dev/null >"$beside"
+  if [[ $(sum_of_file "$shipped") == "$(told_in_manifest "program $program")" && $(sum_of_sources) == "$(told_in_manifest "sources $program")" ]]; then
+    # Without words it writes how it is called, and ends with 2.
+    "$shipped" >/dev/null 2>&1
+    if [[ $? == 2 ]]; then
+      # Where nothing can be written here, it is asked again each time.
+      mv "$beside" "$told" 2>/dev/null || rm -f "$beside"
+      return 0
+    fi
+  fi
+  rm -f "$beside"
+  return 1
+}
+
+# Whether the program that was built here is that of the sources.
+is_fresh() {
+  local places
+  [[ -x $built ]] || return 1
+  mapfile -t places < <(source_places)
+  [[ -z $(cd "$top" >/dev/null && find "${places[@]}" -newer "crates/$program/out/$program" -print -quit 2>&1) ]]
+}
+
+# Proves and builds a crate, and tells what was said of it where that fails.
+build_crate() {
+  local command=lib log
+  log=$(mktemp) || exit $NOT_BUILT
+  # The command that builds the program runs it once, without words: it writes its usage, and ends with 2.
+  [[ $1 == "$program" ]] && command=run
+  (cd "$top/crates/$1" >/dev/null && rt "$command") </dev/null >"$log" 2>&1
+  local status=$?
+  if [[ $1 == "$program" ]]; then
+    [[ -x $built ]]
+    status=$?
+  fi
+  [[ $status == 0 ]] || cat "$log" >&2
+  rm -f "$log"
+  return $status
+}
+
+build() {
+  local number=0 count=${#crates[@]} crate
+  if ! command -v rt >/dev/null; then
+    echo "$name: the program in dist/ isn't that of these sources, or this is no x86-64 Linux; to prove and build it, the kit's rt has to be on the path" >&2
+    exit $NOT_BUILT
+  fi
+  # What was built before doesn't stand for what is there now.
+  rm -f "$built"
+  echo "$name: proving and building the program, which is $count crates and takes an hour or more the first time" >&2
+  for crate in "${crates[@]}"; do
+    number=$((number + 1))
+    echo "$name: proving $crate, $((count - number)) left after it" >&2
+    if ! build_crate "$crate"; then
+      echo "$name: $crate could not be built" >&2
+      exit $NOT_BUILT
+    fi
+  done
+  touch "$built"
+}
+
+if [[ -z ${NXML_PROVE:-} ]] && is_known; then
+  exec "$shipped" ${words[@]+"${words[@]}"} "$@"
+fi
+source "$top/dist/sums.sh"
+find_crates "$program"
+if [[ -z ${NXML_PROVE:-} ]] && ! is_fresh && is_that_of_sources; then
+  exec "$shipped" ${words[@]+"${words[@]}"} "$@"
+fi
+is_fresh || build
+exec "$built" ${words[@]+"${words[@]}"} "$@"
