@@ -1,2 +1,5 @@
+pub mod Finding
+pub mod Keeping
+pub mod Listing
 pub mod Matching
 pub mod Running

@@ -1,5 +1,6 @@
 -- Documents that are being checked: what became of those so far, and how it goes on.
-use Rattle.std.proofs.Common.{◌≡◌, ℕ, ◌||◌, Bool, true, false, List, [], ◌∷◌, ◌++◌, Option, Some, None, Result, Ok, Err, refl, sym, ap, ◌∙◌, subst, append_assoc, inl, inr}
+use Rattle.std.proofs.Common.{◌≡◌, ℕ, zero, suc, ◌<◌, ◌≤◌, ◌||◌, Bool, true, false, List, [], ◌∷◌, ◌++◌, Option, Some, None, Result, Ok, Err, refl, sym, ap, ◌∙◌, subst, append_assoc, inl, inr, arith, drop, length, map, get_or}
+use Rattle.std.specs.Borrow.{Bor}
 use Rattle.std.specs.List.{list_any}
 use Rattle.std.proofs.lemmas.List.Folds.{list_any-append}
 use Rattle.std.proofs.lemmas.List.{append-nil}
@@ -11,7 +12,7 @@ use Rattle.nx_session.specs.Editor.{FilesState}
 use Rattle.nx_check.specs.Check.{ChecksAll, texts_of, IsWhole, IsCutOff, StopsAt, ChecksFiles, SaysLine}
 use Rattle.nx_check.specs.Codes.{stop_status, status_by, is_starved, is_unread, is_faulty}
 use Rattle.nx_check.specs.Files.{ChecksFile}
-use Rattle.nx_check.specs.Output.{OutState}
+use Rattle.nx_check.specs.Output.{OutState, out_state}
 use Rattle.nx_check.specs.Words.{Asked}
 use Rattle.nx_check.specs.declared.status.Status.{Status}
 use Rattle.nx_check.specs.declared.status.Status.TheVariants.{Output, Memory}
@@ -38,7 +39,10 @@ pub line-refused : (line : List ℕ) (meant : Status) (fault : OutFault) (before
     Writes {A = Unit {0}} (Err fault) before.bytes line after.bytes → CountsOutFault {A = Unit {0}} (Err fault) before.faults after.faults →
     SaysLine line meant (stop_status fault) before after
 line-refused line meant Failed before after written rose = inr (inl (refl, (written, rose)))
-line-refused line meant NoMemory before after same quiet = inr (inr (refl, cc))
+line-refused line meant NoMemory before after same quiet = inr (inr (refl, same-out before after same quiet))
+  where
+    same-out : (b a : OutState) → a.bytes ≡ b.bytes → a.faults ≡ b.faults → a ≡ b
+    same-out b a s q = let B : Option (List ℕ) → OutState = λ t. out_state t a.faults in let F : ℕ → OutState = λ n. out_state b.bytes n in ap B s ∙ ap F q
 
 -- ---- documents, one after another
 
@@ -178,3 +182,25 @@ check-stopped asked folder old now next before after last left rest word told st
         let R : ℕ → Type 0 = λ n. Rose n last.faults in
         (cut_off written, inl (is, subst R h.no_fault rose))
     by_fault NoMemory same quiet is = (cut_off (part_of after.bytes told.text last.bytes same), inr (is, quiet ∙ h.no_fault))
+
+-- ---- words, one after another
+
+-- the words from a place on begin with the one that is there
+pub next-left : (words : List (Bor (List ℕ))) (i m : ℕ) (d : Bor (List ℕ)) → i < length words → m ≡ suc i →
+    drop i (map (λ (w : Bor (List ℕ)). w.now) words) ≡ (get_or words i d).now ∷ drop m (map (λ (w : Bor (List ℕ)). w.now) words)
+next-left words i m d lt is =
+    let P : ℕ → Type 0 = λ n. drop i (map (λ (w : Bor (List ℕ)). w.now) words) ≡ (get_or words i d).now ∷ drop n (map (λ (w : Bor (List ℕ)). w.now) words) in
+    subst P (sym is) (go words i lt)
+  where
+    go : (ws : List (Bor (List ℕ))) (k : ℕ) → k < length ws →
+        drop k (map (λ (w : Bor (List ℕ)). w.now) ws) ≡ (get_or ws k d).now ∷ drop (suc k) (map (λ (w : Bor (List ℕ)). w.now) ws)
+    go [] k low = absurd (omega arith)
+    go (w ∷ ws) zero low = refl
+    go (w ∷ ws) (suc k) low = go ws k (omega arith)
+
+-- none are left behind the last
+pub none-left : (words : List (Bor (List ℕ))) (i : ℕ) → length words ≤ i → drop i (map (λ (w : Bor (List ℕ)). w.now) words) ≡ []
+none-left [] zero low = refl
+none-left [] (suc i) low = refl
+none-left (w ∷ ws) zero low = absurd (omega arith)
+none-left (w ∷ ws) (suc i) low = none-left ws i (omega arith)

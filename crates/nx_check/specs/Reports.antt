@@ -83,3 +83,7 @@ IsReport false schema text name faults report =
 -- the lines of the faults came to the end of what was there
 abbrev pub AddsLines : Option Language → List ℕ → List ℕ → List Fault → List ℕ → List ℕ → Type 0
 AddsLines schema text name faults old new = (lines : List ℕ) × AreLines schema text name 0 faults lines × (new ≡ old ++ lines)
+
+-- the line of one fault did
+abbrev pub AddsLine : Option Language → List ℕ → List ℕ → ℕ → Fault → List ℕ → List ℕ → Type 0
+AddsLine schema text name number fault old new = (line : List ℕ) × IsLine schema text name number fault line × (new ≡ old ++ line)

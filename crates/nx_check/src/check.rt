@@ -192,15 +192,13 @@ fn check_files<F: Files, O: Out, L: Ledger>(
         unread: false,
         faulty: false,
     };
-    let mut rest = call.files.as_slice();
-    while let Some((word, behind)) = rest.split_first() {
+    for word in call.files.as_slice() {
         let told = check_file(alloc, call, folder, word, kept, files, steps);
         tally.note(told.verdict);
         match out.write(alloc, told.text.as_slice()) {
             Ok(()) => {}
             Err(fault) => return Status::from(fault),
         }
-        rest = behind;
     }
     tally.status()
 }

@@ -33,6 +33,16 @@ pub struct Document {
     pub bytes: Bytes,
 }
 
+impl Document {
+    /// The URI as text.
+    pub(crate) fn uri(&self) -> &str
+        requires { IsAscii self.now.uri }
+        ensures { result.now ≡ self.now.uri }
+    {
+        text_of(&self.uri)
+    }
+}
+
 /// The URI of the file that a word names which is written in this folder.
 pub(crate) fn uri_of(alloc: Global, folder: &[u8], word: &str) -> Result<Bytes, UriFault>
     ensures named { IfOk result (Names folder.now word.now) }

@@ -57,11 +57,18 @@ pub(crate) fn keep(kept: &mut Vec<Kept>, one: Kept)
     ensures { (told : Option FileMap) → HoldTheirs told kept.old.items → HoldsSchema told one.source one.session.editor.schema
         → HoldTheirs told kept.new.items }
 {
+    make_room(kept);
+    // Where there is no room for it, it is dropped, and made again when it is wanted.
+    let _kept = kept.push(one);
+}
+
+/// Lets that editor go which was used longest ago, where there are as many as are kept at most.
+fn make_room(kept: &mut Vec<Kept>)
+    ensures { (told : Option FileMap) → HoldTheirs told kept.old.items → HoldTheirs told kept.new.items }
+{
     if kept.len() >= MOST_KEPT {
         drop(kept.remove(0));
     }
-    // Where there is no room for it, it is dropped, and made again when it is wanted.
-    let _kept = kept.push(one);
 }
 
 /// Takes the editor for this schema, if it was kept.

@@ -1,8 +1,10 @@
 //! What is told of a document that was checked.
 
 ghost use Rattle.std.specs.Prelude.{◌≡◌, ◌++◌, IfOk, OnOk};
+ghost use Rattle.nx_lines.specs.Cursors.{IsAtPlace};
+ghost use Rattle.nx_position.specs.declared.position.Encoding.TheVariants.{Utf32};
 ghost use Rattle.nx_session.specs.Editor.{files_state, schema_of};
-ghost use Rattle.nx_check.specs.Reports.{tells_expected, wants_expected, AreExpected, AreExpectedAt, AddsLines, remark, summary, IsReport};
+ghost use Rattle.nx_check.specs.Reports.{tells_expected, AddsLine, wants_expected, AreExpected, AreExpectedAt, AddsLines, remark, summary, IsReport};
 
 use nx_base::fault::{Fault, Kind};
 use nx_base::memory::NoMemory;
@@ -103,18 +105,51 @@ fn push_lines<F: Files, L: Ledger>(
 {
     let mut cursor = Cursor::new(Encoding::Utf32);
     for (number, fault) in faults.iter().enumerate() {
-        let expected = expected(alloc, session, number, fault, files, steps)?;
-        let place = cursor.shown_at(session.text(), fault.span.from);
-        push_fault_line(
+        push_fault(
             alloc,
             text,
-            word.as_bytes(),
-            place,
+            word,
+            session,
+            &mut cursor,
+            number,
             fault,
-            expected.as_slice(),
+            files,
+            steps,
         )?;
     }
     Ok(())
+}
+
+/// Adds the line of the fault of this number.
+fn push_fault<F: Files, L: Ledger>(
+    alloc: Global,
+    text: &mut Vec<u8>,
+    word: &str,
+    session: &mut Session,
+    cursor: &mut Cursor,
+    number: usize,
+    fault: &Fault,
+    files: &mut F,
+    steps: &mut Steps<L>,
+) -> Result<(), NoMemory>
+    requires stands { IsAtPlace session.old.editor.text cursor.old }
+    requires encoding { cursor.old.encoding ≡ Utf32 }
+    ensures line { OnOk result (AddsLine (schema_of session.old.editor) session.old.editor.text word.now number fault.now text.old.items text.new.items) }
+    ensures stands { OnOk result (IsAtPlace session.new.editor.text cursor.new) }
+    ensures encoding { OnOk result (cursor.new.encoding ≡ Utf32) }
+    ensures editor { session.new.editor ≡ session.old.editor }
+    ensures stays { files_state (F.told files.new) (F.faults files.new) ≡ files_state (F.told files.old) (F.faults files.old) }
+{
+    let expected = expected(alloc, session, number, fault, files, steps)?;
+    let place = cursor.shown_at(session.text(), fault.span.from);
+    push_fault_line(
+        alloc,
+        text,
+        word.as_bytes(),
+        place,
+        fault,
+        expected.as_slice(),
+    )
 }
 
 /// Whether the fault of this number tells what may stand in the place of what is wrong.

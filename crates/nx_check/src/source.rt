@@ -74,7 +74,7 @@ fn found_source<F: Files, L: Ledger>(
     // The editor that reads the document makes a text of its own, of the document's very bytes.
     let text = Text::from_bytes(document.bytes.copy()?)?;
     match named_schema(alloc, &text, steps)? {
-        Some(href) => Ok(Some(uri::join(alloc, text_of(&document.uri), text_of(&href))?)),
+        Some(href) => Ok(Some(uri::join(alloc, document.uri(), text_of(&href))?)),
         None => located_source(alloc, call, folder, word, document, &text, files, steps),
     }
 }
@@ -106,7 +106,7 @@ fn located_source<F: Files, L: Ledger>(
         Some(uri) => Some(text_of(uri)),
         None => None,
     };
-    match locate(alloc, rules, text_of(&document.uri), text, files, steps) {
+    match locate(alloc, rules, document.uri(), text, files, steps) {
         Ok(found) => Ok(found),
         Err(LocateFault::Failed) => Err(Reason::Failed),
         Err(fault) => Err(Reason::Rules(fault)),
@@ -151,7 +151,7 @@ fn rules_beside<F: Files>(
     ensures stops { IfErr result (LacksRulesBeside document.now (files_state (F.told files.old) (F.faults files.old))
         (files_state (F.told files.new) (F.faults files.new))) }
 {
-    let uri = uri::join(alloc, text_of(&document.uri), RULES_BESIDE)?;
+    let uri = uri::join(alloc, document.uri(), RULES_BESIDE)?;
     if files.has(alloc, text_of(&uri))? {
         Ok(Some(uri))
     } else {

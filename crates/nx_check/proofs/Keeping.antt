@@ -1,0 +1,49 @@
+-- Editors that are kept, each for its schema.
+use Rattle.std.proofs.Common.{◌≡◌, ℕ, zero, suc, ◌<◌, Bool, true, false, cond, List, [], ◌∷◌, ◌++◌, length, Option, refl, sym, ap, ◌∙◌, subst, arith, get_or}
+use Rattle.std.specs.List.{AllByRecursion, remove, slice_index_or}
+use Rattle.nx_host.specs.Files.{FileMap}
+use Rattle.nx_check.specs.Schemas.{HoldsSchema, HoldTheirs}
+use Rattle.nx_check.specs.declared.kept.Kept.{Kept}
+
+-- of those for which something holds it holds of each
+pub all-at : {X : Type 0} (P : X → Type 0) (xs : List X) (i : ℕ) (d : X) → AllByRecursion P xs → i < length xs → P (slice_index_or xs i d)
+all-at P [] i d h lt = absurd (omega arith)
+all-at P (x ∷ xs) zero d h lt = h.0
+all-at P (x ∷ xs) (suc i) d h lt = all-at P xs i d h.1 (omega arith)
+
+-- and of the others where one is gone
+pub all-remove : {X : Type 0} (P : X → Type 0) (xs : List X) (i : ℕ) → AllByRecursion P xs → AllByRecursion P (remove xs i)
+all-remove P [] zero h = tt
+all-remove P [] (suc i) h = tt
+all-remove P (x ∷ xs) zero h = h.1
+all-remove P (x ∷ xs) (suc i) h = (h.0, all-remove P xs i h.1)
+
+pub all-push : {X : Type 0} (P : X → Type 0) (xs : List X) (x : X) → AllByRecursion P xs → P x → AllByRecursion P (xs ++ x ∷ [])
+all-push P [] x h one = (one, tt)
+all-push P (y ∷ ys) x h one = (h.0, all-push P ys x h.1 one)
+
+abbrev Theirs : Option FileMap → Kept → Type 0
+Theirs told one = HoldsSchema told one.source one.session.editor.schema
+
+-- one of them is taken
+pub taken : (told : Option FileMap) (kept left : List Kept) (place : ℕ) (one : Kept) (source : Option (List ℕ)) → place < length kept →
+    one ≡ slice_index_or kept place one → ((d : Kept) → (slice_index_or kept place d).source ≡ source) → left ≡ remove kept place → HoldTheirs told kept →
+    HoldsSchema told source one.session.editor.schema × (one.source ≡ source) × HoldTheirs told left
+taken told kept left place one source lt is for_source gone theirs =
+    let its : one.source ≡ source = ap (λ (k : Kept). k.source) is ∙ for_source one in
+    let holds : Theirs told one = subst (Theirs told) (sym is) (all-at (Theirs told) kept place one theirs lt) in
+    (
+      subst (λ (s : Option (List ℕ)). HoldsSchema told s one.session.editor.schema) its holds,
+      its,
+      subst (HoldTheirs told) (sym gone) (all-remove (Theirs told) kept place theirs),
+    )
+
+-- the first is let go
+pub let-go : (told : Option FileMap) (kept left : List Kept) → left ≡ remove kept 0 → HoldTheirs told kept → HoldTheirs told left
+let-go told kept left gone theirs = subst (HoldTheirs told) (sym gone) (all-remove (Theirs told) kept 0 theirs)
+
+-- one more is kept, if there is memory for it
+pub kept-more : (told : Option FileMap) (kept left : List Kept) (one : Kept) (done : Bool) → left ≡ cond done (kept ++ one ∷ []) kept → HoldTheirs told kept →
+    HoldsSchema told one.source one.session.editor.schema → HoldTheirs told left
+kept-more told kept left one true is theirs holds = subst (HoldTheirs told) (sym is) (all-push (Theirs told) kept one theirs holds)
+kept-more told kept left one false is theirs holds = subst (HoldTheirs told) (sym is) theirs
