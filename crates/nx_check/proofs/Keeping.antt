@@ -47,3 +47,12 @@ pub kept-more : (told : Option FileMap) (kept left : List Kept) (one : Kept) (do
     HoldsSchema told one.source one.session.editor.schema → HoldTheirs told left
 kept-more told kept left one true is theirs holds = subst (HoldTheirs told) (sym is) (all-push (Theirs told) kept one theirs holds)
 kept-more told kept left one false is theirs holds = subst (HoldTheirs told) (sym is) theirs
+
+-- what is kept, and what was taken of it, is right for the files as they are later
+pub kept-still : (old new : Option FileMap) (kept : List Kept) (one : Kept) (source : Option (List ℕ)) → new ≡ old → HoldTheirs old kept →
+    HoldsSchema old source one.session.editor.schema → one.source ≡ source → HoldTheirs new kept × HoldsSchema new one.source one.session.editor.schema
+kept-still old new kept one source same theirs holds its =
+    let P : Option FileMap → Type 0 = λ t. HoldTheirs t kept in
+    let Q : Option FileMap → Type 0 = λ t. HoldsSchema t one.source one.session.editor.schema in
+    let R : Option (List ℕ) → Type 0 = λ s. HoldsSchema old s one.session.editor.schema in
+    (subst P (sym same) theirs, subst Q (sym same) (subst R (sym its) holds))

@@ -68,6 +68,7 @@ pub(crate) fn fetch_document<F: Files>(
     ensures stays { OnOk result (files_state (F.told files.new) (F.faults files.new) ≡ files_state (F.told files.old) (F.faults files.old)) }
     ensures stops { IfErr result (λ reason. (asked : Asked) → Stops asked folder.now word.now
         (files_state (F.told files.old) (F.faults files.old)) (files_state (F.told files.new) (F.faults files.new)) reason) }
+    ensures map { F.told files.new ≡ F.told files.old }
 {
     let uri = match uri_of(alloc, folder, word) {
         Ok(uri) => uri,
