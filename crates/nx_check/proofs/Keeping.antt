@@ -31,8 +31,7 @@ pub taken : (told : Option FileMap) (kept left : List Kept) (place : ℕ) (one :
     HoldsSchema told source one.session.editor.schema × (one.source ≡ source) × HoldTheirs told left
 taken told kept left place one source lt is for_source gone theirs =
     let its : one.source ≡ source = ap (λ (k : Kept). k.source) is ∙ for_source one in
-    let holds : Theirs told one = subst (Theirs told) (sym is) (all-at (Theirs told) kept place one theirs lt) in
-    (
+    let holds : Theirs told one = subst (Theirs told) (sym is) (all-at (Theirs told) kept place one theirs lt) in (
       subst (λ (s : Option (List ℕ)). HoldsSchema told s one.session.editor.schema) its holds,
       its,
       subst (HoldTheirs told) (sym gone) (all-remove (Theirs told) kept place theirs),

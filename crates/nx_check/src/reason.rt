@@ -136,7 +136,12 @@ impl Reason {
 }
 
 /// The name of the file that a fault of rules is about.
-fn rules_name(alloc: Global, folder: &[u8], word: &[u8], fault: &LocateFault) -> Result<Vec<u8>, NoMemory>
+fn rules_name(
+    alloc: Global,
+    folder: &[u8],
+    word: &[u8],
+    fault: &LocateFault,
+) -> Result<Vec<u8>, NoMemory>
     ensures { IfOk result (λ name. name.items ≡ rules_name folder.now word.now fault.now) }
 {
     match fault {
@@ -163,7 +168,12 @@ fn rules_trouble(fault: &LocateFault) -> Trouble
 }
 
 /// The name of the file that a refusal of a schema is about.
-fn schema_name(alloc: Global, folder: &[u8], text: &Bytes, cause: &Refusal) -> Result<Vec<u8>, NoMemory>
+fn schema_name(
+    alloc: Global,
+    folder: &[u8],
+    text: &Bytes,
+    cause: &Refusal,
+) -> Result<Vec<u8>, NoMemory>
     ensures { IfOk result (λ name. name.items ≡ schema_name folder.now text.now cause.now) }
 {
     match cause {

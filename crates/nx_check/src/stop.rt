@@ -61,7 +61,11 @@ fn compact_stop(alloc: Global, fault: ReadFault) -> Result<Option<Stop>, NoMemor
 {
     match fault {
         ReadFault::Lex(LexFault::BadEscape(at)) => Ok(Some(at_place(alloc, Cause::BadEscape, at))),
-        ReadFault::Lex(LexFault::BadLiteral(at)) => Ok(Some(at_place(alloc, Cause::BadLiteral, at))),
+        ReadFault::Lex(LexFault::BadLiteral(at)) => Ok(Some(at_place(
+            alloc,
+            Cause::BadLiteral,
+            at,
+        ))),
         ReadFault::Lex(LexFault::BadCharacter(at)) => {
             Ok(Some(at_place(alloc, Cause::BadCharacter, at)))
         }

@@ -143,9 +143,7 @@ fn line_in<L: Ledger>(
         return Ok(None);
     };
     match stop_in(alloc, text, steps)? {
-        Some(stop) if stop.cause == cause => {
-            Ok(Some(line_at(alloc, folder, uri, bytes, stop)?))
-        }
+        Some(stop) if stop.cause == cause => { Ok(Some(line_at(alloc, folder, uri, bytes, stop)?)) }
         _ => Ok(None),
     }
 }

@@ -35,10 +35,7 @@ pub fn read_words<'a>(alloc: Global, words: &'a [&'a str]) -> Result<Option<Call
 }
 
 /// What clap finds in the words; none exactly where its command refuses them.
-fn match_words<'a>(
-    alloc: Global,
-    words: &'a [&'a str],
-) -> Result<Option<ArgMatches<'a>>, NoMemory>
+fn match_words<'a>(alloc: Global, words: &'a [&'a str]) -> Result<Option<ArgMatches<'a>>, NoMemory>
     ensures { IfOk result (IsFoundIn (map (λ word. word.now) words.entry.now)) }
 {
     let command = command(alloc)?;
@@ -91,7 +88,11 @@ fn command<'a>(alloc: Global) -> Result<Command<'a>, NoMemory>
         .no_binary_name(true)
         .arg(Arg::new(alloc, "schema").long("schema"))?
         .arg(Arg::new(alloc, "rules").long("rules"))?
-        .arg(Arg::new(alloc, "quiet").long("quiet").action(ArgAction::SetTrue))?
+        .arg(
+            Arg::new(alloc, "quiet")
+                .long("quiet")
+                .action(ArgAction::SetTrue),
+        )?
         .arg(
             Arg::new(alloc, "file")
                 .required(true)

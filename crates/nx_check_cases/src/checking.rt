@@ -38,14 +38,7 @@ pub(crate) fn check_words<F: Files, O: Out>(
     let words = words_of(alloc, texts).ok()?;
     let folder = bytes_of(alloc, FOLDER).ok()?;
     let blank = Blank::new(1);
-    Some(check_counting::<F, O, Brand>(
-        alloc,
-        words.as_slice(),
-        &folder,
-        files,
-        out,
-        blank,
-    ))
+    Some(check_counting::<F, O, Brand>(alloc, words.as_slice(), &folder, files, out, blank))
 }
 
 fn check_counting<F: Files, O: Out, L: Ledger>(

@@ -21,7 +21,10 @@ const DOCUMENTS: [(&str, &[u8]); 24] = [
         "file:///home/u/d/guide.xml",
         b"<guide>\n<title>T</title>\n<para kind=\"a\">x</para></guide>\n",
     ),
-    ("file:///home/u/d/bad.xml", b"<guide>\n  <para/>\n</guide>\n"),
+    (
+        "file:///home/u/d/bad.xml",
+        b"<guide>\n  <para/>\n</guide>\n",
+    ),
     (
         "file:///home/u/d/cr.xml",
         b"<guide>\r<title/>\r\n<para kind=\"c\"/>\r\n\n\r  <note/></guide>",
@@ -56,8 +59,14 @@ const DOCUMENTS: [(&str, &[u8]); 24] = [
         "file:///home/u/d/twice.xml",
         b"<guide><title/><title/></guide>",
     ),
-    ("file:///home/u/d/u.rnc", b"default namespace = \"u\"\nelement a { element b { empty } }"),
-    ("file:///home/u/d/ns.xml", b"<p:a xmlns:p=\"u\"><p:c/></p:a>"),
+    (
+        "file:///home/u/d/u.rnc",
+        b"default namespace = \"u\"\nelement a { element b { empty } }",
+    ),
+    (
+        "file:///home/u/d/ns.xml",
+        b"<p:a xmlns:p=\"u\"><p:c/></p:a>",
+    ),
 ];
 
 /// Files that hold these.

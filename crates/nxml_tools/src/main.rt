@@ -26,7 +26,8 @@ use std::sync::ledger::{Blank, Ledger};
 const USAGE: &str = "usage: nxml-tools check [--schema FILE] [--rules FILE] [--quiet] FILE...\n";
 
 /// The line that is written where the folder that the process is in can't be had, or is no text.
-const NO_FOLDER: &str = "nxml-check: the folder that it runs in can't be had, or its path is no UTF-8\n";
+const NO_FOLDER: &str =
+    "nxml-check: the folder that it runs in can't be had, or its path is no UTF-8\n";
 
 fn main(rt: HostRuntime) -> ExitCode {
     let status = match run_words(&rt) {

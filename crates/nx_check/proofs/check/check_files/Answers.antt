@@ -22,8 +22,7 @@ pub loop-word-preserved : goal.loop-word-preserved
 loop-word-preserved g c =
     let o = g.O.Out in
     let i = c.loop-word.word-index in
-    let after : i + 1 ≡ suc i = omega arith in
-    (
+    let after : i + 1 ≡ suc i = omega arith in (
       check-more (asked_of_call c.args.call.now) c.args.folder.now _ _ _ (out_state (o.told c.args.out.now) (o.faults c.args.out.now))
           (out_state (o.told c.loop-word.out) (o.faults c.loop-word.out)) (out_state (o.told c.write.new.self) (o.faults c.write.new.self)) _ _ _ c.check_file-told.result _ _ _ _ _ _
           c.loop-word.invariant.0 (next-left c.args.call.now.files.items i (i + 1) _ (omega (arith, c.loop-word-test.true)) after)
