@@ -17,7 +17,7 @@ readonly told=$top/dist/.told-$program
 is_known() {
   [[ -f $told && -x $shipped ]] || return 1
   local changed places
-  changed=$(cd "$top" >/dev/null && find -files0-from "dist/.told-$program" -prune -newer "dist/.told-$program" -print -quit 2>&1)
+  changed=$(cd "$top" >/dev/null && exec find -files0-from "dist/.told-$program" -prune -newer "dist/.told-$program" -print -quit 2>&1)
   if [[ $changed == *files0-from* ]]; then
     # Before its version 4.9 find takes no list from a file.
     mapfile -d '' -t places <"$told"
