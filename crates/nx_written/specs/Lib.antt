@@ -1,5 +1,6 @@
 pub mod Escaping
 pub mod Naming
+pub mod Places
 pub mod Spellings
 pub mod Tags
 pub mod Pieces

@@ -24,7 +24,7 @@ pub record Held : Type 0 where
   pub text : List ℕ
 
 abbrev pub held : Writer → Held
-held writer = record { open_tags = writer.open_tags.items; scope = writer.scope.items; stage = writer.stage; text = writer.out.items }
+held writer = record { open_tags = writer.open_tags.items; scope = writer.scope; stage = writer.stage; text = writer.out.items }
 
 -- ---- what it writes
 

@@ -1,7 +1,6 @@
 //! Namespace declarations in force (Namespaces in XML 1.0, section 3).
 
-ghost use Rattle.std.specs.Prelude.{◌≡◌, MatchOption, option_copied};
-ghost use Rattle.nx_events.specs.Scopes.{last_uri};
+ghost use Rattle.std.specs.Prelude.{◌≡◌};
 
 use nx_base::sequence::Bytes;
 use std::marker::Model;
@@ -42,19 +41,4 @@ impl Declaration {
     {
         self.uri.as_slice()
     }
-}
-
-/// The URI of the last declaration of a prefix.
-pub(crate) fn last_uri<'a>(scope: &'a [Declaration], prefix: &[u8]) -> Option<&'a [u8]>
-    ensures { option_copied result ≡ last_uri scope.now prefix.now }
-{
-    let mut found = None;
-    let mut rest = scope;
-    'scope: while let Some((first, behind)) = rest.split_first() {
-        if first.prefix() == prefix {
-            found = Some(first.uri());
-        }
-        rest = behind;
-    }
-    found
 }

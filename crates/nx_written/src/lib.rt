@@ -14,8 +14,11 @@
 pub mod declaration;
 mod escape;
 pub mod law;
+mod name_places;
 pub mod open_tag;
 mod prefix;
+mod scope;
+mod serving;
 mod spelling;
 mod tag;
 pub mod writer;

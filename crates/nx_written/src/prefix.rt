@@ -7,7 +7,8 @@ ghost use Rattle.nx_base.specs.Names.{is_local};
 ghost use Rattle.nx_events.specs.Scopes.{last_uri, xml_uri};
 ghost use Rattle.nx_written.specs.Spellings.{Serves, IsFree};
 
-use crate::declaration::{Declaration, last_uri};
+use crate::declaration::Declaration;
+use crate::scope::Scope;
 use nx_base::character::is_nc_name;
 use nx_base::memory::NoMemory;
 use nx_base::sequence::Bytes;
@@ -27,17 +28,17 @@ fn is_local(name: &[u8]) -> bool
 }
 
 /// Whether the last declaration of a prefix is of this URI.
-fn is_last(scope: &[Declaration], prefix: &[u8], uri: &[u8]) -> bool
+fn is_last(scope: &Scope, prefix: &[u8], uri: &[u8]) -> bool
     ensures { result ≡ true → last_uri scope.now prefix.now ≡ Some uri.now }
 {
-    match last_uri(scope, prefix) {
+    match scope.last_uri(prefix) {
         Some(bound) => bound == uri,
         None => false,
     }
 }
 
 /// Whether a name of this URI can have the prefix of a declaration.
-fn serves(scope: &[Declaration], declaration: &Declaration, uri: &[u8]) -> bool
+fn serves(scope: &Scope, declaration: &Declaration, uri: &[u8]) -> bool
     ensures { result ≡ true → Serves scope.now declaration.now.prefix uri.now }
 {
     let prefix = declaration.prefix();
@@ -51,21 +52,18 @@ fn serves(scope: &[Declaration], declaration: &Declaration, uri: &[u8]) -> bool
 }
 
 /// The prefix of the innermost declaration of a URI that isn't hidden by another one.
-fn declared_prefix<'a>(scope: &'a [Declaration], uri: &[u8]) -> Option<&'a [u8]>
+fn declared_prefix<'a>(scope: &'a Scope, uri: &[u8]) -> Option<&'a [u8]>
     ensures { IfSome result (λ prefix. Serves scope.now prefix.now uri.now) }
 {
-    let mut rest = scope;
-    'scope: while let Some((last, front)) = rest.split_last() {
-        if serves(scope, last, uri) {
-            return Some(last.prefix());
-        }
-        rest = front;
+    let declaration = scope.of_uri(uri)?;
+    if serves(scope, declaration, uri) {
+        return Some(declaration.prefix());
     }
     None
 }
 
 /// A prefix in force that names of a URI can have.
-pub(crate) fn prefix_of<'a>(scope: &'a [Declaration], uri: &[u8]) -> Option<&'a [u8]>
+pub(crate) fn prefix_of<'a>(scope: &'a Scope, uri: &[u8]) -> Option<&'a [u8]>
     ensures { MatchOption result (bytes_eq uri.now xml_uri ≡ false) (λ prefix. Serves scope.now prefix.now uri.now) }
 {
     if uri == XML_URI {
@@ -81,13 +79,13 @@ fn numbered(alloc: Global, number: u64) -> Result<Vec<u8>, NoMemory>
     Ok(format!(in alloc; "n{number}")?.into_bytes())
 }
 
-/// `n` and the least number that no declaration in force has. The numbers would run out only behind more declarations than memory holds.
-pub(crate) fn free_prefix(alloc: Global, scope: &[Declaration]) -> Result<Bytes, NoMemory>
+/// `n` and a number that no declaration in force has. The numbers would run out only behind more declarations than memory holds.
+pub(crate) fn free_prefix(alloc: Global, scope: &Scope) -> Result<Bytes, NoMemory>
     ensures { IfOk result (IsFree scope.now) }
 {
-    for number in 0..u64::MAX {
+    for number in scope.first_number()..u64::MAX {
         let prefix = numbered(alloc, number)?;
-        if last_uri(scope, &prefix).is_none() {
+        if scope.last_uri(&prefix).is_none() {
             return Ok(Bytes::from_vec(prefix));
         }
     }

@@ -5,8 +5,9 @@ ghost use Rattle.nx_base.specs.Names.{is_namespace, is_xml_name, is_attribute_na
 ghost use Rattle.nx_events.specs.Scopes.{element_uri};
 ghost use Rattle.nx_written.specs.Spellings.{IsChosen, SpellsElement, SpellsAttribute};
 
-use crate::declaration::{Declaration, last_uri};
+use crate::declaration::Declaration;
 use crate::prefix::{free_prefix, prefix_of};
+use crate::scope::Scope;
 use nx_base::memory::NoMemory;
 use nx_base::name::Name;
 use nx_base::sequence::{Bytes, TryCopy};
@@ -27,7 +28,7 @@ pub(crate) struct Spelling {
 }
 
 /// A prefix for a namespace: one in force, or else a new one.
-fn choose(alloc: Global, scope: &[Declaration], uri: &Bytes) -> Result<Chosen, NoMemory>
+fn choose(alloc: Global, scope: &Scope, uri: &Bytes) -> Result<Chosen, NoMemory>
     requires some { 0 < length uri.now }
     requires namespace { IsTrue (is_namespace uri.now) }
     ensures { IfOk result (IsChosen scope.now uri.now) }
@@ -58,10 +59,10 @@ fn joined(alloc: Global, prefix: &[u8], local: &[u8]) -> Result<Bytes, NoMemory>
 
 /// The namespace of an element without a prefix, and nothing where it has none.
 #[tactic(auto, unfolding(nx_events::specs::Scopes::element_uri))]
-fn default_uri(scope: &[Declaration]) -> &[u8]
+fn default_uri(scope: &Scope) -> &[u8]
     ensures { Some result.now ≡ element_uri scope.now [] }
 {
-    match last_uri(scope, &[]) {
+    match scope.last_uri(&[]) {
         Some(uri) => uri,
         None => &[],
     }
@@ -71,7 +72,7 @@ fn default_uri(scope: &[Declaration]) -> &[u8]
 /// ends the default one.
 pub(crate) fn element_spelling(
     alloc: Global,
-    scope: &[Declaration],
+    scope: &Scope,
     name: &Name,
 ) -> Result<Spelling, NoMemory>
     requires { IsTrue (is_xml_name name.now) }
@@ -99,7 +100,7 @@ pub(crate) fn element_spelling(
 /// How the name of an attribute is written: without a prefix in no namespace, and with one otherwise.
 pub(crate) fn attribute_spelling(
     alloc: Global,
-    scope: &[Declaration],
+    scope: &Scope,
     name: &Name,
 ) -> Result<Spelling, NoMemory>
     requires { IsTrue (is_attribute_name name.now) }

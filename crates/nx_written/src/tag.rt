@@ -10,6 +10,7 @@ ghost use Rattle.nx_written.specs.Tags.{attribute_of, declarations};
 
 use crate::declaration::Declaration;
 use crate::escape::push_escaped;
+use crate::scope::Scope;
 use crate::spelling::{attribute_spelling, element_spelling};
 use nx_base::memory::NoMemory;
 use nx_base::name::Name;
@@ -43,11 +44,11 @@ fn push_declaration(out: &mut Vec<u8>, declaration: &Declaration) -> Result<(), 
 /// Adds a declaration, if there is one, and puts it in force.
 fn declare(
     out: &mut Vec<u8>,
-    scope: &mut Vec<Declaration>,
+    scope: &mut Scope,
     declared: Option<Declaration>,
 ) -> Result<(), NoMemory>
     ensures { OnOk result ((out.new.items ≡ out.old.items ++ spelled_all (declarations (list_of declared)) [])
-        × (scope.new.items ≡ scope.old.items ++ list_of declared)) }
+        × (scope.new ≡ scope.old ++ list_of declared)) }
 {
     if let Some(declaration) = declared {
         push_declaration(out, &declaration)?;
@@ -60,11 +61,11 @@ fn declare(
 pub(crate) fn begin_tag(
     alloc: Global,
     out: &mut Vec<u8>,
-    scope: &mut Vec<Declaration>,
+    scope: &mut Scope,
     name: &Name,
 ) -> Result<Bytes, NoMemory>
     requires { IsTrue (is_xml_name name.now) }
-    ensures { IfOk result (λ written. AddsName name.now written scope.old.items scope.new.items out.old.items out.new.items) }
+    ensures { IfOk result (λ written. AddsName name.now written scope.old scope.new out.old.items out.new.items) }
 {
     let spelling = element_spelling(alloc, scope, name)?;
     out.push(b'<')?;
@@ -77,12 +78,12 @@ pub(crate) fn begin_tag(
 pub(crate) fn push_attribute(
     alloc: Global,
     out: &mut Vec<u8>,
-    scope: &mut Vec<Declaration>,
+    scope: &mut Scope,
     name: &Name,
     value: &Bytes,
 ) -> Result<(), NoMemory>
     requires { IsTrue (is_attribute_name name.now) }
-    ensures { OnOk result (AddsPair name.now value.now scope.old.items scope.new.items out.old.items out.new.items) }
+    ensures { OnOk result (AddsPair name.now value.now scope.old scope.new out.old.items out.new.items) }
 {
     let spelling = attribute_spelling(alloc, scope, name)?;
     push_pair(out, b"", spelling.written.as_slice(), value.as_slice())?;

@@ -11,6 +11,7 @@ ghost use Rattle.nx_written.specs.Written.{IsRestText, IsBegunText};
 use crate::declaration::Declaration;
 use crate::escape::push_escaped;
 use crate::open_tag::OpenTag;
+use crate::scope::Scope;
 use crate::tag::{begin_tag, push_attribute};
 use nx_base::memory::NoMemory;
 use nx_base::name::Name;
@@ -36,7 +37,7 @@ pub(crate) struct Writer {
     /// The open elements, the innermost last.
     pub(crate) open_tags: Vec<OpenTag>,
     /// The declarations in force, the innermost last.
-    pub(crate) scope: Vec<Declaration>,
+    pub(crate) scope: Scope,
     pub(crate) stage: Stage,
     /// The text so far.
     pub(crate) out: Vec<u8>,
@@ -110,7 +111,7 @@ impl Writer {
     {
         if let Some(tag) = self.open_tags.pop() {
             end_element(&mut self.out, self.stage, tag.written())?;
-            self.scope.truncate(tag.outer());
+            self.scope.truncate(tag.outer())?;
         }
         self.stage = Stage::Inside;
         Ok(())
@@ -170,6 +171,7 @@ pub fn write_rest(
     requires { AreWritable (events_of events.now) }
     ensures { IfOk result (IsRestText open_tags.items scope.items (events_of events.now)) }
 {
+    let scope = Scope::new(alloc, scope)?;
     let mut writer = Writer {
         alloc,
         open_tags,
@@ -203,6 +205,7 @@ pub fn write_attributes(
     requires { AreWritable (events_of events.now) }
     ensures { IfOk result (IsBegunText open_tags.items scope.items (events_of events.now)) }
 {
+    let scope = Scope::new(alloc, scope)?;
     let mut writer = Writer {
         alloc,
         open_tags,
