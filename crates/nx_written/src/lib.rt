@@ -7,6 +7,9 @@
 //! The idea: which prefix is taken for a namespace is left to the one who writes. The definitions ask only that the written name expands to
 //! the name, and that a prefix which is declared is new.
 //!
+//! Declarations in force are found in maps, by prefix and by URI (`scope`), and a new prefix has a number behind those in force. So a name
+//! takes a few look-ups, however many declarations there are.
+//!
 //! Inside of `<doc>`, an element `b` of the namespace `u` with the text `x<y`, and the end of `doc`, may be written
 //! `<n0:b xmlns:n0='u'>x&lt;y</n0:b></doc>`.
 #![tactic(auto)]

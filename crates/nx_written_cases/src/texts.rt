@@ -22,7 +22,7 @@ type Row = (
     &'static str,
 );
 
-const ROWS: [Row; 12] = [
+const ROWS: [Row; 14] = [
     // an empty element, and the end of what is open
     (
         &[],
@@ -78,7 +78,7 @@ const ROWS: [Row; 12] = [
         ],
         "<n0:b xmlns:n0='u'/></doc>",
     ),
-    // the least number that is free
+    // a number behind those in force
     (
         &[("n0", "x"), ("n2", "y")],
         &[
@@ -87,7 +87,30 @@ const ROWS: [Row; 12] = [
             ("/", "", "", ""),
             ("/", "", "", ""),
         ],
-        "<n1:b xmlns:n1='u'/></doc>",
+        "<n3:b xmlns:n3='u'/></doc>",
+    ),
+    // two declarations of one namespace: the default serves the element, and the other the attribute
+    (
+        &[("p", "u"), ("", "u")],
+        &[
+            ("E", "u", "b", ""),
+            ("A", "u", "c", "1"),
+            (">", "", "", ""),
+            ("/", "", "", ""),
+            ("/", "", "", ""),
+        ],
+        "<b p:c='1'/></doc>",
+    ),
+    // the innermost one that isn't hidden
+    (
+        &[("p", "u"), ("q", "u"), ("q", "v")],
+        &[
+            ("E", "u", "b", ""),
+            (">", "", "", ""),
+            ("/", "", "", ""),
+            ("/", "", "", ""),
+        ],
+        "<p:b/></doc>",
     ),
     // attributes, each with the declaration that it needs; the default doesn't serve them
     (
