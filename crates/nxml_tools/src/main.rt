@@ -17,7 +17,6 @@ use nx_host::disk::{DiskFiles, StdOut};
 use nx_host::out::Out;
 use nx_host::process::{process_folder, process_words};
 use nx_host::streams::read_all;
-use std::io;
 use std::marker::Brand;
 use std::process::ExitCode;
 use std::sync::ledger::{Blank, Ledger};
@@ -60,7 +59,7 @@ fn check_words(rt: &HostRuntime, words: &[Bytes]) -> Result<Status, NoMemory> {
 
 /// What standard input gives; none where it can't be read.
 fn standard_input(rt: &HostRuntime) -> Option<Bytes> {
-    let read = read_all(rt.alloc(), &mut io::reader(rt)).ok()?;
+    let read = read_all(rt.alloc(), &mut rt.reader()).ok()?;
     Some(Bytes::from_vec(read))
 }
 
