@@ -1,4 +1,5 @@
 pub mod Asking
+pub mod Backing
 pub mod Finding
 pub mod Keeping
 pub mod Listing

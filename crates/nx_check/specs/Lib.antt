@@ -5,6 +5,7 @@ pub mod Schemas
 pub mod Reasons
 pub mod Stopping
 pub mod Telling
+pub mod Places
 pub mod Reports
 pub mod Files
 pub mod Codes

@@ -13,6 +13,7 @@ use Rattle.nx_report.specs.Lines.{fault_line, summary_line, message_line}
 use Rattle.nx_report.specs.declared.severity.Severity.TheVariants.{Note}
 use Rattle.nx_session.specs.Asking.{AreOffersAt}
 use Rattle.rng_core.specs.Patterns.{Language}
+use Rattle.nx_check.specs.Places.{asked_place}
 
 -- faults of these kinds tell what may stand in the place of what is wrong
 abbrev pub tells_expected : Kind → Bool
@@ -44,7 +45,7 @@ AreExpectedIf false schema text at expected = expected ≡ []
 
 -- what is told as expected with the fault of this number, which counts from 0
 abbrev pub AreExpected : Option Language → List ℕ → ℕ → Fault → List Offer → Type 0
-AreExpected schema text number fault expected = AreExpectedIf (wants_expected number fault) schema text fault.span.from expected
+AreExpected schema text number fault expected = AreExpectedIf (wants_expected number fault) schema text (asked_place text fault) expected
 
 -- a fault's line: the name of the document, where the fault begins, and what it says; columns count characters
 abbrev pub IsLine : Option Language → List ℕ → List ℕ → ℕ → Fault → List ℕ → Type 0

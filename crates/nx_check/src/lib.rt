@@ -15,6 +15,7 @@ pub mod document;
 mod file;
 pub mod input;
 pub mod kept;
+pub mod place;
 pub mod reason;
 pub mod recent;
 mod report;

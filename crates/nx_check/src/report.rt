@@ -6,6 +6,7 @@ ghost use Rattle.nx_position.specs.declared.position.Encoding.TheVariants.{Utf32
 ghost use Rattle.nx_session.specs.Editor.{files_state, schema_of};
 ghost use Rattle.nx_check.specs.Reports.{tells_expected, AddsLine, wants_expected, AreExpected, AreExpectedAt, AddsLines, remark, summary, IsReport};
 
+use crate::place::asked_place;
 use nx_base::fault::{Fault, Kind};
 use nx_base::memory::NoMemory;
 use nx_base::offer::{OfferList, Offers};
@@ -183,7 +184,8 @@ fn expected<F: Files, L: Ledger>(
     ensures stays { files_state (F.told files.new) (F.faults files.new) ≡ files_state (F.told files.old) (F.faults files.old) }
 {
     if wants_expected(number, fault) {
-        offered(alloc, session, fault.span.from, files, steps)
+        let at = asked_place(session.text(), fault);
+        offered(alloc, session, at, files, steps)
     } else {
         Ok(OfferList::new(alloc))
     }

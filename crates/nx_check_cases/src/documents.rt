@@ -9,7 +9,7 @@ use std::alloc::Global;
 pub(crate) const FOLDER: &str = "/home/u/d";
 
 /// Documents, schemas and rules.
-const DOCUMENTS: [(&str, &[u8]); 24] = [
+const DOCUMENTS: [(&str, &[u8]); 25] = [
     (
         "file:///home/u/d/guide.rnc",
         b"element guide { element title { text }, element para { attribute kind { \"a\" | \"b\" }?, text }* }",
@@ -32,6 +32,10 @@ const DOCUMENTS: [(&str, &[u8]); 24] = [
     (
         "file:///home/u/d/mark.xml",
         b"\xEF\xBB\xBF<!--\xF0\x9F\x98\x80--><guide><note/></guide>",
+    ),
+    (
+        "file:///home/u/d/named.xml",
+        b"<guide><title/><para  knd=\"a\"/></guide>",
     ),
     ("file:///home/u/d/note.xml", b"<note/>"),
     (

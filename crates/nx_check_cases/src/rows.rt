@@ -27,7 +27,7 @@ pub(crate) const WORDS: [Row; 7] = [
 ];
 
 /// Documents that are checked, with the schema that the words name.
-pub(crate) const GIVEN: [Row; 11] = [
+pub(crate) const GIVEN: [Row; 12] = [
     (&["--schema", "guide.rnc", "guide.xml"], "", Status::Right),
     (
         &["--schema", "guide.rnc", "bad.xml"],
@@ -36,7 +36,7 @@ pub(crate) const GIVEN: [Row; 11] = [
     ),
     (
         &["--schema", "guide.rnc", "cr.xml"],
-        "cr.xml:3:12: error: attribute \"kind\" may not have this value; it may be \"a\", \"b\" [BadValue]\ncr.xml:6:3: error: the schema knows no element \"note\" [Unknown]\ncr.xml: 2 errors\n",
+        "cr.xml:3:13: error: attribute \"kind\" may not have this value; it may be \"a\", \"b\" [BadValue]\ncr.xml:6:3: error: the schema knows no element \"note\" [Unknown]\ncr.xml: 2 errors\n",
         Status::Faulty,
     ),
     (
@@ -46,12 +46,17 @@ pub(crate) const GIVEN: [Row; 11] = [
     ),
     (
         &["--schema", "guide.rnc", "twice.xml"],
-        "twice.xml:1:16: error: element \"title\" may not stand here; here may stand \"para\", \"</guide>\" [NotAllowed]\ntwice.xml: 1 error\n",
+        "twice.xml:1:16: error: element \"title\" may not stand here; here may stand \"para\" [NotAllowed]\ntwice.xml: 1 error\n",
+        Status::Faulty,
+    ),
+    (
+        &["--schema", "guide.rnc", "named.xml"],
+        "named.xml:1:28: error: attribute \"knd\" may not stand here; here may stand \"kind\" [UnknownAttribute]\nnamed.xml: 1 error\n",
         Status::Faulty,
     ),
     (
         &["--schema", "note.rnc", "my #notes.xml"],
-        "my #notes.xml:1:7: error: attribute \"a\" may not stand here [UnknownAttribute]\nmy #notes.xml: 1 error\n",
+        "my #notes.xml:1:10: error: attribute \"a\" may not stand here [UnknownAttribute]\nmy #notes.xml: 1 error\n",
         Status::Faulty,
     ),
     (
