@@ -66,7 +66,7 @@ pub(crate) const GIVEN: [Row; 12] = [
     ),
     (
         &["--schema", "note.rnc", "-"],
-        "-:1:1: error: element \"note\" has no end tag [UnclosedElement]\n-: 1 error\n",
+        "-:1:7: error: element \"note\" has no end tag [UnclosedElement]\n-: 1 error\n",
         Status::Faulty,
     ),
     (
