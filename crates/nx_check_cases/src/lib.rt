@@ -6,6 +6,8 @@ mod checking;
 #[cfg(test)]
 mod documents;
 #[cfg(test)]
+mod failing;
+#[cfg(test)]
 mod rows;
 #[cfg(test)]
 mod tests;

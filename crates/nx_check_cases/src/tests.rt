@@ -1,9 +1,11 @@
 //! Whole checks over files and outputs in memory, against what the program's user is promised.
 
-use crate::checking::checks;
+use crate::checking::{check_words, checks, is_as_told};
 use crate::documents::files_with;
 use crate::rows::{FOUND, GIVEN, Row, WORDS};
 use nx_base::memory::NoMemory;
+use nx_check::status::Status;
+use nx_host::memory_out::SureOut;
 use std::alloc::Global;
 use std::process::Abort;
 
@@ -34,4 +36,22 @@ fn documents_are_checked(rt: HostRuntime) {
 #[test]
 fn schemas_are_found(rt: HostRuntime) {
     all_tell(&rt, rt.alloc(), &FOUND);
+}
+
+/// Whether a check beside the documents does what a row says, or ends for want of memory.
+fn tells_of_memory(alloc: Global, row: &Row) -> bool {
+    let Ok(mut files) = files_with(alloc) else {
+        return true;
+    };
+    let mut out = SureOut::new(alloc);
+    let ended = check_words(alloc, row.0, &mut files, &mut out);
+    ended.is_none() || ended == Some(Status::Memory) || is_as_told(out.bytes(), ended, row.1, row.2)
+}
+
+/// With ample memory this is the sure check; it tells more where an allocation is made to fail.
+#[test]
+fn want_of_memory_is_told(rt: HostRuntime) {
+    for row in &GIVEN {
+        assert!(rt; tells_of_memory(rt.alloc(), row), "{:?}", row.0);
+    }
 }
