@@ -9,19 +9,30 @@ set -u
 readonly NOT_BUILT=70
 
 readonly shipped=$top/dist/$program built=$top/crates/$program/out/$program
-# Remembers that the shipped program is that of these sources, and where they stand. It is newer than all of them.
+# Remember that the shipped program is that of these sources, and where they stand, each half of them. They are newer than all of them.
 readonly told=$top/dist/.told-$program
+readonly halves=("$told-aa" "$told-ab")
+
+# Prints one of the files and folders in a list that are newer than it, or gone.
+print_changed() {
+  cd "$top" >/dev/null || exit
+  LC_ALL=C exec find -files0-from "$1" -prune -newer "$1" -print -quit 2>&1
+}
 
 # Whether it was told before that the shipped program is that of the sources, and nothing changed since. All files and folders
 # are listed, so that no folder has to be read: where a file is new or gone, its folder has changed.
 is_known() {
-  [[ -f $told && -x $shipped ]] || return 1
-  local changed places
-  changed=$(cd "$top" >/dev/null && exec find -files0-from "dist/.told-$program" -prune -newer "dist/.told-$program" -print -quit 2>&1)
+  [[ -f ${halves[0]} && -f ${halves[1]} && -x $shipped ]] || return 1
+  local changed half places
+  # Both halves at once, since there are thousands of files to ask.
+  changed=$(print_changed "dist/${halves[0]##*/}" & print_changed "dist/${halves[1]##*/}")
   if [[ $changed == *files0-from* ]]; then
     # Before its version 4.9 find takes no list from a file.
-    mapfile -d '' -t places <"$told"
-    changed=$(cd "$top" >/dev/null && find "${places[@]}" -prune -newer "dist/.told-$program" -print -quit 2>&1)
+    changed=
+    for half in "${halves[@]}"; do
+      mapfile -d '' -t places <"$half"
+      changed+=$(cd "$top" >/dev/null && find "${places[@]}" -prune -newer "$half" -print -quit 2>&1)
+    done
   fi
   [[ -z $changed ]]
 }
@@ -29,19 +40,19 @@ is_known() {
 # Whether the shipped program is that of the sources, and runs here. Where it is, that is remembered.
 is_that_of_sources() {
   [[ $OSTYPE == linux* && $HOSTTYPE == x86_64 && -x $shipped ]] || return 1
-  local beside=$told.$$
+  local beside=$told.$$-
   # Made before the sources are read, so that what changes meanwhile is newer.
-  { list_sources; printf '%s\0' "dist/$program" dist/MANIFEST; } 2>/dev/null >"$beside"
+  { list_sources; printf '%s\0' "dist/$program" dist/MANIFEST; } 2>/dev/null | split -t '\0' -n r/2 - "$beside" 2>/dev/null
   if [[ $(sum_of_file "$shipped") == "$(told_in_manifest "program $program")" && $(sum_of_sources) == "$(told_in_manifest "sources $program")" ]]; then
     # Without words it writes how it is called, and ends with 2.
     "$shipped" >/dev/null 2>&1
     if [[ $? == 2 ]]; then
       # Where nothing can be written here, it is asked again each time.
-      mv "$beside" "$told" 2>/dev/null || rm -f "$beside"
+      { mv "${beside}aa" "${halves[0]}" && mv "${beside}ab" "${halves[1]}"; } 2>/dev/null || rm -f "$beside"a[ab]
       return 0
     fi
   fi
-  rm -f "$beside"
+  rm -f "$beside"a[ab]
   return 1
 }
 

@@ -1,3 +1,5 @@
+//! Each matcher against each case, and the two against one another on all lists of a few events.
+
 use crate::lists::{FIVE_EVENTS, FOUR_EVENTS, wrong_lists};
 use crate::matchers::{Made, matcher_of};
 use crate::needed::NEEDED;

@@ -1,94 +1,182 @@
--- Keys that hold texts, read as texts.
-use Rattle.std.proofs.Common.{◌≡◌, ◌↔◌, ℕ, zero, suc, ◌+◌, ◌<◌, ◌≤◌, List, [], ◌∷◌, ◌++◌, inl, inr, length, map, refl, sym, ap, ◌∙◌, arith, Option, Some, None, slice_get, slice_index_or, get_or, Bool, true, false, not, cond, nat_eq, nat_lt, IfSome, IfNone, IsTrue, true≢false}
-use Rattle.std.specs.Cmp.Lexicographic.{pointwise, bytes_decides}
-use Rattle.std.specs.List.{IsDistinct, AllByRecursion, position, position_or_len}
-use Rattle.std.proofs.lemmas.Grind.{common_steps}
-use Rattle.std.proofs.lemmas.List.{map-append}
-use Rattle.std.proofs.lemmas.List.Quantifiers.{position-Some}
-use Rattle.std.proofs.lemmas.List.Sums.{prefix_len_passes}
-use Rattle.std.proofs.lemmas.Map.Keys.{IsDistinct-head, IsDistinct-tail}
-use Rattle.std.specs.Prelude.{if◌then◌else◌}
-use Rattle.deriv_memory.specs.Remembered.{IsText, IsAtMostOneMore}
+-- A map of texts knows their numbers.
+use Rattle.std.proofs.Common.{◌≡◌, ℕ, zero, suc, ◌<◌, Bool, true, false, cond, inl, inr, Option, Some, None, List, [], ◌∷◌, ◌++◌, length, length-append, map, refl, ap, subst, sym, ◌∙◌, arith, BTreeMap, Vec, Global, take, slice_get, slice_index_or, ◌⊎◌, ⊎_elim, IfSome, IfNone}
+use Rattle.std.specs.BTreeMap.{UpdatesBy, is_at}
+use Rattle.std.specs.Cmp.Lexicographic.{slice_cmp, bytes_decides}
+use Rattle.std.specs.Map.{KeepsOthers, lookup}
+use Rattle.std.specs.Ordering.{nat_cmp, is_eq}
+use Rattle.std.specs.Str.{bytes_eq}
+use Rattle.std.specs.declared.cmp.Ordering.{Ordering}
+use Rattle.std.proofs.lemmas.Bool.{cases_Bool, true≢false}
+use Rattle.std.proofs.lemmas.List.{map-append, length-map}
+use Rattle.std.proofs.lemmas.Map.Text.{is_eq-slice_cmp}
+use Rattle.deriv_memory.specs.Remembered.{AreOnce, IsText}
+use Rattle.deriv_memory.specs.Texts.{texts_in, number_at, PutsAt, AreNumbered}
 
-module _ {K : Type 0} (f : K → List ℕ) where
-  as_many : (ks : List K) → length (map f ks) ≡ length ks
-  as_many [] = refl
-  as_many (k ∷ ks) = ap suc (as_many ks)
+abbrev by_items : Vec ℕ Global → Vec ℕ Global → Ordering
+by_items a b = slice_cmp nat_cmp a.items b.items
 
-  same_place : (p : List ℕ → Bool) (ks : List K) → position_or_len (λ k. p (f k)) ks ≡ position_or_len p (map f ks)
-  same_place p [] = refl
-  same_place p (k ∷ ks) = ap (λ n. cond (not (p (f k))) (1 + n) 0) (same_place p ks)
+-- what is found under a text is the text
+found_is : (text bytes : List ℕ) → is_eq (slice_cmp nat_cmp text bytes) ≡ true → text ≡ bytes
+found_is text bytes found = (bytes_decides text bytes).0 (sym (is_eq-slice_cmp text bytes) ∙ found)
 
-  place : (p : List ℕ → Bool) (ks : List K) → position (λ k. p (f k)) ks ≡ position p (map f ks)
-  place p ks =
-      ap (λ n. cond (nat_lt n (length ks)) (Some n) None) (same_place p ks)
-      ∙ ap (λ m. cond (nat_lt (position_or_len p (map f ks)) m) (Some (position_or_len p (map f ks))) None) (sym (as_many ks))
+differs : (text other bytes : List ℕ) → bytes_eq text other ≡ false → text ≡ bytes → (t : Bool) → bytes_eq other bytes ≡ t → t ≡ false
+differs text other bytes apart same true e =
+    let equal : text ≡ other = same ∙ sym ((bytes_decides other bytes).0 e) in
+    let both : true ≡ false = sym ((bytes_decides text other).1 equal) ∙ apart in absurd (cc)
+differs text other bytes apart same false e = refl
 
-  later : (text : List ℕ) (ks : List K) (j : ℕ) → AllByRecursion (λ y. pointwise nat_eq text (f y) ≡ false) ks
-      → j < length (map f ks) → text ≡ slice_index_or (map f ks) j [] → ⊥
-  later text [] j apart here e = omega arith
-  later text (k ∷ ks) zero apart here e = true≢false (sym ((bytes_decides text (f k)).1 e) ∙ apart.0)
-  later text (k ∷ ks) (suc j) apart here e = later text ks j apart.1 (omega arith) e
+-- after a call that changes one key
+pub puts : (old new : BTreeMap (Vec ℕ Global) ℕ) (text : List ℕ) (number : ℕ) →
+    UpdatesBy by_items (λ key. slice_cmp nat_cmp text key.items) old new (Some number) → PutsAt text number old new
+unfolding KeepsOthers
+puts old new text number h other =
+    elim (cases_Bool (bytes_eq text other)) [
+      | inl e ↦ ap (number_at new) (sym ((bytes_decides text other).0 e)) ∙ h.1 ∙ sym (ap (λ (t : Bool). cond t (Some number) (number_at old other)) e)
+      | inr e ↦
+          h.3 (λ (key : Vec ℕ Global). is_eq (slice_cmp nat_cmp other key.items))
+          (λ x y found. ap (λ n. is_eq (slice_cmp nat_cmp n y.items)) (found_is other x.items found))
+          (λ key found. is_eq-slice_cmp other key.items ∙ differs text other key.items e (found_is text key.items found) (bytes_eq other key.items) refl)
+          ∙ sym (ap (λ (t : Bool). cond t (Some number) (number_at old other)) e)
+    ]
 
-  -- where no two keys are equal, no text stands twice
-  pub texts_once : (ks : List K) → IsDistinct (λ x y. pointwise nat_eq (f x) (f y)) ks → (i j : ℕ) → i < length (map f ks)
-      → j < length (map f ks) → slice_index_or (map f ks) i [] ≡ slice_index_or (map f ks) j [] → i ≡ j
-  texts_once [] single i j here there e = absurd (omega arith)
-  texts_once (k ∷ ks) single zero zero here there e = refl
-  texts_once (k ∷ ks) single zero (suc j) here there e =
-      absurd (later (f k) ks j (IsDistinct-head (λ x y. pointwise nat_eq (f x) (f y)) k ks single) (omega arith) e)
-  texts_once (k ∷ ks) single (suc i) zero here there e =
-      absurd (later (f k) ks i (IsDistinct-head (λ x y. pointwise nat_eq (f x) (f y)) k ks single) (omega arith) (sym e))
-  texts_once (k ∷ ks) single (suc i) (suc j) here there e =
-      ap suc (texts_once ks (IsDistinct-tail (λ x y. pointwise nat_eq (f x) (f y)) k ks single) i j (omega arith) (omega arith) e)
+-- no texts
+pub none_numbered : (texts : List (List ℕ)) (numbers : BTreeMap (Vec ℕ Global) ℕ) → texts ≡ [] → numbers.entries ≡ [] → AreNumbered texts numbers
+none_numbered texts numbers e f = subst (λ (ts : List (List ℕ)). AreNumbered ts numbers) (sym e) (record {
+  found = λ text i is. let two : None ≡ Some i = sym (none text numbers.entries f) ∙ is in cc;
+  none = λ text is i there. absurd (omega (arith, there.there));
+  once = λ i j here there same. absurd (omega (arith, here));
+})
+  where
+    none : (text : List ℕ) (es : List (Vec ℕ Global × ℕ)) → es ≡ [] → lookup (is_at (λ (key : Vec ℕ Global). slice_cmp nat_cmp text key.items)) es ≡ None
+    none text es e = ap (lookup (is_at (λ (key : Vec ℕ Global). slice_cmp nat_cmp text key.items))) e
 
-  stored : (ks : List K) (n : ℕ) (k : K) → slice_get ks n ≡ Some k → (n < length (map f ks)) × (slice_index_or (map f ks) n [] ≡ f k)
-  stored [] n k e = cc
-  stored (x ∷ ks) zero k e = (omega arith, let is : x ≡ k = cc in ap f is)
-  stored (x ∷ ks) (suc n) k e = let behind = stored ks n k e in (omega (arith, behind.0), behind.1)
+-- ---- one text more
 
-  -- the texts of keys of which one was put last, or was there
-  pub texts_after : (ks after : List K) (k : K) (text : List ℕ) (there : Bool) → f k ≡ text → after ≡ (if there then ks else ks ++ k ∷ [])
-      → IsAtMostOneMore (map f ks) (map f after) text
-  texts_after ks after k text true is e = inl (ap (map f) e)
-  texts_after ks after k text false is e = inr (ap (map f) e ∙ (map-append f ks (k ∷ []) ∙ ap (λ t. map f ks ++ t ∷ []) is))
+before : (texts : List (List ℕ)) (text : List ℕ) (i : ℕ) → i < length texts → slice_index_or (texts ++ text ∷ []) i [] ≡ slice_index_or texts i []
+before [] text i here = absurd (omega (arith, here))
+before (t ∷ ts) text zero here = refl
+before (t ∷ ts) text (suc i) here = before ts text i (omega (arith, here))
 
-  -- the text of the key of a number
-  pub text_stored : (ks : List K) (n : ℕ) (k : K) (text own : List ℕ) → own ≡ text → slice_get ks n ≡ Some k
-      → pointwise nat_eq own (f k) ≡ true → IsText (map f ks) text n
-  text_stored ks n k text own is there same =
-      let at = stored ks n k there in
-      record { there = at.0; meaning = at.1 ∙ (sym ((bytes_decides own (f k)).0 same) ∙ is) }
+last : (texts : List (List ℕ)) (text : List ℕ) → slice_index_or (texts ++ text ∷ []) (length texts) [] ≡ text
+last [] text = refl
+last (t ∷ ts) text = last ts text
 
-  -- a text that equals the key of a number
-  pub equal_text : (ks : List K) (n : ℕ) (k : K) (text own : List ℕ) (same : Bool) → slice_get ks n ≡ Some k → own ≡ f k
-      → IsTrue same ↔ (text ≡ own) → IsTrue same → IsText (map f ks) text n
-  equal_text ks n k text own same there is told so =
-      let at = stored ks n k there in
-      record { there = at.0; meaning = at.1 ∙ (sym is ∙ sym (told.0 so)) }
+many : (texts : List (List ℕ)) (text : List ℕ) → length (texts ++ text ∷ []) ≡ suc (length texts)
+many texts text = omega (arith, length-append texts (text ∷ []))
 
-  found_at : (texts : List (List ℕ)) (text : List ℕ) (r : Option ℕ) → r ≡ position (pointwise nat_eq text) texts → IfSome r (IsText texts text)
-  found_at texts text None e = tt
-  found_at texts text (Some i) e =
-      let at = position-Some (pointwise nat_eq text) texts i [] (sym e) in
-      record { there = at.0; meaning = sym ((bytes_decides text (get_or texts i [])).0 at.1) }
+pub last_is : (texts : List (List ℕ)) (text : List ℕ) → IsText (texts ++ text ∷ []) text (length texts)
+last_is texts text = record { there = omega (arith, many texts text); meaning = last texts text }
 
-  beyond : (a b : ℕ) → None ≡ cond (nat_lt a b) (Some a) None → b ≤ a
-  beyond a b e = grind (arith, common_steps)
+stays : (texts : List (List ℕ)) (text other : List ℕ) (i : ℕ) → IsText texts other i → IsText (texts ++ text ∷ []) other i
+stays texts text other i is = record { there = omega (arith, many texts text, is.there); meaning = before texts text i is.there ∙ is.meaning }
 
-  none_at : (texts : List (List ℕ)) (text : List ℕ) (r : Option ℕ) → r ≡ position (pointwise nat_eq text) texts
-      → IfNone r ((i : ℕ) → IsText texts text i → ⊥)
-  none_at texts text (Some i) e = tt
-  none_at texts text None e = λ i is.
-      let whole = beyond (position_or_len (pointwise nat_eq text) texts) (length texts) e in
-      let here : i < position_or_len (pointwise nat_eq text) texts = omega (arith, is.there, whole) in
-      let other = prefix_len_passes (λ x. not (pointwise nat_eq text x)) texts i [] here in
-      true≢false (sym other ∙ ap not ((bytes_decides text (get_or texts i [])).1 (sym is.meaning)))
+-- a text of the longer list is one of the shorter, or the last
+parts : (texts : List (List ℕ)) (text other : List ℕ) (i : ℕ) → IsText (texts ++ text ∷ []) other i → IsText texts other i ⊎ ((i ≡ length texts) × (text ≡ other))
+parts [] text other zero is = inr (refl, is.meaning)
+parts [] text other (suc i) is = absurd (omega (arith, is.there))
+parts (t ∷ ts) text other zero is = inl (record { there = omega arith; meaning = is.meaning })
+parts (t ∷ ts) text other (suc i) is =
+    ⊎_elim
+    (λ w. inl (record { there = omega (arith, w.there); meaning = w.meaning }))
+    (λ w. inr (ap suc w.0, w.1))
+    (parts ts text other i (record { there = omega (arith, is.there); meaning = is.meaning }))
 
-  -- what a look for a text answers
-  pub found : (ks : List K) (text : List ℕ) (r : Option ℕ) → r ≡ position (λ k. pointwise nat_eq text (f k)) ks → IfSome r (IsText (map f ks) text)
-  found ks text r e = found_at (map f ks) text r (e ∙ place (pointwise nat_eq text) ks)
+module _ (texts : List (List ℕ)) (text : List ℕ) (old new : BTreeMap (Vec ℕ Global) ℕ) (h : AreNumbered texts old)
+    (absent : (i : ℕ) → IsText texts text i → ⊥) (p : PutsAt text (length texts) old new) where
+  found_more : (other : List ℕ) (i : ℕ) → number_at new other ≡ Some i → IsText (texts ++ text ∷ []) other i
+  found_more other i is =
+      elim (cases_Bool (bytes_eq text other)) [
+        | inl e ↦
+            let put : number_at new other ≡ Some (length texts) = p other ∙ ap (λ (t : Bool). cond t (Some (length texts)) (number_at old other)) e in
+            let two : Some (length texts) ≡ Some i = sym put ∙ is in
+            let same : length texts ≡ i = cc in
+            let P : ℕ → Type 0 = λ n. IsText (texts ++ text ∷ []) other n in
+            let Q : List ℕ → Type 0 = λ t. IsText (texts ++ text ∷ []) t (length texts) in
+            subst P same (subst Q ((bytes_decides text other).0 e) (last_is texts text))
+        | inr e ↦
+            let kept : number_at new other ≡ number_at old other = p other ∙ ap (λ (t : Bool). cond t (Some (length texts)) (number_at old other)) e in
+            stays texts text other i (h.found other i (sym kept ∙ is))
+      ]
 
-  pub not_found : (ks : List K) (text : List ℕ) (r : Option ℕ) → r ≡ position (λ k. pointwise nat_eq text (f k)) ks
-      → IfNone r ((i : ℕ) → IsText (map f ks) text i → ⊥)
-  not_found ks text r e = none_at (map f ks) text r (e ∙ place (pointwise nat_eq text) ks)
+  none_more : (other : List ℕ) → number_at new other ≡ None → (i : ℕ) → IsText (texts ++ text ∷ []) other i → ⊥
+  none_more other is i there =
+      elim (cases_Bool (bytes_eq text other)) [
+        | inl e ↦
+            let put : number_at new other ≡ Some (length texts) = p other ∙ ap (λ (t : Bool). cond t (Some (length texts)) (number_at old other)) e in
+            let two : None ≡ Some (length texts) = sym is ∙ put in cc
+        | inr e ↦
+            let kept : number_at new other ≡ number_at old other = p other ∙ ap (λ (t : Bool). cond t (Some (length texts)) (number_at old other)) e in
+            ⊎_elim (λ w. h.none other (sym kept ∙ is) i w)
+            (λ w. true≢false (sym ((bytes_decides text other).1 w.1) ∙ e))
+            (parts texts text other i there)
+      ]
+
+  -- of a text that isn't there, as one of those that are
+  not_there : {X : Type 0} (other : List ℕ) (i : ℕ) → IsText texts other i → text ≡ other → X
+  not_there other i is same = absurd (absent i (record { there = is.there; meaning = is.meaning ∙ sym same }))
+
+  once_more : AreOnce (texts ++ text ∷ [])
+  once_more i j here there same =
+      let x = slice_index_or (texts ++ text ∷ []) i [] in
+      ⊎_elim
+      (λ a. ⊎_elim (λ b. h.once i j a.there b.there (a.meaning ∙ sym b.meaning)) (λ b. not_there x i a b.1)
+      (parts texts text x j (record { there = there; meaning = sym same })))
+      (λ a. ⊎_elim (λ b. not_there x j b a.1) (λ b. a.0 ∙ sym b.0)
+      (parts texts text x j (record { there = there; meaning = sym same })))
+      (parts texts text x i (record { there = here; meaning = refl }))
+
+  pub pushed : AreNumbered (texts ++ text ∷ []) new
+  pushed = record { found = found_more; none = none_more; once = once_more }
+
+-- ---- texts in their memory
+
+pub texts_pushed : (all : List (Vec ℕ Global)) (text : Vec ℕ Global) → texts_in (all ++ text ∷ []) ≡ texts_in all ++ text.items ∷ []
+texts_pushed all text = map-append (λ (t : Vec ℕ Global). t.items) all (text ∷ [])
+
+-- a map that knows the numbers, and the texts with one more at the end
+pub one_more : (all after : List (Vec ℕ Global)) (old new : BTreeMap (Vec ℕ Global) ℕ) (it : Vec ℕ Global) (key text : List ℕ) (number : ℕ) →
+    AreNumbered (texts_in all) old → ((i : ℕ) → IsText (texts_in all) text i → ⊥) → after ≡ all ++ it ∷ [] → it.items ≡ text → key ≡ text →
+    number ≡ length all → PutsAt key number old new → AreNumbered (texts_in after) new
+one_more all after old new it key text number h absent is same named size p =
+    let P : List (Vec ℕ Global) → Type 0 = λ xs. AreNumbered (texts_in xs) new in
+    let Q : List (List ℕ) → Type 0 = λ ts. AreNumbered ts new in
+    let R : List ℕ → Type 0 = λ t. AreNumbered (texts_in all ++ t ∷ []) new in
+    let S : List ℕ → Type 0 = λ t. PutsAt t number old new in
+    let T : ℕ → Type 0 = λ n. PutsAt text n old new in
+    let many : number ≡ length (texts_in all) = size ∙ sym (length-map all (λ (t : Vec ℕ Global). t.items)) in
+    subst P (sym is) (subst Q (sym (texts_pushed all it)) (subst R (sym same) (pushed (texts_in all) text old new h absent (subst T many (subst S named p)))))
+
+-- entries that stay are the same map
+pub same_numbered : (texts : List (List ℕ)) (numbers new : BTreeMap (Vec ℕ Global) ℕ) → AreNumbered texts numbers → new.entries ≡ numbers.entries → AreNumbered texts new
+same_numbered texts numbers new h e = record {
+  found = λ text i is. h.found text i (sym (ap (lookup (is_at (λ (key : Vec ℕ Global). slice_cmp nat_cmp text key.items))) e) ∙ is);
+  none = λ text is i there. h.none text (sym (ap (lookup (is_at (λ (key : Vec ℕ Global). slice_cmp nat_cmp text key.items))) e) ∙ is) i there;
+  once = h.once;
+}
+
+-- the text of a number
+pub text_at : (all : List (Vec ℕ Global)) (n : ℕ) (text : Vec ℕ Global) → slice_get all n ≡ Some text → IsText (texts_in all) text.items n
+text_at [] n text e = cc
+text_at (t ∷ all) zero text e = let is : t ≡ text = cc in record { there = omega arith; meaning = ap (λ (x : Vec ℕ Global). x.items) is }
+text_at (t ∷ all) (suc n) text e = let w = text_at all n text e in record { there = omega (arith, w.there); meaning = w.meaning }
+
+-- what a look-up of a text answers
+pub looked_up : (texts : List (List ℕ)) (numbers : BTreeMap (Vec ℕ Global) ℕ) (text : List ℕ) → AreNumbered texts numbers → (r : Option ℕ)
+    → r ≡ number_at numbers text → IfSome r (IsText texts text)
+looked_up texts numbers text h None e = tt
+looked_up texts numbers text h (Some i) e = h.found text i (sym e)
+
+pub looked_up_none : (texts : List (List ℕ)) (numbers : BTreeMap (Vec ℕ Global) ℕ) (text : List ℕ) → AreNumbered texts numbers → (r : Option ℕ)
+    → r ≡ number_at numbers text → IfNone r ((i : ℕ) → IsText texts text i → ⊥)
+looked_up_none texts numbers text h None e = h.none text (sym e)
+looked_up_none texts numbers text h (Some i) e = tt
+
+-- the last of a list taken off again
+take_front : (all : List (Vec ℕ Global)) (it : Vec ℕ Global) (n : ℕ) → n ≡ length all → take n (all ++ it ∷ []) ≡ all
+take_front [] it zero e = refl
+take_front [] it (suc n) e = absurd (omega (arith, e))
+take_front (t ∷ all) it zero e = absurd (omega (arith, e))
+take_front (t ∷ all) it (suc n) e = ap (λ (ts : List (Vec ℕ Global)). t ∷ ts) (take_front all it n (omega (arith, e)))
+
+pub taken_off : (all after back : List (Vec ℕ Global)) (it : Vec ℕ Global) (n : ℕ) → after ≡ all ++ it ∷ [] → back ≡ take n after → n ≡ length all → back ≡ all
+taken_off all after back it n is taken size = taken ∙ ap (λ (ts : List (Vec ℕ Global)). take n ts) is ∙ take_front all it n size

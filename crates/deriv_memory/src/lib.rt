@@ -10,4 +10,5 @@ mod at_hand;
 mod block;
 mod guesses;
 pub mod memory;
+mod numbered_texts;
 mod text;

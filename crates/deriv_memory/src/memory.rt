@@ -9,8 +9,9 @@ ghost use Rattle.deriv_memory.specs.Remembered.{noted, IsText, IsName, AreOnce, 
 use crate::asked::Asked;
 use crate::at_hand::{AtHand, written};
 use crate::guesses::Guesses;
+use crate::numbered_texts::Texts;
 use crate::text::same_text;
-use indexmap::{IndexMap, IndexSet};
+use indexmap::IndexMap;
 use nx_base::memory::NoMemory;
 use nx_base::name::Name;
 use std::alloc::Global;
@@ -19,22 +20,21 @@ use std::marker::Model;
 /// The parts of names, each once, and what calls answered. Nothing is taken out.
 #[derive(Drop)]
 pub struct Memory {
-    texts: IndexSet<Vec<u8>>,
+    texts: Texts,
     guesses: Guesses,
     answers: IndexMap<Asked, Option<usize>>,
     at_hand: AtHand,
 }
 
 impl Model for Memory {
-    ghost use Rattle.std.specs.Prelude.{map};
     ghost use Rattle.deriv_memory.specs.AtHand.{AreNoted};
     ghost use Rattle.deriv_memory.specs.Remembered.{Remembered, AreOnce};
 
     ghost Value = { Remembered };
 
-    ghost view = { λ m. record { texts = map (λ t. t.items) m.texts.keys; answers = m.answers.entries } };
+    ghost view = { λ m. record { texts = m.texts; answers = m.answers.entries } };
 
-    ghost invariant = { λ m. AreOnce (map (λ t. t.items) m.texts.keys) × AreNoted m.answers.entries m.at_hand };
+    ghost invariant = { λ m. AreOnce m.texts × AreNoted m.answers.entries m.at_hand };
 }
 
 impl Memory {
@@ -44,7 +44,7 @@ impl Memory {
         ensures answers { (call : TheAsked) → noted result call ≡ None }
     {
         Memory {
-            texts: IndexSet::new(alloc),
+            texts: Texts::new(alloc),
             guesses: Guesses::new(alloc),
             answers: IndexMap::new(alloc),
             at_hand: AtHand::new(alloc),
@@ -57,8 +57,8 @@ impl Memory {
         ensures once { AreOnce self.now.texts }
         ensures has { IsTrue result → IsText self.now.texts text.now number }
     {
-        match self.texts.get_index(number) {
-            Some(kept) => same_text(text, kept.as_slice()),
+        match self.texts.get(number) {
+            Some(kept) => same_text(text, kept),
             None => false,
         }
     }
@@ -77,14 +77,14 @@ impl Memory {
         self.searched_text(text)
     }
 
-    // The number of a text, by its hash. Out of line, so that a text that is guessed sets up no frame for it.
+    // The number of a text, by its order among them. Out of line, so that a text that is guessed sets up no frame for it.
     #[inline(never)]
     fn searched_text(&self, text: &[u8]) -> Option<usize>
         ensures once { AreOnce self.now.texts }
         ensures found { IfSome result (IsText self.now.texts text.now) }
         ensures none { IfNone result ((i : ℕ) → IsText self.now.texts text.now i → ⊥) }
     {
-        self.texts.get_index_of(text)
+        self.texts.number(text)
     }
 
     /// The number of a text, which is kept where it is new.
@@ -102,8 +102,9 @@ impl Memory {
         }
     }
 
-    /// The number of a text, which is put last where it isn't there.
+    /// The number of a text that isn't there, and is put last.
     fn add_text(&mut self, alloc: Global, text: &[u8]) -> Result<usize, NoMemory>
+        requires { (i : ℕ) → IsText self.old.texts text.now i → ⊥ }
         ensures once { AreOnce self.new.texts }
         ensures later { LaterMemory self.old self.new }
         ensures answers { self.new.answers ≡ self.old.answers }
@@ -111,7 +112,7 @@ impl Memory {
         ensures only { IsAtMostOneMore self.old.texts self.new.texts text.now }
     {
         self.guesses.put(text, self.texts.len())?;
-        let (number, _) = self.texts.insert_full(Vec::from_slice(alloc, text)?)?;
+        let number = self.texts.push(alloc, text)?;
         Ok(number)
     }
 

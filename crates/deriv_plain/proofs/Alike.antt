@@ -5,7 +5,7 @@ use Rattle.std.proofs.lemmas.Bool.{and_parts, and_from, false≢true}
 use Rattle.rng_core.specs.Patterns.{Pattern}
 use Rattle.rng_core.specs.Equality.{same_pattern}
 use Rattle.rng_core.proofs.Same.{patterns_decided}
-use Rattle.rng_kept.specs.Residuals.{Outer, document, inside, Way, among, in_tag, Residual}
+use Rattle.rng_kept.specs.Residuals.{Outer, document, inside, one_of, Way, among, in_tag, Residual}
 use Rattle.rng_kept.specs.Merging.{same_flag, same_outer}
 use Rattle.deriv_plain.specs.Sameness.{same_way, same_residual}
 
@@ -26,7 +26,14 @@ insides b c l k v w o u first second third last =
 outers_same : (o u : Outer) → same_outer o u ≡ true → o ≡ u
 outers_same (document p) (document q) same = ap (λ x. document x) ((patterns_decided p q).0 same)
 outers_same (document p) (inside c k w u) same = absurd (false≢true same)
+outers_same (document p) (one_of u r) same = absurd (false≢true same)
 outers_same (inside b l v o) (document q) same = absurd (false≢true same)
+outers_same (inside b l v o) (one_of u r) same = absurd (false≢true same)
+outers_same (one_of o r) (document q) same = absurd (false≢true same)
+outers_same (one_of o r) (inside c k w u) same = absurd (false≢true same)
+outers_same (one_of o r) (one_of u s) same =
+    let parts = and_parts (same_outer o u) (same_outer r s) same in
+    ap (λ x. one_of x r) (outers_same o u parts.0) ∙ ap (λ x. one_of u x) (outers_same r s parts.1)
 outers_same (inside b l v o) (inside c k w u) same =
     let first = and_parts (same_pattern b c) (same_pattern l k && (same_flag v w && same_outer o u)) same in
     let second = and_parts (same_pattern l k) (same_flag v w && same_outer o u) first.1 in
@@ -37,6 +44,7 @@ outer_itself : (o : Outer) → same_outer o o ≡ true
 outer_itself (document p) = (patterns_decided p p).1 refl
 outer_itself (inside b l v o) =
     and_from _ _ ((patterns_decided b b).1 refl) (and_from _ _ ((patterns_decided l l).1 refl) (and_from _ _ (flag_itself v) (outer_itself o)))
+outer_itself (one_of o u) = and_from _ _ (outer_itself o) (outer_itself u)
 
 tags_same : (p q : Pattern) (o u : Outer) → p ≡ q → o ≡ u → in_tag p o ≡ in_tag q u
 tags_same p q o u first second = ap (λ x. in_tag x o) first ∙ ap (λ x. in_tag q x) second

@@ -1,7 +1,7 @@
 -- A way is merged with the first with which it can be, or comes last.
 use Rattle.std.specs.Prelude.{◌≡◌, ℕ, ◌+◌, ◌<◌, ◌≤◌, List, [], ◌∷◌, ◌++◌, Bool, true, false, not, map, length, cond}
 use Rattle.std.specs.List.{prefix_len}
-use Rattle.std.proofs.Common.{suc, get_or, set, ap, refl, sym, subst, ◌∙◌, arith}
+use Rattle.std.proofs.Common.{suc, get_or, set, ap, sym, subst, ◌∙◌, arith}
 use Rattle.rng_kept.specs.Residuals.{Way, Residual}
 use Rattle.rng_kept.specs.Merging.{can_join_ways, joined_way, with_way}
 use Rattle.deriv_plain.specs.declared.ways.OneWay.{OneWay}

@@ -1,18 +1,19 @@
 -- The patterns of a state stay in order.
-use Rattle.std.specs.Prelude.{ℕ, List, [], ◌∷◌, ◌++◌, Bool, true, false, map, if◌then◌else◌, zero, suc, ◌≡◌}
+use Rattle.std.specs.Prelude.{ℕ, List, [], ◌∷◌, ◌++◌, Bool, true, false, map, if◌then◌else◌, zero, suc}
 use Rattle.nx_base.specs.Characters.{is_blank}
 use Rattle.nx_base.specs.declared.name.Name.{Name}
 use Rattle.rng_core.specs.Patterns.{Pattern, Definition}
-use Rattle.rng_kept.specs.Nullable.{nullable}
 use Rattle.rng_kept.specs.SmallPatterns.{is_not_allowed}
-use Rattle.rng_kept.specs.Attributes.{after_attribute, after_any_attribute, close, drop}
+use Rattle.rng_kept.specs.Attributes.{close, drop}
 use Rattle.rng_kept.specs.Openings.{Opening, opens}
 use Rattle.rng_kept.specs.Skipping.{skip_opens}
-use Rattle.rng_kept.specs.Residuals.{Outer, document, inside, Way, among, in_tag, Residual}
-use Rattle.rng_kept.specs.Merging.{can_join_ways, joined_outer, joined_way, with_way, with_ways, stepped}
-use Rattle.rng_kept.specs.Entering.{content_of, rest_at, has_number, tag_at_top, tag_of_both, tag_of_loose, others, enter_outer, enter_way, skip_outer, skip_way}
-use Rattle.rng_kept.specs.Tags.{tag_of, attribute_way, any_value_way, children_of, tag_end_way, missing_way}
-use Rattle.rng_kept.specs.Content.{is_dead_outer, among_of, loose_after, outer_after, chars_way, outer_after_any, any_string_way, may_leave, leave_outer, leave_way, leave_skip_outer, leave_skip_way}
+use Rattle.rng_kept.specs.Residuals.{Outer, document, inside, one_of, Way, among, in_tag, Residual}
+use Rattle.rng_kept.specs.Merging.{same_outer, is_outer_in, with_outer, either_outer, can_join_ways, joined_outer, joined_way, with_way, with_ways, stepped}
+use Rattle.rng_kept.specs.Entering.{content_of, has_number, tag_at_top, tag_of_both, tag_of_loose, others, enter_outer, skip_outer}
+use Rattle.rng_kept.specs.Strings.{after}
+use Rattle.rng_kept.specs.SolidStrings.{after_solid}
+use Rattle.rng_kept.specs.Tags.{tag_of, children_of}
+use Rattle.rng_kept.specs.Content.{is_dead_outer, among_of, loose_after, chars_outer, any_string_outer, ways_of, may_leave, leave_outer, leave_skip_outer}
 use Rattle.deriv_pattern.specs.Leaves.{IsInOrder, ContentsAreInOrder, RestsAreInOrder, LeftInOrder}
 use Rattle.deriv_pattern.specs.Steps.{way_step}
 use Rattle.deriv_pattern.specs.declared.step.Step.{Step}
@@ -23,6 +24,20 @@ use Rattle.deriv_plain.specs.Order.{OuterIsInOrder, WayIsInOrder, AreInOrder, St
 either_way : (c : Bool) (x y : Residual) → AreInOrder x → AreInOrder y → AreInOrder (if c then x else y)
 either_way true x y a b = a
 either_way false x y a b = b
+
+-- either outer, by a test
+either_case : (c : Bool) (o u : Outer) → OuterIsInOrder o → OuterIsInOrder u → OuterIsInOrder (if c then o else u)
+either_case true o u a b = a
+either_case false o u a b = b
+
+-- a choice of outers
+with_outer_in_order : (o u : Outer) → OuterIsInOrder o → OuterIsInOrder u → OuterIsInOrder (with_outer o u)
+with_outer_in_order o u a b = either_case (is_outer_in u o) o (one_of o u) a (a, b)
+
+either_in_order : (o u : Outer) → OuterIsInOrder o → OuterIsInOrder u → OuterIsInOrder (either_outer o u)
+either_in_order o (document p) a b = with_outer_in_order o (document p) a b
+either_in_order o (inside c l v u) a b = with_outer_in_order o (inside c l v u) a b
+either_in_order o (one_of u r) a b = either_in_order (either_outer o u) r (either_in_order o u a b.0) b.1
 
 -- lists put together
 appended : (x y : Residual) → AreInOrder x → AreInOrder y → AreInOrder (x ++ y)
@@ -38,14 +53,18 @@ module _ (left : LeftInOrder) where
   joined_in_order : (o u : Outer) → OuterIsInOrder o → OuterIsInOrder u → OuterIsInOrder (joined_outer o u)
   joined_in_order (document p) (document q) a b = left.choice_of p q a b
   joined_in_order (document p) (inside c k w u) a b = a
+  joined_in_order (document p) (one_of u r) a b = a
   joined_in_order (inside c l v o) (document q) a b = a
-  joined_in_order (inside c l v o) (inside d k w u) a b = (left.choice_of c d a.0 b.0, left.choice_of l k a.1 b.1, a.2)
+  joined_in_order (inside c l v o) (one_of u r) a b = a
+  joined_in_order (inside c l v o) (inside d k w u) a b =
+      either_case (same_outer o u) _ _ (left.choice_of c d a.0 b.0, left.choice_of l k a.1 b.1, a.2) (a.0, a.1, either_in_order o u a.2 b.2)
+  joined_in_order (one_of o r) u a b = a
 
   joined_way_in_order : (w v : Way) → WayIsInOrder w → WayIsInOrder v → WayIsInOrder (joined_way w v)
   joined_way_in_order (among o) (among u) a b = joined_in_order o u a b
   joined_way_in_order (among o) (in_tag q u) a b = a
   joined_way_in_order (in_tag p o) (among u) a b = a
-  joined_way_in_order (in_tag p o) (in_tag q u) a b = a
+  joined_way_in_order (in_tag p o) (in_tag q u) a b = (a.0, either_in_order o u a.1 b.1)
 
   with_way_in_order : (x : Residual) (w : Way) → AreInOrder x → WayIsInOrder w → AreInOrder (with_way x w)
   with_way_in_order [] w a b = (b, tt)
@@ -71,21 +90,33 @@ module _ (left : LeftInOrder) where
   loose_in_order true l m a b = a
   loose_in_order false l m a b = b
 
-  after_in_order : (t : List ℕ) (o : Outer) → OuterIsInOrder o → OuterIsInOrder (outer_after t o)
-  after_in_order t (document p) a = left.after t p a
-  after_in_order t (inside b l v o) a = (left.after t b a.0, loose_in_order (is_blank t) l _ a.1 (left.after t l a.1), a.2)
+  chars_in_order : (t : List ℕ) (o : Outer) → OuterIsInOrder o → AreInOrder (chars_outer t o)
+  chars_in_order t (document p) a = among_in_order (document (after t p)) (left.after t p a)
+  chars_in_order t (inside b l v o) a =
+      among_in_order (inside (after t b) (loose_after t l) false o)
+      (left.after t b a.0, loose_in_order (is_blank t) l _ a.1 (left.after t l a.1), a.2)
+  chars_in_order t (one_of o u) a = with_ways_in_order (chars_outer t o) (chars_outer t u) (chars_in_order t o a.0) (chars_in_order t u a.1)
 
-  after_any_in_order : (o : Outer) → OuterIsInOrder o → OuterIsInOrder (outer_after_any o)
-  after_any_in_order (document p) a = left.after_solid p a
-  after_any_in_order (inside b l v o) a = (left.after_solid b a.0, left.after_solid l a.1, a.2)
+  any_string_in_order : (o : Outer) → OuterIsInOrder o → AreInOrder (any_string_outer o)
+  any_string_in_order (document p) a = among_in_order (document (after_solid p)) (left.after_solid p a)
+  any_string_in_order (inside b l v o) a =
+      among_in_order (inside (after_solid b) (after_solid l) false o) (left.after_solid b a.0, left.after_solid l a.1, a.2)
+  any_string_in_order (one_of o u) a = with_ways_in_order (any_string_outer o) (any_string_outer u) (any_string_in_order o a.0) (any_string_in_order u a.1)
+
+  ways_in_order : (o : Outer) → OuterIsInOrder o → AreInOrder (ways_of o)
+  ways_in_order (document p) a = (a, tt)
+  ways_in_order (inside b l v o) a = (a, tt)
+  ways_in_order (one_of o u) a = with_ways_in_order (ways_of o) (ways_of u) (ways_in_order o a.0) (ways_in_order u a.1)
 
   outside_in_order : (o : Outer) → OuterIsInOrder o → AreInOrder (leave_outer o)
   outside_in_order (document p) a = tt
-  outside_in_order (inside b l v o) a = either_way (may_leave b l v) (among o ∷ []) [] (a.2, tt) tt
+  outside_in_order (inside b l v o) a = either_way (may_leave b l v) (ways_of o) [] (ways_in_order o a.2) tt
+  outside_in_order (one_of o u) a = with_ways_in_order (leave_outer o) (leave_outer u) (outside_in_order o a.0) (outside_in_order u a.1)
 
   further_in_order : (o : Outer) → OuterIsInOrder o → AreInOrder (leave_skip_outer o)
   further_in_order (document p) a = tt
-  further_in_order (inside b l v o) a = (a.2, tt)
+  further_in_order (inside b l v o) a = ways_in_order o a.2
+  further_in_order (one_of o u) a = with_ways_in_order (leave_skip_outer o) (leave_skip_outer u) (further_in_order o a.0) (further_in_order u a.1)
 
   -- ---- tags
 
@@ -131,11 +162,15 @@ module _ (left : LeftInOrder) where
   entered_in_order g n (document p) a b = at_top_in_order g (opens g n p) a (left.opens g n p b)
   entered_in_order g n (inside c l v o) a b =
       inside_in_order g (opens g n c) (opens g n l) o a (left.opens g n c b.0) (left.opens g n l b.1) b.2
+  entered_in_order g n (one_of o u) a b =
+      with_ways_in_order (enter_outer g n o) (enter_outer g n u) (entered_in_order g n o a b.0) (entered_in_order g n u a b.1)
 
   skipped_in_order : (g : List Definition) (n : Name) (o : Outer) → ContentsAreInOrder g → OuterIsInOrder o → AreInOrder (skip_outer g n o)
   skipped_in_order g n (document p) a b = at_top_in_order g (skip_opens g n p) a (left.skip_opens g n p b)
   skipped_in_order g n (inside c l v o) a b =
       inside_in_order g (skip_opens g n c) (skip_opens g n l) o a (left.skip_opens g n c b.0) (left.skip_opens g n l b.1) b.2
+  skipped_in_order g n (one_of o u) a b =
+      with_ways_in_order (skip_outer g n o) (skip_outer g n u) (skipped_in_order g n o a b.0) (skipped_in_order g n u a b.1)
 
   -- ---- all steps
 
@@ -152,9 +187,9 @@ module _ (left : LeftInOrder) where
   step_in_order step.TagEnd g (in_tag p o) a = among_in_order (children_of p o) (children_in_order p o a.0 a.1)
   step_in_order step.TagEndMissing g (among o) a = tt
   step_in_order step.TagEndMissing g (in_tag p o) a = among_in_order (children_of (drop p) o) (children_in_order (drop p) o (left.drop p a.0) a.1)
-  step_in_order (step.Chars text) g (among o) a = among_in_order _ (after_in_order text.now o a)
+  step_in_order (step.Chars text) g (among o) a = chars_in_order text.now o a
   step_in_order (step.Chars text) g (in_tag p o) a = tt
-  step_in_order step.CharsAny g (among o) a = among_in_order _ (after_any_in_order o a)
+  step_in_order step.CharsAny g (among o) a = any_string_in_order o a
   step_in_order step.CharsAny g (in_tag p o) a = tt
   step_in_order step.Leave g (among o) a = outside_in_order o a
   step_in_order step.Leave g (in_tag p o) a = tt

@@ -1,10 +1,10 @@
 -- What later matchers keep.
-use Rattle.std.specs.Prelude.{◌≡◌, Bool, false, List}
+use Rattle.std.specs.Prelude.{◌≡◌}
 use Rattle.std.proofs.Common.{refl, ap, ◌∙◌}
 use Rattle.nx_base.specs.Rules.{LaterLaws}
 use Rattle.rng_core.specs.Patterns.{Language}
 use Rattle.rng_kept.specs.Residuals.{Residual}
-use Rattle.rng_live.specs.Calls.{Call, KeepsMemory}
+use Rattle.rng_live.specs.Calls.{KeepsMemory}
 
 -- a matcher whose states mean the same whichever one is asked is later than each one of its schema
 pub plain_laws : {M X S : Type 0} (schema : M → X) (language : X → Language) (is_state : S → Type 0) (means : S → Residual)

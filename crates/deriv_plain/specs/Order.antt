@@ -1,8 +1,8 @@
 -- States whose patterns are in order, so that it can be told of each leaf which strings it takes.
-use Rattle.std.specs.Prelude.{List, [], ◌∷◌, map}
+use Rattle.std.specs.Prelude.{List, map}
 use Rattle.std.specs.List.{AllByRecursion}
 use Rattle.rng_core.specs.Meaning.{definition_of}
-use Rattle.rng_kept.specs.Residuals.{Outer, document, inside, Way, among, in_tag, Residual}
+use Rattle.rng_kept.specs.Residuals.{Outer, document, inside, one_of, Way, among, in_tag, Residual}
 use Rattle.deriv_pattern.specs.Leaves.{IsInOrder, ContentsAreInOrder}
 use Rattle.deriv_plain.specs.declared.ways.OneWay.{OneWay}
 use Rattle.deriv_plain.specs.Ways.{residual_of}
@@ -12,6 +12,7 @@ use Rattle.deriv_pattern.specs.declared.step.Step.TheVariants as step
 abbrev pub OuterIsInOrder : Outer → Type 0
 OuterIsInOrder (document p) = IsInOrder p
 OuterIsInOrder (inside b l v o) = IsInOrder b × IsInOrder l × OuterIsInOrder o
+OuterIsInOrder (one_of o u) = OuterIsInOrder o × OuterIsInOrder u
 
 abbrev pub WayIsInOrder : Way → Type 0
 WayIsInOrder (among o) = OuterIsInOrder o

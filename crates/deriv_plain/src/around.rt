@@ -27,6 +27,8 @@ pub enum Around {
         void: bool,
         outer: Rc<Around>,
     },
+    /// What is left in one way, or in another.
+    OneOf(Rc<Around>, Rc<Around>),
 }
 
 // What others share stays.
@@ -42,6 +44,13 @@ impl Drop for Around {
                     outer,
                 } => {
                     let Some(next) = Rc::into_inner(outer) else {
+                        return;
+                    };
+                    self = next;
+                }
+                Around::OneOf(this, other) => {
+                    drop(other);
+                    let Some(next) = Rc::into_inner(this) else {
                         return;
                     };
                     self = next;
@@ -80,6 +89,19 @@ impl Around {
         Ok(Rc::new(alloc, around)?)
     }
 
+    /// In one way, or in another; both are shared.
+    pub(crate) fn one_of(
+        alloc: Global,
+        this: &Rc<Around>,
+        other: &Rc<Around>,
+    ) -> Result<Rc<Around>, NoMemory>
+        ensures { IfOk result (λ made. outer_of made.value ≡ residual.one_of (outer_of this.now.value) (outer_of other.now.value)) }
+    {
+        let this = this.clone()?;
+        let other = other.clone()?;
+        Ok(Rc::new(alloc, Around::OneOf(this, other))?)
+    }
+
     /// Whether both stand for the same. It goes out as far as they do, so it is linear in the depth of the document.
     pub(crate) fn same(&self, other: &Around) -> bool
         ensures { result ≡ same_outer (outer_of self.now) (outer_of other.now) }
@@ -92,7 +114,18 @@ impl Around {
                     return same_pattern(rest, other_rest);
                 }
                 (Around::Document(_), Around::Inside { .. }) => return false,
+                (Around::Document(_), Around::OneOf(_, _)) => return false,
                 (Around::Inside { .. }, Around::Document(_)) => return false,
+                (Around::Inside { .. }, Around::OneOf(_, _)) => return false,
+                (Around::OneOf(_, _), Around::Document(_)) => return false,
+                (Around::OneOf(_, _), Around::Inside { .. }) => return false,
+                (Around::OneOf(this, rest), Around::OneOf(other_this, other_rest)) => {
+                    if !this.same(other_this) {
+                        return false;
+                    }
+                    left = rest;
+                    right = other_rest;
+                }
                 (
                     Around::Inside {
                         strict,

@@ -8,6 +8,7 @@ ghost use Rattle.deriv_plain.specs.Ways.{outer_of, way_of, residual_of};
 ghost use Rattle.deriv_pattern.specs.Leaves.{IsInOrder};
 
 use crate::around::Around;
+use crate::merging::with_ways;
 use crate::ways::{OneWay, just_one, no_way};
 use deriv_pattern::leaves::is_blank;
 use deriv_pattern::small::{is_not_allowed, nullable};
@@ -30,6 +31,7 @@ fn is_dead(around: &Around) -> bool
             void,
             ..
         } => is_not_allowed(strict) && is_not_allowed(loose) && !*void,
+        Around::OneOf(this, other) => is_dead(this) && is_dead(other),
     }
 }
 
@@ -56,13 +58,16 @@ fn loose_after(alloc: Global, loose: &Pat, text: &str) -> Result<Pat, NoMemory>
     }
 }
 
-/// What is left behind a string.
-fn around_after(alloc: Global, around: &Around, text: &str) -> Result<Rc<Around>, NoMemory>
+/// Behind a string among children.
+fn chars_around(alloc: Global, around: &Around, text: &str) -> Result<Vec<OneWay>, NoMemory>
     requires { OuterIsInOrder (outer_of around.now) }
-    ensures { IfOk result (λ left. outer_of left.value ≡ content.outer_after text.now (outer_of around.now)) }
+    ensures { IfOk result (λ ways. residual_of ways.items ≡ content.chars_outer text.now (outer_of around.now)) }
 {
     match around {
-        Around::Document(rest) => Around::document(alloc, after(alloc, rest, text)?),
+        Around::Document(rest) => {
+            let left = after(alloc, rest, text)?;
+            among_of(alloc, Around::document(alloc, left)?)
+        }
         Around::Inside {
             strict,
             loose,
@@ -71,18 +76,26 @@ fn around_after(alloc: Global, around: &Around, text: &str) -> Result<Rc<Around>
         } => {
             let strict = after(alloc, strict, text)?;
             let loose = loose_after(alloc, loose, text)?;
-            Around::inside(alloc, strict, loose, false, outer)
+            among_of(alloc, Around::inside(alloc, strict, loose, false, outer)?)
+        }
+        Around::OneOf(this, other) => {
+            let first = chars_around(alloc, this, text)?;
+            let second = chars_around(alloc, other, text)?;
+            with_ways(alloc, first, second)
         }
     }
 }
 
-/// What is left behind some string that isn't blank.
-fn around_after_any(alloc: Global, around: &Around) -> Result<Rc<Around>, NoMemory>
+/// Behind some string that isn't blank, among children.
+fn any_string_around(alloc: Global, around: &Around) -> Result<Vec<OneWay>, NoMemory>
     requires { OuterIsInOrder (outer_of around.now) }
-    ensures { IfOk result (λ left. outer_of left.value ≡ content.outer_after_any (outer_of around.now)) }
+    ensures { IfOk result (λ ways. residual_of ways.items ≡ content.any_string_outer (outer_of around.now)) }
 {
     match around {
-        Around::Document(rest) => Around::document(alloc, after_solid(alloc, rest)?),
+        Around::Document(rest) => {
+            let left = after_solid(alloc, rest)?;
+            among_of(alloc, Around::document(alloc, left)?)
+        }
         Around::Inside {
             strict,
             loose,
@@ -91,7 +104,12 @@ fn around_after_any(alloc: Global, around: &Around) -> Result<Rc<Around>, NoMemo
         } => {
             let strict = after_solid(alloc, strict)?;
             let loose = after_solid(alloc, loose)?;
-            Around::inside(alloc, strict, loose, false, outer)
+            among_of(alloc, Around::inside(alloc, strict, loose, false, outer)?)
+        }
+        Around::OneOf(this, other) => {
+            let first = any_string_around(alloc, this)?;
+            let second = any_string_around(alloc, other)?;
+            with_ways(alloc, first, second)
         }
     }
 }
@@ -102,7 +120,7 @@ pub(crate) fn chars_way(alloc: Global, way: &OneWay, text: &str) -> Result<Vec<O
     ensures { IfOk result (λ ways. residual_of ways.items ≡ content.chars_way text.now (way_of way.now)) }
 {
     match way {
-        OneWay::Among(here) => among_of(alloc, around_after(alloc, here, text)?),
+        OneWay::Among(here) => chars_around(alloc, here, text),
         OneWay::InTag(_, _) => Ok(no_way(alloc)),
     }
 }
@@ -113,8 +131,23 @@ pub(crate) fn any_string_way(alloc: Global, way: &OneWay) -> Result<Vec<OneWay>,
     ensures { IfOk result (λ ways. residual_of ways.items ≡ content.any_string_way (way_of way.now)) }
 {
     match way {
-        OneWay::Among(here) => among_of(alloc, around_after_any(alloc, here)?),
+        OneWay::Among(here) => any_string_around(alloc, here),
         OneWay::InTag(_, _) => Ok(no_way(alloc)),
+    }
+}
+
+/// Each way to go on among what is left around.
+fn ways_of(alloc: Global, here: &Rc<Around>) -> Result<Vec<OneWay>, NoMemory>
+    ensures { IfOk result (λ ways. residual_of ways.items ≡ content.ways_of (outer_of here.now.value)) }
+{
+    match here.as_ref() {
+        Around::Document(_) => just_one(alloc, OneWay::Among(here.clone()?)),
+        Around::Inside { .. } => just_one(alloc, OneWay::Among(here.clone()?)),
+        Around::OneOf(this, other) => {
+            let first = ways_of(alloc, this)?;
+            let second = ways_of(alloc, other)?;
+            with_ways(alloc, first, second)
+        }
     }
 }
 
@@ -138,10 +171,15 @@ fn ways_outside(alloc: Global, here: &Around) -> Result<Vec<OneWay>, NoMemory>
             outer,
         } => {
             if may_leave(strict, loose, *void) {
-                just_one(alloc, OneWay::Among(outer.clone()?))
+                ways_of(alloc, outer)
             } else {
                 Ok(no_way(alloc))
             }
+        }
+        Around::OneOf(this, other) => {
+            let first = ways_outside(alloc, this)?;
+            let second = ways_outside(alloc, other)?;
+            with_ways(alloc, first, second)
         }
     }
 }
@@ -162,7 +200,12 @@ fn ways_further_out(alloc: Global, here: &Around) -> Result<Vec<OneWay>, NoMemor
 {
     match here {
         Around::Document(_) => Ok(no_way(alloc)),
-        Around::Inside { outer, .. } => just_one(alloc, OneWay::Among(outer.clone()?)),
+        Around::Inside { outer, .. } => ways_of(alloc, outer),
+        Around::OneOf(this, other) => {
+            let first = ways_further_out(alloc, this)?;
+            let second = ways_further_out(alloc, other)?;
+            with_ways(alloc, first, second)
+        }
     }
 }
 

@@ -8,6 +8,7 @@ ghost use Rattle.deriv_pattern.specs.Opened.{opening_of, openings_of};
 ghost use Rattle.deriv_plain.specs.Ways.{outer_of, way_of, residual_of};
 
 use crate::around::Around;
+use crate::merging::with_ways;
 use crate::ways::{OneWay, no_way};
 use deriv_pattern::openings::{Open, has_number, opens, rest_at, skip_opens};
 use nx_base::memory::NoMemory;
@@ -182,6 +183,11 @@ fn entered(alloc: Global, here: &Around, defs: &[Def], name: &Name) -> Result<Ve
             let loose = opens(alloc, defs, name, loose)?;
             tags_inside(alloc, defs, strict.as_slice(), loose.as_slice(), outer)
         }
+        Around::OneOf(this, other) => {
+            let first = entered(alloc, this, defs, name)?;
+            let second = entered(alloc, other, defs, name)?;
+            with_ways(alloc, first, second)
+        }
     }
 }
 
@@ -220,6 +226,11 @@ fn skipped(alloc: Global, here: &Around, defs: &[Def], name: &Name) -> Result<Ve
             let strict = skip_opens(alloc, defs, name, strict)?;
             let loose = skip_opens(alloc, defs, name, loose)?;
             tags_inside(alloc, defs, strict.as_slice(), loose.as_slice(), outer)
+        }
+        Around::OneOf(this, other) => {
+            let first = skipped(alloc, this, defs, name)?;
+            let second = skipped(alloc, other, defs, name)?;
+            with_ways(alloc, first, second)
         }
     }
 }

@@ -150,6 +150,7 @@ fn both_views(
 }
 
 /// What is needed up to the end of the element that is open.
+#[tactic(auto, using(crate::proofs::Kept::either_ordered))]
 fn up_to_end(
     alloc: Global,
     states: &States,
@@ -175,10 +176,16 @@ fn up_to_end(
             }
             both_views(alloc, states, kept, defs, None, strict, loose)
         }
+        Around::OneOf(this, other) => {
+            let first = up_to_end(alloc, states, kept, defs, this)?;
+            let second = up_to_end(alloc, states, kept, defs, other)?;
+            either_names(alloc, first, second)
+        }
     }
 }
 
 /// What is needed up to an element of the name among the children of what is open.
+#[tactic(auto, using(crate::proofs::Kept::either_ordered))]
 fn up_to_element(
     alloc: Global,
     states: &States,
@@ -200,6 +207,11 @@ fn up_to_element(
             void: _,
             outer: _,
         } => both_views(alloc, states, kept, defs, Some(name), strict, loose),
+        Around::OneOf(this, other) => {
+            let first = up_to_element(alloc, states, kept, defs, name, this)?;
+            let second = up_to_element(alloc, states, kept, defs, name, other)?;
+            either_names(alloc, first, second)
+        }
     }
 }
 

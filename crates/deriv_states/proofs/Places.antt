@@ -3,7 +3,7 @@ use Rattle.std.proofs.Common.{◌≡◌, ℕ, zero, suc, ◌<◌, ◌≤◌, Lis
 use Rattle.std.proofs.lemmas.Option.{slice_get_within}
 use Rattle.std.proofs.lemmas.Bool.Decides.{Decides-eqb, same_from_decides}
 use Rattle.rng_core.specs.Patterns.{Pattern, not_allowed}
-use Rattle.rng_kept.specs.Residuals.{Outer, document, inside, among, in_tag, Residual}
+use Rattle.rng_kept.specs.Residuals.{Outer, document, inside, one_of, among, in_tag, Residual}
 use Rattle.rng_kept.specs.Merging.{same_outer}
 use Rattle.deriv_nodes.specs.Numbers.{at, AreSingle, IsAt, Later}
 use Rattle.deriv_nodes.specs.Reading.{HasKey, AreOnce}
@@ -32,6 +32,8 @@ outer_steady : (old new : List Pattern) (done all : List Outer) (m n : ℕ) (a :
 outer_steady old new done all m n (around.Document rest) below nodes outers = ap (λ p. document p) (nodes rest below)
 outer_steady old new done all m n (around.Inside b l v o) below nodes outers =
     insides v _ _ _ _ _ _ (nodes b below.0) (nodes l below.1) (outers o below.2)
+outer_steady old new done all m n (around.OneOf this other) below nodes outers =
+    ap (λ x. one_of x (outer_in all other)) (outers this below.0) ∙ ap (λ x. one_of (outer_in done this) x) (outers other below.1)
 
 pub way_steady : (old new : List Pattern) (done all : List Outer) (m n : ℕ) (one : Branch) → IsBranchBelow m n one
     → ((i : ℕ) → i < m → at new i ≡ at old i) → ((i : ℕ) → i < n → outer_in all i ≡ outer_in done i)
@@ -53,6 +55,7 @@ state_steady old new done all states more m n k (row.Way one rest) below nodes o
 around_wider : (m k n : ℕ) (a : Around) → m ≤ k → IsAroundBelow m n a → IsAroundBelow k n a
 around_wider m k n (around.Document rest) up below = omega (arith, up, below)
 around_wider m k n (around.Inside b l v o) up below = (omega (arith, up, below.0), omega (arith, up, below.1), below.2)
+around_wider m k n (around.OneOf this other) up below = below
 
 pub there_wider : (m k n l : ℕ) (one : Branch) → m ≤ k → n ≤ l → IsBranchBelow m n one → IsBranchBelow k l one
 there_wider m k n l (branch.Among here) up out there = omega (arith, out, there)
@@ -263,7 +266,15 @@ module _ (patterns : List Pattern) (xs : List Around) (rs : List Row) (cs : List
   one_around n m (around.Document p) (around.Document q) part here there e =
       let is : at patterns p ≡ at patterns q = cc in ap (λ x. around.Document x) (single p q here there is)
   one_around n m (around.Document p) (around.Inside c k w u) part here there e = cc
+  one_around n m (around.Document p) (around.OneOf this other) part here there e = cc
   one_around n m (around.Inside b l v o) (around.Document q) part here there e = cc
+  one_around n m (around.Inside b l v o) (around.OneOf this other) part here there e = cc
+  one_around n m (around.OneOf this other) (around.Document q) part here there e = cc
+  one_around n m (around.OneOf this other) (around.Inside c k w u) part here there e = cc
+  one_around n m (around.OneOf o r) (around.OneOf u s) part here there e =
+      let this : outer_in (outers_of patterns xs) o ≡ outer_in (outers_of patterns xs) u = cc in
+      let other : outer_in (outers_of patterns xs) r ≡ outer_in (outers_of patterns xs) s = cc in
+      ap (λ x. around.OneOf x r) (part o u here.0 there.0 this) ∙ ap (λ x. around.OneOf u x) (part r s here.1 there.1 other)
   one_around n m (around.Inside b l v o) (around.Inside c k w u) part here there e =
       let strict : at patterns b ≡ at patterns c = cc in
       let loose : at patterns l ≡ at patterns k = cc in

@@ -6,9 +6,9 @@ use Rattle.std.proofs.lemmas.Bool.{or_parts}
 use Rattle.nx_base.specs.declared.name.Name.{Name}
 use Rattle.nx_base.specs.Characters.{is_blank}
 use Rattle.rng_core.specs.Patterns.{Pattern}
-use Rattle.rng_kept.specs.Content.{among_of, loose_after, outer_after, chars_way, chars}
+use Rattle.rng_kept.specs.Content.{among_of, loose_after, chars_outer, chars_way, chars}
 use Rattle.rng_kept.specs.Merging.{stepped, with_ways}
-use Rattle.rng_kept.specs.Residuals.{Outer, document, inside, Way, among, in_tag, Residual}
+use Rattle.rng_kept.specs.Residuals.{Outer, document, inside, one_of, Way, among, in_tag, Residual}
 use Rattle.rng_kept.specs.Strings.{after}
 use Rattle.rng_kept.specs.Tags.{tag_of, attribute_way, attribute_of}
 use Rattle.deriv_nodes.specs.Telling.{tells_strings, tells_values}
@@ -27,15 +27,19 @@ same_loose : (t u : List ℕ) (l : Pattern) → is_blank t ≡ is_blank u → te
 same_loose t u l blank none =
     ap (λ p. if is_blank t then l else p) (same_after t u l none) ∙ ap (λ b. if b then l else after u l) blank
 
-same_outer_after : (t u : List ℕ) (o : Outer) → is_blank t ≡ is_blank u → outer_tells o ≡ false → outer_after t o ≡ outer_after u o
-same_outer_after t u (document p) blank none = ap (λ q. document q) (same_after t u p none)
-same_outer_after t u (inside b l v o) blank none =
+same_chars_outer : (t u : List ℕ) (o : Outer) → is_blank t ≡ is_blank u → outer_tells o ≡ false → chars_outer t o ≡ chars_outer u o
+same_chars_outer t u (document p) blank none = ap (λ q. among_of (document q)) (same_after t u p none)
+same_chars_outer t u (inside b l v o) blank none =
     let parts = or_parts (tells_strings b) (tells_strings l) none in
-    ap (λ p. inside p (loose_after t l) false o) (same_after t u b parts.0)
-    ∙ ap (λ p. inside (after u b) p false o) (same_loose t u l blank parts.1)
+    ap (λ p. among_of (inside p (loose_after t l) false o)) (same_after t u b parts.0)
+    ∙ ap (λ p. among_of (inside (after u b) p false o)) (same_loose t u l blank parts.1)
+same_chars_outer t u (one_of o r) blank none =
+    let parts = or_parts (outer_tells o) (outer_tells r) none in
+    ap (λ x. with_ways x (chars_outer t r)) (same_chars_outer t u o blank parts.0)
+    ∙ ap (λ x. with_ways (chars_outer u o) x) (same_chars_outer t u r blank parts.1)
 
 same_chars_way : (t u : List ℕ) → is_blank t ≡ is_blank u → (w : Way) → way_tells w ≡ false → chars_way t w ≡ chars_way u w
-same_chars_way t u blank (among o) none = ap among_of (same_outer_after t u o blank none)
+same_chars_way t u blank (among o) none = same_chars_outer t u o blank none
 same_chars_way t u blank (in_tag p o) none = refl
 
 pub same_chars : (t u : List ℕ) (x : Residual) → is_blank t ≡ is_blank u → tells_texts x ≡ false → chars t x ≡ chars u x

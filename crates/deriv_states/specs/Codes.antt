@@ -4,7 +4,7 @@ use Rattle.std.proofs.Common.{refl, ap, ◌∙◌}
 use Rattle.std.specs.Coded.{Coded, code_by, coded_bool, coded_list, coded×}
 use base.Stored.{Gv, gnil, gnum, gcons, num}
 use Rattle.rng_core.specs.Patterns.{Pattern}
-use Rattle.rng_kept.specs.Residuals.{Outer, document, inside, Way, among, in_tag, Residual}
+use Rattle.rng_kept.specs.Residuals.{Outer, document, inside, one_of, Way, among, in_tag, Residual}
 use Rattle.deriv_nodes.specs.Codes.{pattern_code, different}
 use Rattle.deriv_states.specs.Places.{Places}
 
@@ -22,11 +22,19 @@ abbrev code_of : Outer → Gv
 code_of (document p) = gcons (gnum 0) (pattern_code.code p)
 code_of (inside b l v o) =
     gcons (gnum 1) (gcons (pattern_code.code b) (gcons (pattern_code.code l) (gcons (coded_bool.code v) (code_of o))))
+code_of (one_of o u) = gcons (gnum 2) (gcons (code_of o) (code_of u))
 
 pub told : (o u : Outer) → code_of o ≡ code_of u → o ≡ u
 told (document p) (document q) e = ap (λ x. document x) (pattern_code.inj p q (ap rest e))
 told (document p) (inside c k w u) e = absurd (different 0 1 refl (ap (λ g. num (first g)) e))
+told (document p) (one_of u r) e = absurd (different 0 2 refl (ap (λ g. num (first g)) e))
 told (inside b l v o) (document q) e = absurd (different 1 0 refl (ap (λ g. num (first g)) e))
+told (inside b l v o) (one_of u r) e = absurd (different 1 2 refl (ap (λ g. num (first g)) e))
+told (one_of o r) (document q) e = absurd (different 2 0 refl (ap (λ g. num (first g)) e))
+told (one_of o r) (inside c k w u) e = absurd (different 2 1 refl (ap (λ g. num (first g)) e))
+told (one_of o r) (one_of u s) e =
+    let parts = ap rest e in
+    ap (λ x. one_of x r) (told o u (ap first parts)) ∙ ap (λ x. one_of u x) (told r s (ap rest parts))
 told (inside b l v o) (inside c k w u) e =
     let parts = ap rest e in
     ap (λ x. inside x l v o) (pattern_code.inj b c (ap first parts))

@@ -2,7 +2,7 @@
 use Rattle.std.specs.Prelude.{ℕ, ◌<◌, List, [], ◌∷◌, length, map}
 use Rattle.std.specs.List.{AllByRecursion}
 use Rattle.rng_core.specs.Patterns.{Pattern}
-use Rattle.rng_kept.specs.Residuals.{Outer, document, inside, Residual}
+use Rattle.rng_kept.specs.Residuals.{Outer, document, inside, one_of, Residual}
 use Rattle.deriv_nodes.specs.Numbers.{at}
 use Rattle.deriv_nodes.specs.Reading.{AreOnce}
 use Rattle.deriv_states.specs.declared.around.Around.{Around}
@@ -16,6 +16,7 @@ abbrev pub outer_made : List Pattern → List Outer → Around → Outer
 outer_made patterns outers (around.Document rest) = document (at patterns rest)
 outer_made patterns outers (around.Inside strict loose void outer) =
     inside (at patterns strict) (at patterns loose) void (outer_in outers outer)
+outer_made patterns outers (around.OneOf this other) = one_of (outer_in outers this) (outer_in outers other)
 
 abbrev pub state_made : List Pattern → List Outer → List Residual → Row → Residual
 state_made patterns outers states row.End = []
@@ -31,6 +32,7 @@ states_of patterns outers rows = wholes_of (state_made patterns outers) rows
 abbrev pub IsAroundBelow : ℕ → ℕ → Around → Type 0
 IsAroundBelow m n (around.Document rest) = rest < m
 IsAroundBelow m n (around.Inside strict loose void outer) = (strict < m) × (loose < m) × (outer < n)
+IsAroundBelow m n (around.OneOf this other) = (this < n) × (other < n)
 
 -- parts are nodes and outers, and a state that stands before a place
 abbrev pub IsRowBelow : ℕ → ℕ → ℕ → Row → Type 0

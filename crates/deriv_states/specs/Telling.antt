@@ -5,12 +5,13 @@ use Rattle.nx_base.specs.declared.name.Name.{Name}
 use Rattle.nx_base.specs.Characters.{is_blank}
 use Rattle.rng_kept.specs.Content.{chars}
 use Rattle.rng_kept.specs.Tags.{attribute_of}
-use Rattle.rng_kept.specs.Residuals.{Outer, document, inside, Way, among, in_tag, Residual}
+use Rattle.rng_kept.specs.Residuals.{Outer, document, inside, one_of, Way, among, in_tag, Residual}
 use Rattle.deriv_nodes.specs.Telling.{tells_strings, tells_values}
 
 abbrev pub outer_tells : Outer → Bool
 outer_tells (document p) = tells_strings p
 outer_tells (inside b l v o) = tells_strings b || tells_strings l
+outer_tells (one_of o u) = outer_tells o || outer_tells u
 
 abbrev pub way_tells : Way → Bool
 way_tells (among o) = outer_tells o

@@ -21,6 +21,8 @@ pub enum Around {
         void: bool,
         outer: usize,
     },
+    /// What is left in one way, or in another: numbers of two that lie around.
+    OneOf(usize, usize),
 }
 
 /// The place of what lies around an element, which is added where it isn't there.

@@ -26,6 +26,7 @@ impl States {
                 void,
                 ..
             } => self.is_not_allowed(strict) && self.is_not_allowed(loose) && !void,
+            Around::OneOf(this, other) => self.is_dead(this) && self.is_dead(other),
         }
     }
 
@@ -55,16 +56,17 @@ impl States {
         }
     }
 
-    /// What is left behind a string.
-    fn outer_after(&mut self, alloc: Global, here: usize, text: &str) -> Result<usize, NoMemory>
+    /// Behind a string among children.
+    fn chars_outer(&mut self, alloc: Global, here: usize, text: &str) -> Result<usize, NoMemory>
         requires { here < length self.old.outers }
         ensures later { LaterPlaces self.old self.new }
-        ensures made { IfOk result (IsOuter self.new (content.outer_after text.now (outer_in self.old.outers here))) }
+        ensures made { IfOk result (IsState self.new (content.chars_outer text.now (outer_in self.old.outers here))) }
     {
         match self.around(here) {
             Around::Document(rest) => {
                 let left = self.after(alloc, rest, text)?;
-                self.document(left)
+                let left = self.document(left)?;
+                self.among_of(left)
             }
             Around::Inside {
                 strict,
@@ -74,21 +76,28 @@ impl States {
             } => {
                 let strict = self.after(alloc, strict, text)?;
                 let loose = self.loose_after(alloc, loose, text)?;
-                self.inside(strict, loose, false, outer)
+                let left = self.inside(strict, loose, false, outer)?;
+                self.among_of(left)
+            }
+            Around::OneOf(this, other) => {
+                let first = self.chars_outer(alloc, this, text)?;
+                let second = self.chars_outer(alloc, other, text)?;
+                self.with_ways(first, second)
             }
         }
     }
 
-    /// What is left behind some string that isn't blank.
-    fn outer_after_any(&mut self, alloc: Global, here: usize) -> Result<usize, NoMemory>
+    /// Behind some string that isn't blank, among children.
+    fn any_string_outer(&mut self, alloc: Global, here: usize) -> Result<usize, NoMemory>
         requires { here < length self.old.outers }
         ensures later { LaterPlaces self.old self.new }
-        ensures made { IfOk result (IsOuter self.new (content.outer_after_any (outer_in self.old.outers here))) }
+        ensures made { IfOk result (IsState self.new (content.any_string_outer (outer_in self.old.outers here))) }
     {
         match self.around(here) {
             Around::Document(rest) => {
                 let left = self.after_solid(alloc, rest)?;
-                self.document(left)
+                let left = self.document(left)?;
+                self.among_of(left)
             }
             Around::Inside {
                 strict,
@@ -98,7 +107,13 @@ impl States {
             } => {
                 let strict = self.after_solid(alloc, strict)?;
                 let loose = self.after_solid(alloc, loose)?;
-                self.inside(strict, loose, false, outer)
+                let left = self.inside(strict, loose, false, outer)?;
+                self.among_of(left)
+            }
+            Around::OneOf(this, other) => {
+                let first = self.any_string_outer(alloc, this)?;
+                let second = self.any_string_outer(alloc, other)?;
+                self.with_ways(first, second)
             }
         }
     }
@@ -115,10 +130,7 @@ impl States {
         ensures made { IfOk result (IsState self.new (content.chars_way text.now (way_in self.old way))) }
     {
         match way {
-            Branch::Among(here) => {
-                let left = self.outer_after(alloc, here, text)?;
-                self.among_of(left)
-            }
+            Branch::Among(here) => self.chars_outer(alloc, here, text),
             Branch::InTag(_, _) => self.end(),
         }
     }
@@ -130,11 +142,25 @@ impl States {
         ensures made { IfOk result (IsState self.new (content.any_string_way (way_in self.old way))) }
     {
         match way {
-            Branch::Among(here) => {
-                let left = self.outer_after_any(alloc, here)?;
-                self.among_of(left)
-            }
+            Branch::Among(here) => self.any_string_outer(alloc, here),
             Branch::InTag(_, _) => self.end(),
+        }
+    }
+
+    /// Each way to go on among what is left around.
+    fn ways_of(&mut self, here: usize) -> Result<usize, NoMemory>
+        requires { here < length self.old.outers }
+        ensures later { LaterPlaces self.old self.new }
+        ensures made { IfOk result (IsState self.new (content.ways_of (outer_in self.old.outers here))) }
+    {
+        match self.around(here) {
+            Around::Document(_) => self.just(Branch::Among(here)),
+            Around::Inside { .. } => self.just(Branch::Among(here)),
+            Around::OneOf(this, other) => {
+                let first = self.ways_of(this)?;
+                let second = self.ways_of(other)?;
+                self.with_ways(first, second)
+            }
         }
     }
 
@@ -162,10 +188,15 @@ impl States {
                 outer,
             } => {
                 if self.may_leave(strict, loose, void) {
-                    self.just(Branch::Among(outer))
+                    self.ways_of(outer)
                 } else {
                     self.end()
                 }
+            }
+            Around::OneOf(this, other) => {
+                let first = self.ways_outside(this)?;
+                let second = self.ways_outside(other)?;
+                self.with_ways(first, second)
             }
         }
     }
@@ -190,7 +221,12 @@ impl States {
     {
         match self.around(here) {
             Around::Document(_) => self.end(),
-            Around::Inside { outer, .. } => self.just(Branch::Among(outer)),
+            Around::Inside { outer, .. } => self.ways_of(outer),
+            Around::OneOf(this, other) => {
+                let first = self.ways_further_out(this)?;
+                let second = self.ways_further_out(other)?;
+                self.with_ways(first, second)
+            }
         }
     }
 

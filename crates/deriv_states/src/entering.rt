@@ -207,6 +207,11 @@ impl States {
                 let more = self.opens(alloc, defs, name, loose)?;
                 self.tags_inside(defs, opened.as_slice(), more.as_slice(), outer)
             }
+            Around::OneOf(this, other) => {
+                let first = self.entered(alloc, this, defs, name)?;
+                let second = self.entered(alloc, other, defs, name)?;
+                self.with_ways(first, second)
+            }
         }
     }
 
@@ -262,6 +267,11 @@ impl States {
                 }
                 let more = self.skip_opens(alloc, defs, name, loose)?;
                 self.tags_inside(defs, opened.as_slice(), more.as_slice(), outer)
+            }
+            Around::OneOf(this, other) => {
+                let first = self.skipped(alloc, this, defs, name)?;
+                let second = self.skipped(alloc, other, defs, name)?;
+                self.with_ways(first, second)
             }
         }
     }

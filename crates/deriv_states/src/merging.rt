@@ -1,7 +1,8 @@
-//! Ways to go on that are merged: those among children with the same outside are one.
+//! Ways to go on that are merged: those with the same outside are one, and so are those that differ in what lies around alone.
 
 ghost use Rattle.std.specs.Prelude.{◌≡◌, ◌<◌, length, IfOk};
 ghost use Rattle.rng_kept.specs.Merging as merging;
+ghost use Rattle.deriv_nodes.specs.Numbers.{at};
 ghost use Rattle.deriv_states.specs.Places.{IsOuter, IsState, IsThere, IsWay, LaterPlaces, outer_in, state_in, way_in};
 
 use crate::around::Around;
@@ -9,7 +10,80 @@ use crate::branch::{Branch, Row};
 use crate::states::States;
 use nx_base::memory::NoMemory;
 
+/// Whether two flags are one.
+fn same_flag(v: bool, w: bool) -> bool
+    ensures { result ≡ merging.same_flag v w }
+{
+    v == w
+}
+
 impl States {
+    /// Whether an outer is one that there is a choice of, or the whole.
+    fn is_outer_in(&self, u: usize, o: usize) -> bool
+        requires u { u < length self.now.outers }
+        requires o { o < length self.now.outers }
+        ensures { result ≡ merging.is_outer_in (outer_in self.now.outers u) (outer_in self.now.outers o) }
+    {
+        match self.around(o) {
+            Around::Document(_) => self.same_outer(u, o),
+            Around::Inside { .. } => self.same_outer(u, o),
+            Around::OneOf(this, other) => self.is_outer_in(u, this) || self.same_outer(u, other),
+        }
+    }
+
+    /// A choice with one outer more, unless it is there.
+    fn with_outer(&mut self, o: usize, u: usize) -> Result<usize, NoMemory>
+        requires o { o < length self.old.outers }
+        requires u { u < length self.old.outers }
+        ensures later { LaterPlaces self.old self.new }
+        ensures made { IfOk result (IsOuter self.new (merging.with_outer (outer_in self.old.outers o) (outer_in self.old.outers u))) }
+    {
+        if self.is_outer_in(u, o) {
+            Ok(o)
+        } else {
+            self.one_of(o, u)
+        }
+    }
+
+    /// A choice with each outer that there is a choice of in a second one.
+    fn either_outer(&mut self, o: usize, u: usize) -> Result<usize, NoMemory>
+        requires o { o < length self.old.outers }
+        requires u { u < length self.old.outers }
+        ensures later { LaterPlaces self.old self.new }
+        ensures made { IfOk result (IsOuter self.new (merging.either_outer (outer_in self.old.outers o) (outer_in self.old.outers u))) }
+    {
+        match self.around(u) {
+            Around::Document(_) => self.with_outer(o, u),
+            Around::Inside { .. } => self.with_outer(o, u),
+            Around::OneOf(this, other) => {
+                let both = self.either_outer(o, this)?;
+                self.either_outer(both, other)
+            }
+        }
+    }
+
+    /// Whether what is left of the children is the same.
+    fn same_children(
+        &self,
+        strict: usize,
+        loose: usize,
+        void: bool,
+        other_strict: usize,
+        other_loose: usize,
+        other_void: bool,
+    ) -> bool
+        requires strict { strict < length self.now.patterns }
+        requires loose { loose < length self.now.patterns }
+        requires other_strict { other_strict < length self.now.patterns }
+        requires other_loose { other_loose < length self.now.patterns }
+        ensures { result ≡ merging.same_children (at self.now.patterns strict) (at self.now.patterns loose) void
+            (at self.now.patterns other_strict) (at self.now.patterns other_loose) other_void }
+    {
+        self.same_node(strict, other_strict)
+            && self.same_node(loose, other_loose)
+            && same_flag(void, other_void)
+    }
+
     /// Whether two outers are merged.
     fn can_join(&self, o: usize, u: usize) -> bool
         requires o { o < length self.now.outers }
@@ -19,14 +93,34 @@ impl States {
         match (self.around(o), self.around(u)) {
             (Around::Document(_), Around::Document(_)) => true,
             (Around::Document(_), Around::Inside { .. }) => false,
+            (Around::Document(_), Around::OneOf(_, _)) => false,
             (Around::Inside { .. }, Around::Document(_)) => false,
+            (Around::Inside { .. }, Around::OneOf(_, _)) => false,
+            (Around::OneOf(_, _), _) => false,
             (
-                Around::Inside { outer, .. },
                 Around::Inside {
-                    outer: other_outer,
-                    ..
+                    strict,
+                    loose,
+                    void,
+                    outer,
                 },
-            ) => self.same_outer(outer, other_outer),
+                Around::Inside {
+                    strict: other_strict,
+                    loose: other_loose,
+                    void: other_void,
+                    outer: other_outer,
+                },
+            ) => {
+                self.same_outer(outer, other_outer)
+                    || self.same_children(
+                        strict,
+                        loose,
+                        void,
+                        other_strict,
+                        other_loose,
+                        other_void,
+                    )
+            }
         }
     }
 
@@ -40,7 +134,7 @@ impl States {
             (Branch::Among(here), Branch::Among(other)) => self.can_join(here, other),
             (Branch::Among(_), Branch::InTag(_, _)) => false,
             (Branch::InTag(_, _), Branch::Among(_)) => false,
-            (Branch::InTag(_, _), Branch::InTag(_, _)) => false,
+            (Branch::InTag(content, _), Branch::InTag(other, _)) => self.same_node(content, other),
         }
     }
 
@@ -57,7 +151,10 @@ impl States {
                 self.document(rest)
             }
             (Around::Document(_), Around::Inside { .. }) => Ok(o),
+            (Around::Document(_), Around::OneOf(_, _)) => Ok(o),
             (Around::Inside { .. }, Around::Document(_)) => Ok(o),
+            (Around::Inside { .. }, Around::OneOf(_, _)) => Ok(o),
+            (Around::OneOf(_, _), _) => Ok(o),
             (
                 Around::Inside {
                     strict,
@@ -69,12 +166,16 @@ impl States {
                     strict: other_strict,
                     loose: other_loose,
                     void: other_void,
-                    ..
+                    outer: other_outer,
                 },
             ) => {
-                let strict = self.choice_of(strict, other_strict)?;
-                let loose = self.choice_of(loose, other_loose)?;
-                self.inside(strict, loose, void || other_void, outer)
+                if self.same_outer(outer, other_outer) {
+                    let strict = self.choice_of(strict, other_strict)?;
+                    let loose = self.choice_of(loose, other_loose)?;
+                    return self.inside(strict, loose, void || other_void, outer);
+                }
+                let both = self.either_outer(outer, other_outer)?;
+                self.inside(strict, loose, void, both)
             }
         }
     }
@@ -94,7 +195,10 @@ impl States {
             }
             (Branch::Among(_), Branch::InTag(_, _)) => Ok(a),
             (Branch::InTag(_, _), Branch::Among(_)) => Ok(a),
-            (Branch::InTag(_, _), Branch::InTag(_, _)) => Ok(a),
+            (Branch::InTag(content, outer), Branch::InTag(_, other)) => {
+                let outer = self.either_outer(outer, other)?;
+                Ok(Branch::InTag(content, outer))
+            }
         }
     }
 

@@ -3,6 +3,7 @@
 ghost use Rattle.std.specs.Prelude.{◌≡◌, ◌<◌, ◌++◌, [], ◌∷◌, length, map, IfOk, OnOk, IsTrue, Contains};
 ghost use Rattle.nx_base.specs.declared.name.Name.{Name as TheName};
 ghost use Rattle.rng_core.specs.Meaning.{definition_of, pattern_of};
+ghost use Rattle.rng_core.specs.Equality.{same_pattern};
 ghost use Rattle.rng_core.specs.Patterns.{not_allowed, ref};
 ghost use Rattle.rng_kept.specs.SmallPatterns as small;
 ghost use Rattle.rng_kept.specs.Nullable.{nullable as is_nullable};
@@ -330,6 +331,25 @@ impl States {
             void,
             outer,
         })
+    }
+
+    /// One of two outers.
+    pub(crate) fn one_of(&mut self, this: usize, other: usize) -> Result<usize, NoMemory>
+        requires this { this < length self.old.outers }
+        requires other { other < length self.old.outers }
+        ensures later { LaterPlaces self.old self.new }
+        ensures made { IfOk result (IsOuter self.new (residual.one_of (outer_in self.old.outers this) (outer_in self.old.outers other))) }
+    {
+        self.put_around(Around::OneOf(this, other))
+    }
+
+    /// Whether two nodes are one.
+    pub(crate) fn same_node(&self, p: usize, q: usize) -> bool
+        requires p { p < length self.now.patterns }
+        requires q { q < length self.now.patterns }
+        ensures { result ≡ same_pattern (at self.now.patterns p) (at self.now.patterns q) }
+    {
+        self.nodes.same(p, q)
     }
 
     /// Whether two outers are one.

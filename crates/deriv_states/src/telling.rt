@@ -21,6 +21,7 @@ impl States {
             Around::Inside { strict, loose, .. } => {
                 self.node_tells(strict) || self.node_tells(loose)
             }
+            Around::OneOf(this, other) => self.outer_tells(this) || self.outer_tells(other),
         }
     }
 

@@ -26,11 +26,13 @@ pub record SameStatesGoOn {S T M : Type 0} (later : S → S → Type 0) (is_stat
   -- of two first states, the second from a later machine
   pub firsts : (s t : S) (a b : T) → later s t → is_state s a → means s a ≡ (rules s).first → means t b ≡ (rules t).first
       → means t b ≡ means t a
+  -- these two are true of any equation; so `same` may be used as one
   pub symmetric : (s : S) (a b : T) → means s a ≡ means s b → means s b ≡ means s a
   pub transitive : (s : S) (a b c : T) → means s a ≡ means s b → means s b ≡ means s c → means s a ≡ means s c
   -- every later machine answers alike: true where it was, and false where it was
   pub lasting : (s t : S) (a b : T) → later s t → is_state s a → is_state s b → means s a ≡ means s b → means t a ≡ means t b
   pub lasting_apart : (s t : S) (a b : T) → later s t → is_state s a → is_state s b → means t a ≡ means t b → means s a ≡ means s b
-  -- and the two go on alike, also where the later machine makes the call on the second
+  -- and no list of tokens tells the two apart, also where the later machine is asked of the second: rules are functions of what states mean
+  -- and of nothing else, so this is true of every machine whose calls are equations with its rules
   pub alike : (s t : S) (a b : T) → later s t → is_state s a → means t a ≡ means t b →
       GoesOnAlike (rules s) (rules t) (means s a) (means t b)

@@ -98,7 +98,7 @@ no_value g f = record { sorted = tt; exact = λ o. (λ h. absurd (omega (arith, 
 -- ---- the levels in front of a place
 
 -- a run is told wherever it stands
-run_told : (g : Language) (l : Form) (at : ℕ) (run : Option Run) → form_along g l (run_items at run) ≡ form_along g l (run_event run)
+pub run_told : (g : Language) (l : Form) (at : ℕ) (run : Option Run) → form_along g l (run_items at run) ≡ form_along g l (run_event run)
 unfolding form_along run_items
 run_told g l at None = refl
 run_told g l at (Some run) = by (length run.string == 0)
@@ -107,27 +107,27 @@ run_told g l at (Some run) = by (length run.string == 0)
     by true = refl
     by false = refl
 
-events_after : (g : Option Language) (m : Recovered) (ks : List Token) → (after_all (recover_rules g) m (map lexeme_of ks)).events ≡ state_after m.events ks
+pub events_after : (g : Option Language) (m : Recovered) (ks : List Token) → (after_all (recover_rules g) m (map lexeme_of ks)).events ≡ state_after m.events ks
 unfolding state_after
 events_after g m [] = refl
 events_after g m (k ∷ ks) =
     events_after g ((recover_rules g).after m (lexeme_of k)) ks ∙ ap (λ (s : EventState). state_after s ks) (sym (after_placed m.events k))
 
 module _ (g : Language) (live : IsLive g) (text : List ℕ) (utf8 : IsUtf8 text) (at : ℕ) (p : UpTo text at) where
-  abbrev rules : Rules Recovered
+  abbrev pub rules : Rules Recovered
   rules = recover_rules (Some g)
 
   -- what the machine means in front of the token
-  abbrev meant : Recovered
+  abbrev pub meant : Recovered
   meant = after_all rules rules.first (map lexeme_of p.front)
 
   pub same_events : meant.events ≡ state_before p
   same_events = events_after (Some g) rules.first p.front
 
-  abbrev here_form : Form
+  abbrev pub here_form : Form
   here_form = form_along g meant.levels (run_event meant.events.run)
 
-  same_form : levels_behind (Some g) (first_levels (Some g)) (items_before p) ≡ here_form
+  pub same_form : levels_behind (Some g) (first_levels (Some g)) (items_before p) ≡ here_form
   same_form =
       let fold = tokens_fold (Some g) text utf8 p.front (p.token ∷ p.rest) p.tokens in
       levels_append (Some g) (first_levels (Some g)) (items_through first_state p.front) (run_items p.token.from (state_before p).run)
@@ -135,10 +135,10 @@ module _ (g : Language) (live : IsLive g) (text : List ℕ) (utf8 : IsUtf8 text)
       ∙ run_told g meant.levels p.token.from (state_before p).run
       ∙ ap (λ (s : EventState). form_along g meant.levels (run_event s.run)) (sym same_events)
 
-  told : TellLevels g (items_before p) here_form
+  pub told : TellLevels g (items_before p) here_form
   told = subst (λ (l : Form). TellLevels g (items_before p) l) same_form (told_before text utf8 at p g live)
 
-  inside_now : StandsHere g None (own_elements told.elements) told.here here_form.here
+  pub inside_now : StandsHere g None (own_elements told.elements) told.here here_form.here
   inside_now = subst (λ (t : Option (List Name)). StandsHere g t (own_elements told.elements) told.here here_form.here) (no_tag_before text utf8 at p) told.inside
 
   pub element_answer : (answer : Offers) → PrefixAnswer g here_form ElementName answer → OffersIn g (items_before p) ElementName answer
@@ -168,13 +168,13 @@ module _ (g : Language) (live : IsLive g) (text : List ℕ) (utf8 : IsUtf8 text)
     abbrev own : List Item
     own = items_so_far (state_before p) tag
 
-    own_form : levels_behind (Some g) (first_levels (Some g)) (items_before p ++ own) ≡ form_along g here_form own
+    pub own_form : levels_behind (Some g) (first_levels (Some g)) (items_before p ++ own) ≡ form_along g here_form own
     own_form = levels_append (Some g) (first_levels (Some g)) (items_before p) own ∙ ap (λ (l : Form). form_along g l own) same_form
 
-    told_own : TellLevels g (items_before p ++ own) (form_along g here_form own)
+    pub told_own : TellLevels g (items_before p ++ own) (form_along g here_form own)
     told_own = subst (λ (l : Form). TellLevels g (items_before p ++ own) l) own_form (told_in_tag text utf8 at p tag t.utf8 t.behind g live)
 
-    names_inside : {depth : ℕ} {f : Frame} {x : Residual} → StandsFor g (tag_behind None (items_before p ++ own)) depth f x → (n : Name) → IsAmong n (attributes_of f.moves) → IsAmong n (attributes_among own)
+    pub names_inside : {depth : ℕ} {f : Frame} {x : Residual} → StandsFor g (tag_behind None (items_before p ++ own)) depth f x → (n : Name) → IsAmong n (attributes_of f.moves) → IsAmong n (attributes_among own)
     names_inside {f = f} s n i =
         let w = tag_so_far (state_before p) tag in
         let is : tag_behind None (items_before p ++ own) ≡ Some w.names = tag_is text utf8 at p tag t.utf8 t.behind ∙ w.is in
@@ -219,7 +219,7 @@ module _ (g : Language) (live : IsLive g) (text : List ℕ) (utf8 : IsUtf8 text)
 
   -- ---- whatever is being written
 
-  tag_of : (tag begun : List ℕ) → IsOpenTag tag → bytes_before p ≡ tag ++ begun → IsTextTag tag
+  pub tag_of : (tag begun : List ℕ) → IsOpenTag tag → bytes_before p ≡ tag ++ begun → IsTextTag tag
   tag_of tag begun o spelled =
       let rest = drop (at - p.token.from) p.token.bytes in
       let whole : p.token.bytes ≡ tag ++ (begun ++ rest) =

@@ -106,13 +106,13 @@ offer_exact offered f o (answers.List offers) a h = (λ c. h.0 ((a.exact o).0 c)
 -- ---- a place of a text
 
 module _ (g : Language) (live : IsLive g) (text : List ℕ) (utf8 : IsUtf8 text) (at : ℕ) (p : UpTo text at) where
-  abbrev Front : List Item → List trees.Event → Type 0
+  abbrev pub Front : List Item → List trees.Event → Type 0
   Front all k = Goes g (Some (document_frame g)) [] all (document_frame g) [] k
 
-  goes_before : (k : List trees.Event) → IsErrorFree g (items_before p) k → Front (items_before p) k
+  pub goes_before : (k : List trees.Event) → IsErrorFree g (items_before p) k → Front (items_before p) k
   goes_before k e = goes g e.faultless refl (document_frame g) refl k e.events tt (before_open text utf8 at p) [] refl (λ kept h. h)
 
-  goes_in_tag : (tag : List ℕ) (k : List trees.Event) → IsErrorFree g (items_before p ++ items_so_far (state_before p) tag) k → Front (items_before p ++ items_so_far (state_before p) tag) k
+  pub goes_in_tag : (tag : List ℕ) (k : List trees.Event) → IsErrorFree g (items_before p ++ items_so_far (state_before p) tag) k → Front (items_before p ++ items_so_far (state_before p) tag) k
   goes_in_tag tag k e = goes g e.faultless refl (document_frame g) refl k e.events tt (own_open text utf8 at p tag) [] refl (λ kept h. h)
 
   -- the levels that the definition of offers speaks of
@@ -166,7 +166,7 @@ module _ (g : Language) (live : IsLive g) (text : List ℕ) (utf8 : IsUtf8 text)
         LevelsBehind g (Some (document_frame g)) [] (items_before p ++ own) last around
     both_behind b c = behind_append b c
 
-    names_kept : (k : List trees.Event) (r : Front (items_before p ++ own) k) → (n : Name) → IsAmong n (attributes_among own) → IsAmong n (attributes_of r.last.moves)
+    pub names_kept : (k : List trees.Event) (r : Front (items_before p ++ own) k) → (n : Name) → IsAmong n (attributes_among own) → IsAmong n (attributes_of r.last.moves)
     names_kept k r n i =
         let t = tag_so_far (state_before p) tag in
         let is : tag_behind None (items_before p ++ own) ≡ Some t.names = tag_is text utf8 at p tag u v ∙ t.is in
@@ -202,7 +202,7 @@ module _ (g : Language) (live : IsLive g) (text : List ℕ) (utf8 : IsUtf8 text)
 
   -- ---- whatever is being written
 
-  tag_of_place : (tag : List ℕ) → IsAttributeName tag (bytes_before p) → IsTextTag tag
+  pub tag_of_place : (tag : List ℕ) → IsAttributeName tag (bytes_before p) → IsTextTag tag
   tag_of_place tag a =
       let rest = drop (at - p.token.from) p.token.bytes in
       let whole : p.token.bytes ≡ tag ++ (a.begun ++ rest) =

@@ -55,6 +55,11 @@ tag_on tag trees.TagEnd h t = tt
 tag_on tag (trees.Chars u) h t = tt
 tag_on tag trees.Leave h t = tt
 
+-- the moves of these events behind some
+unfoldable pub moved_by : List trees.Event → List Move → List Move
+moved_by [] h = h
+moved_by (e ∷ k) h = moved_by k (take e ∷ h)
+
 module _ (g : Language) where
   -- ---- one event
 
@@ -93,6 +98,7 @@ module _ (g : Language) where
     pub around : List (Open Frame)
     pub behind : LevelsBehind g here os all (Some last) around
     pub start : last.start ≡ f.start
+    pub moves : last.moves ≡ moved_by es f.moves
     pub kept : Kept g last.start last.moves (k ++ es)
     pub only : KeepsOnly g last (k ++ es)
     pub inside : AllInside around
@@ -102,11 +108,13 @@ module _ (g : Language) where
   pub goes : {here : Option Frame} {os : List (Open Frame)} {all : List Item} {faults : List Fault} → Along g here os all faults → faults ≡ [] →
       (f : Frame) → here ≡ Some f → (es : List trees.Event) → events_among all ≡ map as_event es → AllInside os → AreOpenFor all (length os) →
       (k : List trees.Event) → Kept g f.start f.moves k → KeepsOnly g f k → Goes here os all f k es
+  unfolding moved_by
   goes {here = here} {os = os} at_end e f h [] m i b k kept only = record {
     last = f;
     around = os;
     behind = subst (λ (o : Option Frame). LevelsBehind g here os [] o os) h no_item;
     start = refl;
+    moves = refl;
     kept = subst (λ (l : List trees.Event). Kept g f.start f.moves l) (sym (append-nil k)) kept;
     only = subst (λ (l : List trees.Event). KeepsOnly g f l) (sym (append-nil k)) only;
     inside = i;
@@ -132,6 +140,7 @@ module _ (g : Language) where
         around = r.around;
         behind = an_event next behind w l r.behind;
         start = r.start;
+        moves = r.moves;
         kept = subst (λ (y : List trees.Event). Kept g r.last.start r.last.moves y) whole r.kept;
         only = subst (λ (y : List trees.Event). KeepsOnly g r.last y) whole r.only;
         inside = r.inside;

@@ -75,7 +75,7 @@ module _ (g : List Definition) (names others spaces : List Name) (mentioned : Ar
       let two = at_least (λ (n : Name). length n.local) (longest_local 0 names) others in
       absurd (omega (arith, one, two, local_long)))
 
-  not_other : (ns : List ℕ) → IsAmong (named ns long_local) others → ⊥
+  pub not_other : (ns : List ℕ) → IsAmong (named ns long_local) others → ⊥
   not_other ns i =
       let one = as_long (λ (n : Name). length n.local) (longest_local 0 names) others (named ns long_local) (among_in (named ns long_local) others i) in
       omega (arith, one, local_long)

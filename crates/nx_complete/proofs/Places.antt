@@ -3,7 +3,7 @@ use Rattle.std.proofs.Common.{◌≡◌, ℕ, zero, suc, ◌+◌, ◌-◌, ◌<�
 use Rattle.std.specs.Prelude.{nat_le, IsUtf8}
 use Rattle.std.specs.List.{AllByRecursion}
 use Rattle.std.proofs.lemmas.Bool.{leb-false, cases_lt}
-use Rattle.std.proofs.lemmas.List.{take-take}
+use Rattle.std.proofs.lemmas.List.{take-take, take-append-drop}
 use Rattle.std.proofs.lemmas.Str.{IsCharBoundary-start, IsUtf8-between}
 use Rattle.nx_base.specs.Text.{IsPlace}
 use Rattle.nx_base.specs.Tokens.{cut, end_of, tokens_within, tokens_of, AreTokensFrom}
@@ -87,6 +87,12 @@ record IsCut (text : List ℕ) (token : Token) : Type 0 where
   is : token ≡ cut text border
   from : token.from ≡ border
 
+-- a token's bytes, where it begins
+pub record LiesIn (text : List ℕ) (token : Token) : Type 0 where
+  pub within : token.from < length text
+  pub rest : List ℕ
+  pub is : drop token.from text ≡ token.bytes ++ rest
+
 module _ (text : List ℕ) (utf8 : IsUtf8 text) where
   lie : AreTokensFrom (length text) 0 (tokens_of text)
   lie = (joined-from (length text - 0) text 0 utf8 (IsCharBoundary-start text utf8) (omega arith)).lie
@@ -125,3 +131,32 @@ module _ (text : List ℕ) (utf8 : IsUtf8 text) where
         let all : AllByRecursion (IsCut text) (p.front ++ p.token ∷ p.rest) = subst (λ (ts : List Token). AllByRecursion (IsCut text) ts) p.tokens (all_cut (length text - 0) 0 (IsCharBoundary-start text utf8)) in
         let c = later_first (IsCut text) p.front p.token p.rest all in
         text_up_to text c.border at p.token utf8 c.place place c.is c.from p.begun p.inside
+
+    pub token_lies : at ≤ length text → (p : UpTo text at) → LiesIn text p.token
+    token_lies fits p =
+        let all : AllByRecursion (IsCut text) (p.front ++ p.token ∷ p.rest) = subst (λ (ts : List Token). AllByRecursion (IsCut text) ts) p.tokens (all_cut (length text - 0) 0 (IsCharBoundary-start text utf8)) in
+        let c = later_first (IsCut text) p.front p.token p.rest all in
+        let within : c.border < length text = omega (arith, c.from, p.begun, fits) in
+        let w = cut-is_token text c.border utf8 c.place within in
+        let n = end_of (cut text c.border) - c.border in
+        let whole : p.token.bytes ≡ take n (drop c.border text) = ap (λ (k : Token). k.bytes) c.is ∙ w.bytes in
+        record {
+          within = omega (arith, c.from, within);
+          rest = drop n (drop c.border text);
+          is = ap (λ m. drop m text) c.from ∙ sym (take-append-drop n (drop c.border text)) ∙ ap (λ (bs : List ℕ). bs ++ drop n (drop c.border text)) (sym whole);
+        }
+
+    -- behind another token
+    pub behind_first : IsPlace text at → (p : UpTo text at) (t : Token) (front : List Token) → p.front ≡ t ∷ front → 0 < p.token.from
+    unfolding AreTokensFrom
+    behind_first place p t front e =
+        let all : AllByRecursion (IsCut text) (p.front ++ p.token ∷ p.rest) = subst (λ (ts : List Token). AllByRecursion (IsCut text) ts) p.tokens (all_cut (length text - 0) 0 (IsCharBoundary-start text utf8)) in
+        let cuts : AllByRecursion (IsCut text) ((t ∷ front) ++ p.token ∷ p.rest) = subst (λ (ts : List Token). AllByRecursion (IsCut text) (ts ++ p.token ∷ p.rest)) e all in
+        let c = cuts.0 in
+        let l : AreTokensFrom (length text) 0 ((t ∷ front) ++ p.token ∷ p.rest) =
+        subst (λ (ts : List Token). AreTokensFrom (length text) 0 (ts ++ p.token ∷ p.rest)) e (subst (λ (ts : List Token). AreTokensFrom (length text) 0 ts) p.tokens lie) in
+        let more = behind_others (length text) (0 + length t.bytes) front p.token p.rest l.1 in
+        let within : c.border < length text = omega (arith, c.from, l.0, p.begun, place.0) in
+        let w = cut-is_token text c.border utf8 c.place within in
+        let size : length t.bytes ≡ length (cut text c.border).bytes = ap (λ (k : Token). length k.bytes) c.is in
+        omega (arith, more, size, w.some)

@@ -69,8 +69,8 @@ fn end_answer<M: Matcher>(
     }
 }
 
-// The names of the attributes among items.
-fn attributes_among(alloc: Global, items: &[Item]) -> Result<Names, NoMemory>
+/// The names of the attributes among items.
+pub fn attributes_among(alloc: Global, items: &[Item]) -> Result<Names, NoMemory>
     ensures { IfOk result (λ names. names ≡ attributes_among items.now) }
 {
     let mut names = Vec::new(alloc);
@@ -157,8 +157,8 @@ fn prefix_answer<M: Matcher>(
     }
 }
 
-// The pending run as an event, if there is one.
-fn run_event(alloc: Global, events: &EventState) -> Result<Items, NoMemory>
+/// The pending run as an event, if there is one.
+pub fn run_event(alloc: Global, events: &EventState) -> Result<Items, NoMemory>
     requires { StateIsText events.now }
     ensures event { IfOk result (λ items. items ≡ run_event events.now.run) }
     ensures text { IfOk result ItemsAreText }

@@ -51,7 +51,7 @@ fn letters(alloc: Global, len: usize) -> Result<Bytes, NoMemory>
 }
 
 /// A local part that none of these names and none of the others has, and a namespace that none of the spaces has.
-pub(crate) fn apart_from(
+pub fn apart_from(
     alloc: Global,
     names: &[Name],
     others: &[Name],

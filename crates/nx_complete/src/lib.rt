@@ -15,11 +15,11 @@
 //! answer, the laws `offers_are_one` and `every_place_has_offers`.
 #![tactic(auto)]
 
-mod answers;
-mod apart;
+pub mod answers;
+pub mod apart;
 pub mod law;
 mod names;
-mod naming;
+pub mod naming;
 pub mod place;
 mod values;
 mod walking;

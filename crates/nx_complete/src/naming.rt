@@ -37,8 +37,8 @@ fn same_name(a: &Name, b: &Name) -> bool
     a.ns.as_slice() == b.ns.as_slice() && a.local.as_slice() == b.local.as_slice()
 }
 
-// Whether a name is one of these.
-fn is_among(others: &[Name], name: &Name) -> bool
+/// Whether a name is one of these.
+pub fn is_among(others: &[Name], name: &Name) -> bool
     ensures { result ≡ is_among others.now name.now }
 {
     others.iter().any(|other| same_name(other, name))

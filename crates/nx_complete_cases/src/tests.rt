@@ -1,3 +1,5 @@
+//! Each place of the table against what is offered there.
+
 ghost use Rattle.std.specs.Prelude.{◌≡◌, ◌<◌};
 
 use crate::places::PLACES;

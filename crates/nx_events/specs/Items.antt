@@ -246,6 +246,11 @@ items_from state [] len = items_at_end state len
 items_from state (token ∷ others) len =
     items_of_token state token ++ items_from (state_behind state token) others len
 
+-- those of tokens that others follow
+abbrev pub items_through : EventState → List Token → List Item
+items_through state [] = []
+items_through state (token ∷ others) = items_of_token state token ++ items_through (state_behind state token) others
+
 -- the items of all tokens of a text of this length
 abbrev pub items_of : List Token → ℕ → List Item
 items_of all len = items_from first_state all len

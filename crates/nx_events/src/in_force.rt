@@ -1,10 +1,10 @@
-//! The namespace declarations in force at a place.
+//! The elements that are open at a place, and the namespace declarations in force there.
 
 ghost use Rattle.std.specs.Prelude.{◌≡◌, ◌++◌, IfOk, OnOk};
 ghost use Rattle.nx_events.specs.InForce.{pairs_of, pair_unless_xml, scope_of};
 
 use crate::scope::{Binding, SharedBinding};
-use crate::state::EventState;
+use crate::state::{EventState, OpenElement};
 use nx_base::memory::NoMemory;
 use nx_base::name::{Name, Names};
 use nx_base::sequence::TryCopy;
@@ -46,4 +46,18 @@ pub fn scope(alloc: Global, state: &EventState) -> Result<Names, NoMemory>
         push_pairs(&mut names, state.scope.as_slice())?;
     }
     Ok(names)
+}
+
+/// The open elements, the innermost last.
+pub fn open_elements(state: &EventState) -> &[OpenElement]
+    ensures { result.now ≡ state.now.elements }
+{
+    state.elements.as_slice()
+}
+
+/// The pairs that are declared by the open elements, the innermost last.
+pub fn bindings(state: &EventState) -> &[SharedBinding]
+    ensures { result.now ≡ state.now.scope }
+{
+    state.scope.as_slice()
 }

@@ -69,7 +69,7 @@ fn restore(last: &mut BTreeMap<Vec<u8>, usize>, it: Placed)
 
 impl NamePlaces {
     /// No names.
-    pub(crate) fn new(alloc: Global) -> NamePlaces
+    pub fn new(alloc: Global) -> NamePlaces
         ensures { result ≡ [] }
     {
         NamePlaces {
@@ -79,7 +79,7 @@ impl NamePlaces {
     }
 
     /// The last place of a name.
-    pub(crate) fn last_place(&self, name: &[u8]) -> Option<usize>
+    pub fn last_place(&self, name: &[u8]) -> Option<usize>
         ensures value { result ≡ last_place name.now self.now }
         ensures small { IfSome result (λ n. n < 2 ^ 63) }
     {
@@ -87,7 +87,7 @@ impl NamePlaces {
     }
 
     /// Adds a name at the end.
-    pub(crate) fn push(&mut self, alloc: Global, name: &[u8]) -> Result<(), NoMemory>
+    pub fn push(&mut self, alloc: Global, name: &[u8]) -> Result<(), NoMemory>
         ensures ok { OnOk result (self.new ≡ self.old ++ name.now ∷ []) }
         ensures err { OnErr result (self.new ≡ self.old) }
     {
@@ -108,7 +108,7 @@ impl NamePlaces {
     }
 
     /// Takes the last name off, if there is one.
-    pub(crate) fn pop(&mut self)
+    pub fn pop(&mut self)
         ensures { self.new ≡ take (length self.old - 1) self.old }
     {
         if let Some(it) = self.names.pop() {

@@ -183,7 +183,7 @@ fn either_place(bytes: &[u8]) -> PlaceInTag
 }
 
 /// The place at the end of a tag's text.
-pub(crate) fn place_in_tag(bytes: &[u8]) -> PlaceInTag
+pub fn place_in_tag(bytes: &[u8]) -> PlaceInTag
     requires begins { begins_with (codes "<") bytes.now ≡ true }
     requires text { IsUtf8 bytes.now }
     ensures { IsPlace bytes.now result }

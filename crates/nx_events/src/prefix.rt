@@ -2,14 +2,17 @@
 
 ghost use Rattle.std.specs.Prelude.{◌≡◌, ◌<◌, ◌^◌, true, length, IfOk, codes, IsUtf8};
 ghost use Rattle.nx_base.specs.Tokens.{begins_with};
+ghost use Rattle.nx_events.specs.Items.{own_bindings};
 ghost use Rattle.nx_events.specs.Prefixes.{innermost_name, as_token, items_so_far, name_behind, run_string, IsPrefix};
 
 use crate::element::new_name;
 use crate::item::Items;
+use crate::namespace::declarations;
 use crate::place::{PlaceInTag, place_in_tag};
+use crate::scope::Bindings;
 use crate::start_tag::push_open;
 use crate::state::{EventState, OpenElement};
-use crate::tag::copy_of;
+use crate::tag::{copy_of, tag_attributes};
 use nx_base::memory::NoMemory;
 use nx_base::name::Name;
 use nx_base::sequence::Bytes;
@@ -79,8 +82,8 @@ fn as_token(alloc: Global, tag: &[u8]) -> Result<Token, NoMemory>
     })
 }
 
-// The items of an open tag.
-fn items_so_far(alloc: Global, state: &EventState, tag: &[u8]) -> Result<Items, NoMemory>
+/// The items of an open tag, whose places are counted from its `<`.
+pub fn items_so_far(alloc: Global, state: &EventState, tag: &[u8]) -> Result<Items, NoMemory>
     ensures { IfOk result (λ items. items ≡ items_so_far state.now tag.now) }
 {
     let token = as_token(alloc, tag)?;
@@ -135,4 +138,14 @@ pub fn tag_prefix(alloc: Global, state: &EventState, bytes: &Bytes) -> Result<Ta
         }
         PlaceInTag::Elsewhere => Ok(TagPrefix::Elsewhere),
     }
+}
+
+/// The pairs that an open tag declares so far.
+pub fn declared_so_far(alloc: Global, tag: &[u8]) -> Result<Bindings, NoMemory>
+    ensures { IfOk result (λ own. own ≡ own_bindings (as_token tag.now)) }
+{
+    let attributes = tag_attributes(alloc, 0, tag)?;
+    let mut items = Items::new(alloc);
+    let own = declarations(alloc, &mut items, attributes.as_slice())?;
+    Ok(own)
 }

@@ -46,7 +46,7 @@ impl SharedBinding {
     }
 
     /// The pair.
-    pub(crate) fn get(&self) -> &Binding
+    pub fn get(&self) -> &Binding
         ensures { result.now ≡ self.now }
     {
         &self.pair
@@ -95,7 +95,7 @@ impl Bindings {
     }
 
     /// The pairs, in order.
-    pub(crate) fn as_slice(&self) -> &[SharedBinding]
+    pub fn as_slice(&self) -> &[SharedBinding]
         ensures { result.now ≡ self.now }
     {
         match &self.pairs {

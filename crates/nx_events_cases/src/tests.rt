@@ -1,3 +1,5 @@
+//! Each text of the tables against what it gives, and what no table has: deep texts, whole texts, states that are the same.
+
 use crate::printer::Printer;
 use crate::reader::{items_of, prefix_behind, state_behind};
 use crate::tables::{EVENTS, FAULTS, OTHER, PREFIXES, SAME, SCOPES, STATES};

@@ -1,17 +1,16 @@
 -- The URI of a path leads back to it, and is ASCII.
-use Rattle.std.proofs.Common.{◌≡◌, ◌≢◌, ℕ, ◌-◌, ◌<◌, Bool, true, false, cond, eqb, List, [], ◌∷◌, ◌++◌, length, take, codes, Contains, All, IsAscii, IsUtf8, refl, sym, ap, ◌∙◌, subst, arith}
-use Rattle.std.proofs.lemmas.Bool.{cond-true, cond-false, cond_both}
+use Rattle.std.proofs.Common.{◌≡◌, ◌≢◌, ℕ, ◌-◌, ◌<◌, Bool, true, false, cond, List, [], ◌∷◌, ◌++◌, length, take, codes, All, IsAscii, IsUtf8, refl, sym, ap, ◌∙◌, subst, arith}
+use Rattle.std.proofs.lemmas.Bool.{cond-false, cond_both}
 use Rattle.std.proofs.lemmas.Bool.Decides.{nat_tests}
 use Rattle.std.proofs.lemmas.List.{append_cancel_left}
 use Rattle.std.proofs.lemmas.List.Elements.{All-from_recursion, All-nil, All-cons, All-head, All-tail, All-append, All-push, All-take, All-weaker, All-contains}
-use Rattle.std.proofs.lemmas.Str.{IsUtf8-from_ascii, IsAscii-append}
+use Rattle.std.proofs.lemmas.Str.{IsUtf8-from_ascii}
 use Rattle.std.proofs.lemmas.Str.Ascii.{IsAscii-from_all}
 use Rattle.std.specs.List.{flat_map, slice_split, onto_first}
 use Rattle.std.specs.Str.{bytes_eq}
 use Rattle.percent_encoding.specs.Percent.{percent_decode, percent_encode_byte}
 use Rattle.percent_encoding.proofs.PercentLemmas.{IsByte, IsEscapeByte, All-percent_encode_byte, percent_decode-nil, percent_decode_not_percent, percent_decode-percent_encode_byte}
-use Rattle.nx_host.specs.DiskPath.{IsPathAlone, NamesFromRoot}
-use Rattle.nx_host.specs.PathUri.{is_plain, written, is_uri, uri_of_path, plain_path, path_of_names, names_of, names_along, names_behind, joined_path, stays, is_slash, AreBytes, LeadsBack, PathUrisLeadBack}
+use Rattle.nx_host.specs.PathUri.{is_plain, written, is_uri, uri_of_path, plain_path, path_of_names, names_of, names_along, names_behind, joined_path, stays, is_slash, LeadsBack, PathUrisLeadBack}
 
 -- ---- how bytes are written
 

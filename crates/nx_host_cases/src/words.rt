@@ -11,34 +11,34 @@ use std::{fs, io};
 
 // A folder, a word and its URI, which joins to itself.
 const PATHS: &str = "\
-/home/u|guide.xml|file:///home/u/guide.xml
-/home/u|a b#1?.xml|file:///home/u/a%20b%231%3F.xml
-/home/u|100%.xml|file:///home/u/100%25.xml
-/home/u|%2e%2e/x|file:///home/u/%252e%252e/x
+/texts/u|guide.xml|file:///texts/u/guide.xml
+/texts/u|a b#1?.xml|file:///texts/u/a%20b%231%3F.xml
+/texts/u|100%.xml|file:///texts/u/100%25.xml
+/texts/u|%2e%2e/x|file:///texts/u/%252e%252e/x
 /home/ü|é.xml|file:///home/%C3%BC/%C3%A9.xml
-/home/u|a\tb\\c|file:///home/u/a%09b%5Cc
-/home/u|a+b~c_d-e&f=g;h,i!j|file:///home/u/a%2Bb~c_d-e%26f%3Dg%3Bh%2Ci%21j
-/home/u|'k(l)m*n@o:p$q|file:///home/u/%27k%28l%29m%2An%40o%3Ap%24q
-/home/u|/work/x.xml|file:///work/x.xml
-/home/u|//a///b|file:///a/b
-/home/u|./d/./x.xml|file:///home/u/d/x.xml
-/home/u|../x.xml|file:///home/x.xml
-/home/u|d//../x.xml|file:///home/u/x.xml
-/home/u|../../../x.xml|file:///x.xml
-/home/u|/../x|file:///x
-/home/u|d/..|file:///home/u
-/home/u|d/|file:///home/u/d
-/home/u||file:///home/u
-/home/u|...|file:///home/u/...
-/home/u|.x.|file:///home/u/.x.
+/texts/u|a\tb\\c|file:///texts/u/a%09b%5Cc
+/texts/u|a+b~c_d-e&f=g;h,i!j|file:///texts/u/a%2Bb~c_d-e%26f%3Dg%3Bh%2Ci%21j
+/texts/u|'k(l)m*n@o:p$q|file:///texts/u/%27k%28l%29m%2An%40o%3Ap%24q
+/texts/u|/work/x.xml|file:///work/x.xml
+/texts/u|//a///b|file:///a/b
+/texts/u|./d/./x.xml|file:///texts/u/d/x.xml
+/texts/u|../x.xml|file:///texts/x.xml
+/texts/u|d//../x.xml|file:///texts/u/x.xml
+/texts/u|../../../x.xml|file:///x.xml
+/texts/u|/../x|file:///x
+/texts/u|d/..|file:///texts/u
+/texts/u|d/|file:///texts/u/d
+/texts/u||file:///texts/u
+/texts/u|...|file:///texts/u/...
+/texts/u|.x.|file:///texts/u/.x.
 /|x.xml|file:///x.xml
 /|.|file:///
 /|C:/x|file:///C%3A/x
-/home/u|http://e/x|file:///home/u/http%3A/e/x
-/home/u|file.xml|file:///home/u/file.xml
-/home/u|files:x|file:///home/u/files%3Ax
-/home/u|./file:x|file:///home/u/file%3Ax
-/home/u|file:///a%20b.xml|file:///a%20b.xml";
+/texts/u|http://e/x|file:///texts/u/http%3A/e/x
+/texts/u|file.xml|file:///texts/u/file.xml
+/texts/u|files:x|file:///texts/u/files%3Ax
+/texts/u|./file:x|file:///texts/u/file%3Ax
+/texts/u|file:///a%20b.xml|file:///a%20b.xml";
 
 // The first part of a row, and the others.
 fn cut(row: &str) -> (&str, &str) {
@@ -72,7 +72,7 @@ fn words_name_uris(rt: HostRuntime) {
     for row in PATHS.split("\n") {
         assert!(rt; is_named(rt.alloc(), row), "{row}");
     }
-    assert!(rt; comes_to(rt.alloc(), "/home/u", "file:x y.xml", "file:x y.xml"));
+    assert!(rt; comes_to(rt.alloc(), "/texts/u", "file:x y.xml", "file:x y.xml"));
 }
 
 const FOLDER: &str = "nx_host_rooted_test";

@@ -1,3 +1,5 @@
+//! Each row of the tables against what is located, and what no table has: files that fail or are cut, patterns of many stars.
+
 use crate::located::{RULES, located, uri_of};
 use crate::tables::CASES;
 use nx_base::memory::NoMemory;

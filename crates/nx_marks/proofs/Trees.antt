@@ -1,40 +1,36 @@
 -- What marks of two parts come to, and where they lie.
-use Rattle.std.proofs.Common.{◌≡◌, ℕ, ◌+◌, ◌-◌, ◌<◌, ◌≤◌, ◌==◌, ◌^◌, Bool, true, false, not, ◌&&◌, ◌||◌, List, [], ◌∷◌, ◌++◌, length, suc, Option, Some, Box, refl, sym, ap, subst, ◌∙◌, arith, append_assoc, length-append}
-use Rattle.std.specs.Prelude.{nat_le, if◌then◌else◌}
+use Rattle.std.proofs.Common.{◌≡◌, ℕ, ◌+◌, ◌-◌, ◌<◌, ◌≤◌, ◌*◌, ◌==◌, ◌^◌, Bool, true, false, not, ◌&&◌, ◌||◌, List, [], ◌∷◌, ◌++◌, length, suc, Option, Some, Box, refl, sym, ap, subst, ◌∙◌, ◌⊎◌, inl, inr, arith, append_assoc, length-append}
+use Rattle.std.specs.Prelude.{max, nat_le, if◌then◌else◌}
 use Rattle.std.specs.declared.alloc.Global.{Global}
+use Rattle.std.proofs.Math.Nat.{add_comm, max-eq_left, max-eq_right, mul-le-mul_left, mul-le-mul_right, mul_assoc, mul_comm}
 use Rattle.std.proofs.lemmas.Bool.Decides.{nat_tests}
+use Rattle.std.proofs.lemmas.Grind.{pow_more}
 use Rattle.nx_marks.specs.Chain.{reach}
-use Rattle.nx_marks.specs.Tree.{at_root, if_root, Summed, all_whole, any_faulty, has_some, count_up_to, whole_count, IsAt}
+use Rattle.nx_marks.specs.Tree.{at_root, if_root, Balanced, IsBetween, IsNode, Opened, Summed, all_whole, any_faulty, has_some, count_up_to, whole_count, IsAt}
 use Rattle.nx_marks.specs.declared.mark.Mark.{Mark}
 use Rattle.nx_marks.specs.declared.tree.Node.{Node}
 use Rattle.nx_marks.proofs.Backs.{reach-append}
 
--- what is known of a tree's marks once its root is a node
-pub record AtNode {S : Type 0} (all l : List (Mark S)) (m : Mark S) (r : List (Mark S)) : Type 0 where
-  pub is : all ≡ l ++ m ∷ r
-  pub counts : length all ≡ length l + 1 + length r
-  pub reaches : reach all ≡ reach l + m.len + reach r
-  pub count_fits : length all < 2 ^ 32
-  pub reach_fits : reach all < 2 ^ 64
+-- ---- what is known of a tree's marks once its root is a node
 
-at_some : {S : Type 0} (all l : List (Mark S)) (m : Mark S) (r : List (Mark S)) (count far : ℕ) (whole faulty : Bool) → all ≡ l ++ m ∷ r → Summed (l ++ m ∷ r) count far whole faulty → AtNode all l m r
-at_some all l m r count far whole faulty is sums =
+opened_by : {S : Type 0} (all l : List (Mark S)) (m : Mark S) (r : List (Mark S)) (count far : ℕ) (whole faulty : Bool) → all ≡ l ++ m ∷ r → IsNode l m r count far whole faulty → Opened all l m r
+opened_by all l m r count far whole faulty is node =
     let n = length-append l (m ∷ r) in
     let f = reach-append l (m ∷ r) in
-    record { is = is; counts = rw is (omega arith); reaches = rw is (omega arith); count_fits = rw is sums.count_fits; reach_fits = rw is sums.reach_fits }
+    record { is = is; counts = rw is (omega arith); reaches = rw is (omega arith); count_fits = rw is node.sums.count_fits; reach_fits = rw is node.sums.reach_fits; balanced = node.balanced }
 
-pub at_node : {S : Type 0} {root : Option (Box (Node S) Global)} {all : List (Mark S)} {b : Box (Node S) Global} → at_root [] (λ b. b.value.left ++ b.value.mark ∷ b.value.right) root ≡ all → if_root (λ b. Summed (b.value.left ++ b.value.mark ∷ b.value.right) b.value.sums.count b.value.sums.reach b.value.sums.whole b.value.sums.faulty) root → root ≡ Some b → AtNode all b.value.left b.value.mark b.value.right
-at_node {S} {root} {all} {b} view_is sums is =
-    at_some _ _ _ _ _ _ _ _
+pub at_node : {S : Type 0} {root : Option (Box (Node S) Global)} {all : List (Mark S)} {b : Box (Node S) Global} → at_root [] (λ b. b.value.left ++ b.value.mark ∷ b.value.right) root ≡ all → if_root (λ b. IsNode b.value.left b.value.mark b.value.right b.value.sums.count b.value.sums.reach b.value.sums.whole b.value.sums.faulty) root → root ≡ Some b → Opened all b.value.left b.value.mark b.value.right
+at_node {S} {root} {all} {b} view_is node is =
+    opened_by _ _ _ _ _ _ _ _
     (sym view_is ∙ ap (λ o. at_root [] (λ b. b.value.left ++ b.value.mark ∷ b.value.right) o) is)
-    (subst (λ o. if_root (λ b. Summed (b.value.left ++ b.value.mark ∷ b.value.right) b.value.sums.count b.value.sums.reach b.value.sums.whole b.value.sums.faulty) o) is sums)
+    (subst (λ o. if_root (λ b. IsNode b.value.left b.value.mark b.value.right b.value.sums.count b.value.sums.reach b.value.sums.whole b.value.sums.faulty) o) is node)
 
 -- a root tells what all marks come to
-pub sums_at : {S : Type 0} {root : Option (Box (Node S) Global)} {all : List (Mark S)} {b : Box (Node S) Global} → at_root [] (λ b. b.value.left ++ b.value.mark ∷ b.value.right) root ≡ all → if_root (λ b. Summed (b.value.left ++ b.value.mark ∷ b.value.right) b.value.sums.count b.value.sums.reach b.value.sums.whole b.value.sums.faulty) root → root ≡ Some b → Summed all b.value.sums.count b.value.sums.reach b.value.sums.whole b.value.sums.faulty
-sums_at {S} {root} {all} {b} view_is sums is =
-    let known = subst (λ o. if_root (λ b. Summed (b.value.left ++ b.value.mark ∷ b.value.right) b.value.sums.count b.value.sums.reach b.value.sums.whole b.value.sums.faulty) o) is sums in
+pub sums_at : {S : Type 0} {root : Option (Box (Node S) Global)} {all : List (Mark S)} {b : Box (Node S) Global} → at_root [] (λ b. b.value.left ++ b.value.mark ∷ b.value.right) root ≡ all → if_root (λ b. IsNode b.value.left b.value.mark b.value.right b.value.sums.count b.value.sums.reach b.value.sums.whole b.value.sums.faulty) root → root ≡ Some b → Summed all b.value.sums.count b.value.sums.reach b.value.sums.whole b.value.sums.faulty
+sums_at {S} {root} {all} {b} view_is node is =
+    let known = subst (λ o. if_root (λ b. IsNode b.value.left b.value.mark b.value.right b.value.sums.count b.value.sums.reach b.value.sums.whole b.value.sums.faulty) o) is node in
     let root_is = ap (λ o. at_root [] (λ b. b.value.left ++ b.value.mark ∷ b.value.right) o) (sym is) ∙ view_is in
-    subst (λ l. Summed l b.value.sums.count b.value.sums.reach b.value.sums.whole b.value.sums.faulty) root_is known
+    subst (λ l. Summed l b.value.sums.count b.value.sums.reach b.value.sums.whole b.value.sums.faulty) root_is known.sums
 
 -- how far marks reach without some of them
 
@@ -124,6 +120,87 @@ has-length n = grind (arith, nat_tests)
 pub some-or-none : {X : Type 0} (xs : List X) → has_some xs ≡ not (length xs == 0)
 some-or-none [] = refl
 some-or-none (x ∷ xs) = rw (has-length (length xs)) refl
+
+-- ---- a mark between others
+
+-- what a mark, those in front of it and those behind it come to
+pub node_of : {S : Type 0} (front : List (Mark S)) (m : Mark S) (behind : List (Mark S)) (count far : ℕ) (whole faulty : Bool) → Balanced (length front) (length behind) →
+    length front + length behind + 1 < 2 ^ 32 → reach front + m.len + reach behind < 2 ^ 64 → count ≡ length front + 1 + length behind → far ≡ reach front + m.len + reach behind →
+    whole ≡ ((all_whole front && m.whole) && all_whole behind) → faulty ≡ ((any_faulty front || has_some m.faults) || any_faulty behind) → IsNode front m behind count far whole faulty
+node_of front m behind count far whole faulty balanced count_fits reach_fits counts reaches wholes faults =
+    let n = length-append front (m ∷ behind) in
+    let f = reach-append front (m ∷ behind) in
+    record {
+      sums = record {
+        counted = omega arith;
+        reaches = omega arith;
+        are_whole = whole-parts front m behind whole wholes;
+        are_faulty = faulty-parts front m behind faulty faults;
+        count_fits = omega arith;
+        reach_fits = omega arith;
+      };
+      balanced = balanced;
+    }
+
+pub between : {S : Type 0} (front : List (Mark S)) (m : Mark S) (behind : List (Mark S)) → IsBetween front m behind (front ++ m ∷ behind)
+between front m behind =
+    let n = length-append front (m ∷ behind) in
+    let f = reach-append front (m ∷ behind) in
+    record { is = refl; counts = omega arith; reaches = omega arith }
+
+and-true : (b : Bool) → b ≡ (b && true)
+and-true true = refl
+and-true false = refl
+
+or-false : (b : Bool) → b ≡ (b || false)
+or-false true = refl
+or-false false = refl
+
+-- what one mark comes to
+pub summed-one : {S : Type 0} (m : Mark S) (count far : ℕ) (whole faulty : Bool) → m.len < 2 ^ 64 → count ≡ 1 → far ≡ m.len → whole ≡ m.whole → faulty ≡ has_some m.faults → Summed (m ∷ []) count far whole faulty
+summed-one m count far whole faulty fits counts reaches wholes faults = record {
+  counted = omega arith;
+  reaches = omega arith;
+  are_whole = wholes ∙ and-true m.whole;
+  are_faulty = faults ∙ or-false (has_some m.faults);
+  count_fits = omega arith;
+  reach_fits = omega arith;
+}
+
+-- one more of those behind, where these may be more
+pub one-more-behind : (front behind behind' : ℕ) → Balanced front behind → behind + 1 < 3 * (front + 1) → behind' ≡ behind + 1 → Balanced front behind'
+one-more-behind front behind behind' b lt is =
+    let p = b.front_most in
+    let q = b.behind_most in
+    record { front_most = omega arith; behind_most = omega arith }
+
+-- ---- how many levels there are
+
+-- one level more than a part has
+pub deeper : (d deep part other all : ℕ) → deep ≡ d + 1 → 4 ^ d ≤ 3 ^ d * (part + 1) → part + 1 ≤ 3 * (other + 1) → all ≡ part + 1 + other → 4 ^ deep ≤ 3 ^ deep * (all + 1)
+deeper d deep part other all is few most counts =
+    let up : 4 ^ (d + 1) ≡ 4 ^ d * 4 = pow_more 4 d in
+    let down : 3 ^ (d + 1) ≡ 3 ^ d * 3 = pow_more 3 d in
+    let sides : 4 * (part + 1) ≤ 3 * (all + 1) = omega arith in
+    let one = mul-le-mul_right 4 few in
+    let two = mul-le-mul_left (3 ^ d) sides in
+    let turn : 3 ^ d * (part + 1) * 4 ≡ 3 ^ d * (4 * (part + 1)) = mul_assoc (3 ^ d) (part + 1) 4 ∙ ap (λ n. 3 ^ d * n) (mul_comm (part + 1) 4) in
+    let back : 3 ^ d * (3 * (all + 1)) ≡ 3 ^ d * 3 * (all + 1) = sym (mul_assoc (3 ^ d) 3 (all + 1)) in
+    rw (is, up, down) (omega (arith, one, two, turn, back))
+
+-- two parts, of which the deeper one has a level less
+pub levels : (l r all dl dr m deep : ℕ) → 4 ^ dl ≤ 3 ^ dl * (l + 1) → 4 ^ dr ≤ 3 ^ dr * (r + 1) → Balanced l r → all ≡ l + 1 + r → m ≡ max dl dr → deep ≡ 1 + m → 4 ^ deep ≤ 3 ^ deep * (all + 1)
+levels l r all dl dr m deep front behind balanced counts larger is =
+    elim (lower dl dr) [
+      | inl le ↦ deeper dr deep r l all (is ∙ ap (λ n. 1 + n) (larger ∙ max-eq_right le) ∙ add_comm 1 dr) behind balanced.behind_most (counts ∙ turned)
+      | inr lt ↦ deeper dl deep l r all (is ∙ ap (λ n. 1 + n) (larger ∙ max-eq_left (omega arith)) ∙ add_comm 1 dl) front balanced.front_most counts
+    ]
+  where
+    lower : (a b : ℕ) → (a ≤ b) ⊎ (b < a)
+    lower a b = grind arith
+
+    turned : l + 1 + r ≡ r + 1 + l
+    turned = omega arith
 
 -- how many come to a mark, and on
 

@@ -29,7 +29,9 @@ Link means r t p false x xs = Unit {0}
 Link means r t p true x xs = (ks : List Lexeme) × (Segment r t p (means x.state) x.len x.tags x.faults ks
     × FirstMeans means (after_all r (means x.state) ks) xs)
 
--- marks, the first of them at p. A row is a run of whole marks and the next one, the state where it ends
+-- Marks that lie one behind another, the first of them at the byte offset p, each `len` bytes in front of the next. Each state is one of
+-- the machine's, and the segment of each whole mark is what the text has there; of the others it is only said how far on the next one
+-- lies. The last one ends in the text. A row is a run of whole marks and the next one, the state where it ends
 abbrev pub Chain : {S M : Type 0} → (S → Type 0) → (S → M) → Rules M → List ℕ → ℕ → List (Mark S) → Type 0
 Chain is_state means r t p [] = p ≤ length t
 Chain is_state means r t p (x ∷ xs) = is_state x.state × (Link means r t p x.whole x xs × Chain is_state means r t (p + x.len) xs)
@@ -48,9 +50,12 @@ abbrev pub reach : {S : Type 0} → List (Mark S) → ℕ
 reach [] = 0
 reach (x ∷ xs) = x.len + reach xs
 
--- what is kept: the marks up to the frontier, the state there, whether it is a mark, and the marks aside.
--- The segment of the last mark of the front ends at the frontier, and `here.len` is how far the first mark aside is; where none
--- is aside it says nothing
+-- What is kept of reading a text: a line of marks, and a place on it, the frontier, up to which the text is read.
+--     front    the marks up to the frontier, all of them whole; the segment of the last one ends there
+--     here     the state at the frontier. It has no segment: `here.len` is a distance, of so many bytes that nobody has read since the
+--              edit, from the frontier to the first mark aside. Where none is aside it says nothing. Its tags and faults say nothing
+--     marked   whether that state is a mark itself
+--     aside    the marks behind the frontier that an edit left: what they say holds once tokens lead to them
 pub record Kept (S : Type 0) : Type 0 where
   pub front : List (Mark S)
   pub here : Mark S

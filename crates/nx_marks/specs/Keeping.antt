@@ -1,4 +1,4 @@
--- What reading on does to marks.
+-- What reading on does to marks: which ones stay, which are new, and which of those aside go.
 use Rattle.std.specs.Prelude.{◌≡◌, ◌⊎◌, ℕ, ◌+◌, true, List, [], ◌∷◌, ◌++◌}
 use Rattle.nx_base.specs.Rules.{Rules, Lexeme}
 use Rattle.nx_base.specs.Running.{CutsTo, after_all}
@@ -25,7 +25,7 @@ abbrev pub IsAmong : ℕ → List ℕ → Type 0
 IsAmong at [] = ⊥
 IsAmong at (place ∷ others) = (at ≡ place) ⊎ IsAmong at others
 
--- tokens lead from the start to the place and to what the state means
+-- the state is right at the place: read from the text's start, the tokens in front of the place lead to what it means
 pub record LeadsTo {S M : Type 0} (means : S → M) (r : Rules M) (t : List ℕ) (place : ℕ) (state : S) : Type 0 where
   pub tokens : List Lexeme
   pub cuts : CutsTo t 0 tokens place
@@ -37,7 +37,8 @@ Stands means r t at place [] = ⊥
 Stands means r t at place (x ∷ xs) =
     ((at ≡ place) × (is_mark x ≡ true) × LeadsTo means r t place x.state) ⊎ Stands means r t at (place + x.len) xs
 
--- by the rule a mark stands at a place, behind the tokens that lead there from the start; `since` are those behind the last mark
+-- by the rule (`is_due`) a mark is to be saved at a place, when the last one stands at `last`: `before` are the tokens in front of that,
+-- `since` those between the two
 pub record IsDueAt {M : Type 0} (r : Rules M) (t : List ℕ) (last place : ℕ) : Type 0 where
   pub before : List Lexeme
   pub since : List Lexeme
@@ -45,7 +46,8 @@ pub record IsDueAt {M : Type 0} (r : Rules M) (t : List ℕ) (last place : ℕ) 
   pub on : CutsTo t last since place
   pub due : is_due r (after_all r (after_all r r.first before) since) (tags_in since) ≡ true
 
--- each of these places, behind a mark at `last`, is one where a mark stood aside to which tokens lead, or where one is due
+-- there is a reason for a mark at each of these places, the mark before the first of them at `last`: one stood there aside, and was right;
+-- or one is due
 abbrev pub AreCalledFor : {M : Type 0} → Rules M → List ℕ → (ℕ → Type 0) → ℕ → List ℕ → Type 0
 AreCalledFor r t stood last [] = Unit {0}
 AreCalledFor r t stood last (place ∷ others) = (stood place ⊎ IsDueAt r t last place) × AreCalledFor r t stood place others
@@ -54,15 +56,19 @@ abbrev pub last_of : ℕ → List ℕ → ℕ
 last_of place [] = place
 last_of place (other ∷ others) = last_of other others
 
--- each of these that is a mark, the first of them at a place, stands at one of the places `now`, or tokens don't lead to it
+-- none of these marks, the first of them at a place, was given up for nothing: where it stood there is a mark still (`now`), or its state
+-- isn't right there any more
 abbrev pub AreUsed : {S M : Type 0} → (S → M) → Rules M → List ℕ → List ℕ → ℕ → List (Mark S) → Type 0
 AreUsed means r t now place [] = Unit {0}
 AreUsed means r t now place (x ∷ xs) =
     (is_mark x ≡ true → IsAmong place now ⊎ (LeadsTo means r t place x.state → ⊥)) × AreUsed means r t now (place + x.len) xs
 
--- the marks up to the old frontier stay where they are, and none is saved behind it but where one stood aside to which tokens
--- lead, or where one is due. Of what is aside the first ones go. A mark goes only where it stands among the new ones, or where tokens
--- don't lead to it; a state at which a row ends may always go. The others stay with their segments
+-- From `old` reading went on to `new`.
+--     stay    up to the old frontier marks stand where they stood; `more` are the places of those behind it,
+--     due     and for each of these there is a reason
+--     aside   of the marks aside the first ones are gone, as many as were read over; the others stay, with their segments,
+--     next    and where they lay
+--     used    none that is gone was given up for nothing. A state at which only a row ended may always go
 pub record KeepsMarks {S M : Type 0} (means : S → M) (r : Rules M) (t : List ℕ) (old new : Kept S) : Type 0 where
   pub more : List ℕ
   pub stay : places_of new ≡ places_of old ++ more

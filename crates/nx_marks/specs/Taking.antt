@@ -47,7 +47,8 @@ took means r k before x token s = record {
   aside = k.aside;
 }
 
--- the marks aside that so many bytes from the frontier pass are let go: `gap` lies before the first of them
+-- The frontier is to go n bytes on: the marks aside that lie less than n bytes behind it are let go. `here.len` is the distance to the
+-- first of them that is left; it grows by the length of each that goes, and is n where none is left
 abbrev pub let_go : {S : Type 0} → ℕ → Mark S → List (Mark S) → Bool → List (Mark S) → Kept S
 let_go n here front marked [] = record { front = front; here = record { state = here.state; len = n; tags = here.tags; faults = here.faults; whole = here.whole; saved = here.saved }; marked = marked; aside = [] }
 let_go n here front marked (y ∷ ys) =

@@ -1,5 +1,5 @@
 -- What marks in a tree come to.
-use Rattle.std.specs.Prelude.{◌≡◌, ℕ, ◌+◌, ◌-◌, ◌<◌, ◌^◌, nat_le, Bool, true, false, ◌&&◌, ◌||◌}
+use Rattle.std.specs.Prelude.{◌≡◌, ℕ, ◌+◌, ◌-◌, ◌*◌, ◌<◌, ◌≤◌, ◌^◌, nat_le, Bool, true, false, ◌&&◌, ◌||◌}
 use Rattle.std.specs.Prelude.{List, [], ◌∷◌, ◌++◌, length, Option, None, Some, if◌then◌else◌}
 use Rattle.nx_marks.specs.Chain.{reach}
 use Rattle.nx_marks.specs.declared.mark.Mark.{Mark}
@@ -35,6 +35,37 @@ pub record Summed {S : Type 0} (marks : List (Mark S)) (count far : ℕ) (whole 
   pub are_faulty : faulty ≡ any_faulty marks
   pub count_fits : length marks < 2 ^ 32
   pub reach_fits : reach marks < 2 ^ 64
+
+-- of two parts, counted with one more, neither is more than thrice the other
+pub record Balanced (front behind : ℕ) : Type 0 where
+  pub front_most : front + 1 ≤ 3 * (behind + 1)
+  pub behind_most : behind + 1 ≤ 3 * (front + 1)
+
+-- or the second is a little more than that, so that one turn or two make it even
+pub record NearlyBalanced (one other : ℕ) : Type 0 where
+  pub one_most : one + 1 ≤ 3 * (other + 1)
+  pub other_most : 3 * (other + 1) ≤ 13 * (one + 1)
+
+-- what is told at a node of its own mark, those in front of it and those behind it; and these are balanced
+pub record IsNode {S : Type 0} (front : List (Mark S)) (mark : Mark S) (behind : List (Mark S)) (count far : ℕ) (whole faulty : Bool) :
+    Type 0 where
+  pub sums : Summed (front ++ mark ∷ behind) count far whole faulty
+  pub balanced : Balanced (length front) (length behind)
+
+-- a mark between those in front of it and those behind it, which are all, and balanced; their numbers fit
+pub record Opened {S : Type 0} (all front : List (Mark S)) (mark : Mark S) (behind : List (Mark S)) : Type 0 where
+  pub is : all ≡ front ++ mark ∷ behind
+  pub counts : length all ≡ length front + 1 + length behind
+  pub reaches : reach all ≡ reach front + mark.len + reach behind
+  pub count_fits : length all < 2 ^ 32
+  pub reach_fits : reach all < 2 ^ 64
+  pub balanced : Balanced (length front) (length behind)
+
+-- a mark is put between two parts
+pub record IsBetween {S : Type 0} (front : List (Mark S)) (mark : Mark S) (behind all : List (Mark S)) : Type 0 where
+  pub is : all ≡ front ++ mark ∷ behind
+  pub counts : length all ≡ length front + 1 + length behind
+  pub reaches : reach all ≡ reach front + mark.len + reach behind
 
 -- how many of these marks, from the first on, reach no farther than a place
 abbrev pub count_up_to : {S : Type 0} → ℕ → List (Mark S) → ℕ

@@ -1,4 +1,6 @@
--- Steps along what is kept, which leave its list of marks as it is.
+-- Steps of the frontier along the line of marks, which is front, here and aside in a row. On and back over marks (`Moved`, `Follows`,
+-- `GoesBack`, `GoesOn`, `ComesBack`) it leaves the line as it is, and only where the line is parted is another place. The others
+-- (`PassesNext`, `PassesUpTo`, `TakesNext`, `DropsBetween`, `cut_off`) drop marks, of those aside or at hand.
 use Rattle.std.specs.Prelude.{◌≡◌, ◌⊎◌, ℕ, ◌+◌, ◌-◌, ◌^◌, ◌<◌, ◌≤◌, List, [], ◌∷◌, ◌++◌, length, nat_lt, if◌then◌else◌}
 use Rattle.nx_marks.specs.Chain.{Kept, all_of, frontier_of, reach}
 use Rattle.nx_marks.specs.Editing.{first_kept, kept_marks, place_after, broken, split}
@@ -36,19 +38,20 @@ pub record PassesNext {S : Type 0} (old new : Kept S) : Type 0 where
   pub are : old.aside ≡ mark ∷ behind
   pub is : new ≡ record { front = old.front; here = farther old.here mark.len; marked = old.marked; aside = behind }
 
--- the marks aside that lie before a place go
+-- the marks aside that lie less than `count` bytes behind the frontier have gone, or all have: whatever was dropped so far, letting go of
+-- the rest leads to the same
 pub record PassesUpTo {S : Type 0} (count : ℕ) (old new : Kept S) : Type 0 where
   pub same : let_go count new.here new.front new.marked new.aside ≡ let_go count old.here old.front old.marked old.aside
   pub there : (new.aside ≡ []) ⊎ (count ≤ new.here.len)
 
--- the first mark aside stands in the place of the one at hand
+-- the mark at hand goes, and the first one aside stands in its place, with its own distance to the next
 pub record TakesNext {S : Type 0} (old new : Kept S) : Type 0 where
   pub mark : Mark S
   pub behind : List (Mark S)
   pub are : old.aside ≡ mark ∷ behind
   pub is : new ≡ record { front = old.front; here = mark; marked = old.marked; aside = behind }
 
--- on to the end of the row that begins with the mark at hand
+-- on to the end of the row that begins with the mark at hand, which is joined: its whole marks are read now
 abbrev pub Follows : {S : Type 0} → Kept S → Kept S → Type 0
 Follows old new =
     let row = split old.marked old.here old.aside in
@@ -65,7 +68,8 @@ pub record DropsBetween {S : Type 0} (next to : ℕ) (old new : Kept S) (place :
   pub between : AreUpTo to next gone
   pub there : (new.aside ≡ []) ⊎ (to < place)
 
--- back to the last mark before a place, or to the start. `passed` are the marks that were passed
+-- back to the last mark before a place, or to the start, so that the place lies in the segment behind it or at its end (`touched`).
+-- `passed` are the marks that were passed
 pub record GoesBack {S : Type 0} (from : ℕ) (old new : Kept S) : Type 0 where
   pub all : all_of new ≡ all_of old
   pub passed : List (Mark S)
@@ -88,7 +92,8 @@ pub record ComesBack {S : Type 0} (len : ℕ) (old new : Kept S) : Type 0 where
   pub marked : new.marked ≡ old.marked
   pub front : length new.front ≡ len
 
--- the marks that lie in an edit go; the one at hand is the last before it, or the start
+-- an edit, of the mark at hand, which is the last before it or the start. Where it ends in front of the edit nothing changes; otherwise it
+-- is no longer whole, the marks that lie in the edit go, and those behind it stay, as much farther on as the edit moves them
 abbrev pub cut_off : {S : Type 0} → ℕ → ℕ → ℕ → Kept S → Kept S
 cut_off from to added k =
     if nat_lt (frontier_of k + k.here.len) from then k

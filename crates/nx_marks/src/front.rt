@@ -52,7 +52,7 @@ fn settle<S: Drop>(below: &mut Tree<S>, top: &mut Option<Single<S>>)
     ensures top { top.new ≡ None }
 {
     if let Some(last) = top.take() {
-        below.append(last.into_tree());
+        below.push(last);
     }
 }
 
@@ -179,14 +179,14 @@ impl<S: Drop> Front<S> {
         behind
     }
 
-    /// Puts marks behind the last.
-    pub(crate) fn append(&mut self, more: Tree<S>)
-        requires count { length self.old + length more < 2 ^ 32 }
-        requires reach { reach self.old + reach more < 2 ^ 64 }
-        ensures { self.new ≡ self.old ++ more }
+    /// Puts a mark and others behind the last.
+    pub(crate) fn extend(&mut self, middle: Single<S>, more: Tree<S>)
+        requires count { length self.old + length more + 1 < 2 ^ 32 }
+        requires reach { reach self.old + middle.len + reach more < 2 ^ 64 }
+        ensures { self.new ≡ self.old ++ middle ∷ more }
     {
         settle(&mut self.below, &mut self.top);
-        self.below.append(more);
+        self.below.extend(middle, more);
         self.reach = self.below.reach();
     }
 

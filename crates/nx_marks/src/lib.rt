@@ -15,6 +15,7 @@
 //! takes the frontier back to 63; 17 tokens lead to 135, where the mark that was at 127 is, and the rest is joined.
 #![tactic(auto)]
 
+mod balance;
 mod front;
 pub mod kept;
 pub mod law;

@@ -41,11 +41,9 @@ pub struct Line<S> {
     /// Whether a mark stands at the frontier.
     pub(crate) marked: bool,
     pub(crate) aside: Tree<S>,
-    /// Marks that the last edit took out which took out any. They are dropped one by one as marks are made, so that a new one stands in
-    /// memory that was just looked at, and the rest where reading ends.
+    /// Marks that the last edit took out which took out any. They are dropped as marks are made, a few at a time, so that a new one stands
+    /// in memory that was just looked at, and the rest where reading ends.
     to_drop: Tree<S>,
-    /// What was drawn for the last mark that was made.
-    lot: u32,
 }
 
 impl<S> Model for Line<S> {
@@ -59,17 +57,14 @@ impl<S> Model for Line<S> {
     ghost invariant = { λ k. Held k.front k.here k.aside };
 }
 
-/// The lot that comes after this one. Lots rise and fall without order, and so do their upper bits.
-fn next_lot(lot: u32) -> u32 {
-    lot.wrapping_mul(747_796_405).wrapping_add(2_891_336_453)
-}
+/// So many marks are dropped at once.
+const DROPPED: usize = 32;
 
-/// The weight of a mark that is put behind so many. Marks that come one after another get ranks like the lines of a ruler (every second
-/// line is longer than those next to it, and so again of those that are longer), which makes a tree of them balanced; within a rank the lot
-/// decides.
-fn weight_of(count: usize, lot: u32) -> u16 {
-    let rank = count.trailing_ones().min(15);
-    ((rank << 12) | (lot >> 20)) as u16
+/// Drops some marks where so many were made that it is time.
+fn drop_some<S: Drop>(marks: &mut Tree<S>, made: usize) {
+    if made % DROPPED == 0 {
+        marks.drop_first(DROPPED);
+    }
 }
 
 /// Drops all faults.
@@ -106,7 +101,6 @@ impl<S: Drop> Line<S> {
             marked: true,
             aside: Tree::empty(),
             to_drop: Tree::empty(),
-            lot: 0,
         }
     }
 
@@ -123,8 +117,7 @@ impl<S: Drop> Line<S> {
         let mut node = passed.pop_first();
         node.swap(&mut self.here);
         let behind = mem::replace(&mut self.aside, passed);
-        self.aside.append(node.into_tree());
-        self.aside.append(behind);
+        self.aside.extend(node, behind);
     }
 
     /// Goes so many marks on.
@@ -139,8 +132,7 @@ impl<S: Drop> Line<S> {
         let mut node = self.aside.pop_last();
         node.swap(&mut self.here);
         let passed = mem::replace(&mut self.aside, behind);
-        self.front.push(node);
-        self.front.append(passed);
+        self.front.extend(node, passed);
     }
 
     /// Where the next mark lies, if there is one.
@@ -199,7 +191,7 @@ impl<S: Drop> Line<S> {
         } else {
             let mut last = self.aside.pop_last();
             last.unsave();
-            self.aside.append(last.into_tree());
+            self.aside.push(last);
         }
     }
 
@@ -554,11 +546,9 @@ impl<S: Drop> Line<S> {
             whole: true,
             saved: true,
         };
-        self.to_drop.drop_first();
-        let lot = next_lot(self.lot);
-        let weight = weight_of(self.front.count(), lot);
-        self.front.push(Single::new(alloc, mark, weight)?);
-        self.lot = lot;
+        let made = self.front.count();
+        drop_some(&mut self.to_drop, made);
+        self.front.push(Single::new(alloc, mark)?);
         self.marked = false;
         Ok(())
     }

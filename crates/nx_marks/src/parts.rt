@@ -2,10 +2,10 @@
 
 ghost use Rattle.std.specs.Prelude.{◌≡◌, ◌+◌, ◌<◌, ◌≤◌, ◌^◌, length, drop, [], ◌∷◌, ◌++◌};
 ghost use Rattle.nx_marks.specs.Chain.{reach};
-ghost use Rattle.nx_marks.specs.Nodes.{marks_at};
 
-use crate::single::{Single, summed};
-use crate::tree::{Node, Tree};
+use crate::balance::{joined, opened};
+use crate::single::Single;
+use crate::tree::Tree;
 use std::mem;
 
 /// Parts a tree behind so many marks.
@@ -13,52 +13,20 @@ pub(crate) fn parted<S: Drop>(tree: Tree<S>, count: usize) -> (Tree<S>, Tree<S>)
     requires { count ≤ length tree }
     ensures all { tree ≡ result.0 ++ result.1 }
     ensures count { length result.0 ≡ count }
+    ensures counts { length tree ≡ length result.0 + length result.1 }
+    ensures reaches { reach tree ≡ reach result.0 + reach result.1 }
 {
-    let Some(mut node) = tree.root else {
-        return (Tree::empty(), Tree::empty());
-    };
-    let before = node.left.count();
-    if count <= before {
-        let left = mem::replace(&mut node.left, Tree::empty());
-        let (front, behind) = parted(left, count);
-        node.left = behind;
-        return (front, summed(node));
+    if count == 0 {
+        return (Tree::empty(), tree);
     }
-    let right = mem::replace(&mut node.right, Tree::empty());
-    let (front, behind) = parted(right, count - before - 1);
-    node.right = front;
-    (summed(node), behind)
-}
-
-/// What is in front of a first node, and that node with a second one behind it, to whose front go the marks behind the first: a rotation to
-/// the right where the first was in front of the second.
-fn rotated<S: Drop>(mut first: Box<Node<S>>, mut second: Box<Node<S>>) -> (Tree<S>, Box<Node<S>>)
-    requires none { second.value.left ≡ [] }
-    requires count { length (marks_at first.value) + length (marks_at second.value) < 2 ^ 32 }
-    requires reach { reach (marks_at first.value) + reach (marks_at second.value) < 2 ^ 64 }
-    ensures front { result.0 ≡ first.value.left }
-    ensures none { result.1.value.left ≡ [] }
-    ensures marks { marks_at result.1.value ≡ first.value.mark ∷ (first.value.right ++ marks_at second.value) }
-{
-    let front = mem::replace(&mut first.left, Tree::empty());
-    second.left = mem::replace(&mut first.right, Tree::empty());
-    first.right = summed(second);
-    (front, first)
-}
-
-/// The first node of these marks and of a node's own and those behind it, with all the others behind its own mark.
-fn first_of<S: Drop>(front: Tree<S>, node: Box<Node<S>>) -> Box<Node<S>>
-    requires none { node.value.left ≡ [] }
-    requires count { length front + length (marks_at node.value) < 2 ^ 32 }
-    requires reach { reach front + reach (marks_at node.value) < 2 ^ 64 }
-    ensures marks { marks_at result.value ≡ front ++ marks_at node.value }
-    ensures none { result.value.left ≡ [] }
-{
-    let Some(first) = front.root else {
-        return node;
-    };
-    let (before, first) = rotated(first, node);
-    first_of(before, first)
+    let (front, middle, behind) = opened(tree);
+    let before = front.count();
+    if count <= before {
+        let (first, rest) = parted(front, count);
+        return (first, joined(rest, middle, behind));
+    }
+    let (rest, last) = parted(behind, count - before - 1);
+    (joined(front, middle, rest), last)
 }
 
 /// The one mark of a tree.
@@ -73,30 +41,48 @@ fn only<S: Drop>(tree: Tree<S>) -> Single<S>
 }
 
 impl<S: Drop> Tree<S> {
+    /// Puts a mark behind the last. Mostly it only goes down along the last marks.
+    pub(crate) fn push(&mut self, last: Single<S>)
+        requires count { length self.old + 1 < 2 ^ 32 }
+        requires reach { reach self.old + last.len < 2 ^ 64 }
+        ensures { self.new ≡ self.old ++ last ∷ [] }
+    {
+        if let Some(node) = &mut self.root {
+            if node.right.weight() < 3 * node.left.weight() {
+                node.sums.add(last.sums());
+                node.right.push(last);
+                return;
+            }
+        }
+        let all = mem::replace(self, Tree::empty());
+        *self = joined(all, last, Tree::empty());
+    }
+
+    /// Puts a mark and others behind the last.
+    pub(crate) fn extend(&mut self, middle: Single<S>, more: Tree<S>)
+        requires count { length self.old + length more + 1 < 2 ^ 32 }
+        requires reach { reach self.old + middle.len + reach more < 2 ^ 64 }
+        ensures { self.new ≡ self.old ++ middle ∷ more }
+    {
+        let all = mem::replace(self, Tree::empty());
+        *self = joined(all, middle, more);
+    }
+
     /// Puts marks behind the last.
     pub(crate) fn append(&mut self, more: Tree<S>)
         requires count { length self.old + length more < 2 ^ 32 }
         requires reach { reach self.old + reach more < 2 ^ 64 }
         ensures { self.new ≡ self.old ++ more }
     {
-        let Some(mut second) = more.root else {
-            return;
-        };
-        let Some(first) = &mut self.root else {
-            self.root = Some(second);
-            return;
-        };
-        let before = first.sums;
-        if before.weight >= second.sums.weight {
-            first.sums.add(second.sums);
-            first.right.append(Tree { root: Some(second) });
+        if more.is_empty() {
             return;
         }
-        let all = before.with(second.sums);
-        let front = mem::replace(&mut second.left, mem::replace(self, Tree::empty()));
-        second.left.append(front);
-        second.sums = all;
-        self.root = Some(second);
+        if self.is_empty() {
+            *self = more;
+            return;
+        }
+        let last = self.pop_last();
+        self.extend(last, more);
     }
 
     /// Takes the marks behind so many away.
@@ -122,19 +108,6 @@ impl<S: Drop> Tree<S> {
         only(first)
     }
 
-    /// Drops the first mark. The tree is rotated so that the next one stands near its root: all marks of a tree are dropped one by one with
-    /// one rotation each at the most. It is kept to be dropped alone: weights don't fall any more, and its depth may double.
-    pub(crate) fn drop_first(&mut self)
-        ensures { self.new ≡ drop 1 self.old }
-    {
-        let Some(mut root) = mem::replace(self, Tree::empty()).root else {
-            return;
-        };
-        let before = mem::replace(&mut root.left, Tree::empty());
-        let mut first = first_of(before, root);
-        *self = mem::replace(&mut first.right, Tree::empty());
-    }
-
     /// Takes the last mark away. It stands outside of the loop over tokens, where it is seldom called.
     #[inline(never)]
     pub(crate) fn pop_last(&mut self) -> Single<S>
@@ -144,5 +117,14 @@ impl<S: Drop> Tree<S> {
         let count = self.count() - 1;
         let last = self.split_off(count);
         only(last)
+    }
+
+    /// Drops the first so many marks, or all.
+    pub(crate) fn drop_first(&mut self, count: usize)
+        ensures { self.new ≡ drop count self.old }
+    {
+        let count = count.min(self.count());
+        let kept = self.split_off(count);
+        drop(mem::replace(self, kept));
     }
 }

@@ -1,9 +1,7 @@
 //! Marks in nodes of their own.
 
-ghost use Rattle.std.specs.Prelude.{◌≡◌, ◌<◌, ◌^◌, [], ◌∷◌, length, IfOk};
-ghost use Rattle.nx_marks.specs.Chain.{reach};
-ghost use Rattle.nx_marks.specs.Nodes.{marks_at};
-ghost use Rattle.nx_marks.specs.Tree.{unsaved};
+ghost use Rattle.std.specs.Prelude.{◌≡◌, IfOk};
+ghost use Rattle.nx_marks.specs.Tree.{has_some, unsaved};
 
 use crate::mark::Mark;
 use crate::tree::{Node, Sums, Tree};
@@ -29,27 +27,9 @@ impl<S> Model for Single<S> {
     ghost invariant = { λ s. (s.node.value.left ≡ []) × (s.node.value.right ≡ []) };
 }
 
-/// The tree below a node, of which is told anew what its marks come to.
-pub(crate) fn summed<S: Drop>(mut node: Box<Node<S>>) -> Tree<S>
-    requires count { length (marks_at node.value) < 2 ^ 32 }
-    requires reach { reach (marks_at node.value) < 2 ^ 64 }
-    ensures { result ≡ marks_at node.value }
-{
-    let left = node.left.sums();
-    let right = node.right.sums();
-    node.sums = Sums {
-        reach: left.reach + node.mark.len + right.reach,
-        count: left.count + 1 + right.count,
-        weight: node.sums.weight,
-        whole: left.whole && node.mark.whole && right.whole,
-        faulty: left.faulty || !node.mark.faults.is_empty() || right.faulty,
-    };
-    Tree { root: Some(node) }
-}
-
 impl<S: Drop> Single<S> {
     /// Puts a mark in a node.
-    pub(crate) fn new(alloc: Global, mark: Mark<S>, weight: u16) -> Result<Single<S>, NoMemory>
+    pub(crate) fn new(alloc: Global, mark: Mark<S>) -> Result<Single<S>, NoMemory>
         ensures { IfOk result (λ single. single ≡ mark) }
     {
         let node = Node {
@@ -59,7 +39,6 @@ impl<S: Drop> Single<S> {
             sums: Sums {
                 reach: 0,
                 count: 0,
-                weight,
                 whole: true,
                 faulty: false,
             },
@@ -91,12 +70,19 @@ impl<S: Drop> Single<S> {
         self.node.mark.saved = false;
     }
 
-    /// The tree of this one mark.
-    pub(crate) fn into_tree(self) -> Tree<S>
-        ensures { result ≡ self ∷ [] }
+    /// What the mark comes to.
+    pub(crate) fn sums(&self) -> Sums
+        ensures count { result.count ≡ 1 }
+        ensures reach { result.reach ≡ self.now.len }
+        ensures whole { result.whole ≡ self.now.whole }
+        ensures faulty { result.faulty ≡ has_some self.now.faults }
     {
-        // A length that is read is known to fit.
-        let _len = self.node.mark.len;
-        summed(self.node)
+        let mark = &self.node.mark;
+        Sums {
+            reach: mark.len,
+            count: 1,
+            whole: mark.whole,
+            faulty: !mark.faults.is_empty(),
+        }
     }
 }

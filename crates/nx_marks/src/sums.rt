@@ -1,6 +1,6 @@
 //! What marks in a tree come to, and where they lie.
 
-ghost use Rattle.std.specs.Prelude.{◌≡◌, ◌+◌, ◌<◌, ◌^◌, ◌==◌, ◌&&◌, ◌||◌, length, []};
+ghost use Rattle.std.specs.Prelude.{◌≡◌, ◌+◌, ◌*◌, ◌<◌, ◌≤◌, ◌^◌, ◌==◌, ◌&&◌, ◌||◌, length, []};
 ghost use Rattle.nx_marks.specs.Chain.{reach};
 ghost use Rattle.nx_marks.specs.Tree.{all_whole, any_faulty, count_up_to, whole_count, IsAt};
 
@@ -20,13 +20,12 @@ impl Sums {
         Sums {
             reach: self.reach + more.reach,
             count: self.count + more.count,
-            weight: self.weight.max(more.weight),
             whole: self.whole && more.whole,
             faulty: self.faulty || more.faulty,
         }
     }
 
-    /// Adds what more marks come to, none of which weighs more. Mostly all of them are whole and none is faulty.
+    /// Adds what more marks come to. Mostly all of them are whole and none is faulty.
     pub(crate) fn add(&mut self, more: Sums)
         requires count { self.old.count + more.count < 2 ^ 32 }
         requires reach { self.old.reach + more.reach < 2 ^ 64 }
@@ -66,7 +65,6 @@ impl<S: Drop> Tree<S> {
             None => Sums {
                 reach: 0,
                 count: 0,
-                weight: 0,
                 whole: true,
                 faulty: false,
             },
@@ -87,11 +85,29 @@ impl<S: Drop> Tree<S> {
         self.sums().count as usize
     }
 
+    /// How many there are, and one more: by this trees are balanced.
+    pub(crate) fn weight(&self) -> usize
+        ensures { result ≡ length self.now + 1 }
+    {
+        self.sums().count as usize + 1
+    }
+
     /// How many bytes they reach.
     pub(crate) fn reach(&self) -> usize
         ensures { result ≡ reach self.now }
     {
         self.sums().reach
+    }
+
+    /// How many levels of nodes there are. Whatever goes down a tree goes so deep, and no deeper.
+    pub(crate) fn depth(&self) -> usize
+        ensures few { 4 ^ result ≤ 3 ^ result * (length self.now + 1) }
+        ensures most { result ≤ length self.now }
+    {
+        let Some(node) = &self.root else {
+            return 0;
+        };
+        1 + node.left.depth().max(node.right.depth())
     }
 
     /// How many marks, from the first on, reach no farther than a place.

@@ -1,3 +1,5 @@
+//! Ways from places, and where each leads.
+
 ghost use Rattle.std.specs.Prelude.{◌≡◌, ◌<◌};
 
 use nx_base::steps::Steps;

@@ -1,3 +1,5 @@
+//! Views that are shown faults, moved and closed, and what each shows then.
+
 use nx_base::detail::Detail;
 use nx_base::edit::Edit;
 use nx_base::fault::{Fault, Faults, Kind, Span};

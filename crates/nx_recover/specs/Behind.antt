@@ -1,15 +1,13 @@
 -- Levels behind items: the frame that goes on, and the open elements.
-use Rattle.std.specs.Prelude.{List, [], ◌∷◌, ◌++◌, Option}
+use Rattle.std.specs.Prelude.{List, [], ◌∷◌, Option}
 use Rattle.nx_base.specs.declared.fault.Fault.{Fault}
 use Rattle.nx_base.specs.declared.fault.Span.{Span}
-use Rattle.nx_base.specs.declared.token.Token.{Token}
 use Rattle.rng_core.specs.Patterns.{Language}
-use Rattle.nx_events.specs.Items.{items_of_token, state_behind}
+pub use Rattle.nx_events.specs.Items.{items_through}
 use Rattle.nx_events.specs.declared.flaw.Flaw.{Flaw}
 use Rattle.nx_events.specs.declared.item.Event.{Event}
 use Rattle.nx_events.specs.declared.item.Item.{Item}
 use Rattle.nx_events.specs.declared.item.Item.TheVariants as items
-use Rattle.nx_events.specs.declared.state.EventState.{EventState}
 use Rattle.nx_recover.specs.Frames.{Frame}
 use Rattle.nx_recover.specs.Nesting.{LevelsAfter}
 use Rattle.nx_recover.specs.declared.levels.Open.{Open}
@@ -24,8 +22,3 @@ pub data LevelsBehind (g : Language) :
       → LevelsBehind g here os (items.Event e s ∷ all) last around
   a_fault : {here last : Option Frame} {os around : List (Open Frame)} {x : Fault} {all : List Item}
       → LevelsBehind g here os all last around → LevelsBehind g here os (items.Fault x ∷ all) last around
-
--- the items of tokens, without those of an end
-abbrev pub items_through : EventState → List Token → List Item
-items_through state [] = []
-items_through state (token ∷ others) = items_of_token state token ++ items_through (state_behind state token) others

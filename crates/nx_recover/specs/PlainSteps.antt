@@ -43,7 +43,9 @@ inside_of g n its x = then_answered (answered (enter g.definitions n x)) (behind
 abbrev pub outside_of : Residual → Option Residual
 outside_of x = answered (leave x)
 
--- a state t behind a token that is admitted as it is, from s on
+-- The schema admits all that the token gives, so it is no fault, and t is the state behind it, read on from s. What the states of the
+-- matcher mean is asked of it before the token (f) and behind it (h): they are states (P), the events' part is that behind the token, the
+-- levels are those to which recovery's table leads along the token's items, and it finds nothing wrong along these
 pub record IsAdmitted {S : Type 0} (P : S → Type 0) (f h : S → Residual) (g : Language) (s t : RecoverState S) (token : Token) : Type 0 where
   pub states : AreStates P (view_of t.levels)
   pub events : t.events ≡ state_behind s.events token

@@ -1,5 +1,5 @@
 -- Recovery over residuals is recovery over kept lists: all items of a text.
-use Rattle.std.proofs.Common.{ℕ, List, [], ◌∷◌, Option, Some, None, sym, subst}
+use Rattle.std.proofs.Common.{ℕ, List, [], ◌∷◌, ◌++◌, Option, Some, None, sym, subst}
 use Rattle.std.specs.Str.{IsUtf8}
 use Rattle.nx_base.specs.Running.{machine_faults}
 use Rattle.nx_base.specs.Tokens.{tokens_of}
@@ -37,6 +37,16 @@ stands_along g live tag here os l (items.Event e span ∷ all) i t h k =
     let w = recovers_to g live tag here os l e i.0 t.0 h k in
     by_event w.next w.behind (done_by g l e).flaw w.recovers (stands_along g live (tag_after tag e) w.next w.behind (done_by g l e).form all i.1 t.1 w.stands w.around)
 stands_along g live tag here os l (items.Fault x ∷ all) i t h k = by_fault (stands_along g live tag here os l all i t.1 h k)
+
+-- the same of a front of such items
+pub along_front : (g : Language) → AreLive g.definitions → (tag : Option (List Name)) (here : Option Frame) (os : List (Open Frame)) (l : Form) (all rest : List Item) →
+    InTags tag (all ++ rest) → ItemsAreText (all ++ rest) → StandsHere g tag (own_elements os) here l.here → StandAround g os l.elements → Along g here os all (found_along g l all)
+unfolding found_along
+along_front g live tag here os l [] rest i t h k = at_end
+along_front g live tag here os l (items.Event e span ∷ all) rest i t h k =
+    let w = recovers_to g live tag here os l e i.0 t.0 h k in
+    by_event w.next w.behind (done_by g l e).flaw w.recovers (along_front g live (tag_after tag e) w.next w.behind (done_by g l e).form all rest i.1 t.1 w.stands w.around)
+along_front g live tag here os l (items.Fault x ∷ all) rest i t h k = by_fault (along_front g live tag here os l all rest i t.1 h k)
 
 pub recover_gives_faults : RecoverGivesFaults
 recover_gives_faults None text live utf8 = rules_fold None text utf8

@@ -24,7 +24,7 @@ use Rattle.nx_recover.specs.Table.{Form}
 use Rattle.nx_recovery.specs.Levels.{items_through}
 use Rattle.nx_recover.specs.MachineLaws.{levels_placed, gives_placed, ends_placed}
 
-found_append : (g : Language) (l : Form) (xs ys : List Item) → found_along g l (xs ++ ys) ≡ found_along g l xs ++ found_along g (form_along g l xs) ys
+pub found_append : (g : Language) (l : Form) (xs ys : List Item) → found_along g l (xs ++ ys) ≡ found_along g l xs ++ found_along g (form_along g l xs) ys
 unfolding found_along form_along
 found_append g l [] ys = refl
 found_append g l (x ∷ xs) ys =
@@ -91,6 +91,33 @@ levels_through g len p m (k ∷ ks) rest h b =
     ∙ ap (λ (l : Form). levels_behind g l (items_through (state_behind m.events k) ks)) (levels_placed g m k (omega arith))
     ∙ ap (λ (s : EventState). levels_behind g next.levels (items_through s ks)) same
     ∙ levels_through g len (p + length k.bytes) next ks rest h.1 back
+
+-- the faults of tokens are those along their items
+faults_through : (g : Option Language) (len p : ℕ) (m : Recovered) (ks rest : List Token) → AreTokensFrom len p (ks ++ rest) → run_back m.events.run ≤ p →
+    faults_behind g m.levels (items_through m.events ks) ≡ faults_along (recover_rules g) p m (map lexeme_of ks)
+unfolding AreTokensFrom found_along
+faults_through None len p m [] rest h b = refl
+faults_through (Some g) len p m [] rest h b = refl
+faults_through g len p m (k ∷ ks) rest h b =
+    let r = recover_rules g in
+    let from = h.0 in
+    let next = r.after m (lexeme_of k) in
+    let same : state_behind m.events k ≡ next.events = after_placed m.events k in
+    let grown = back_grows m.events k in
+    let back : run_back next.events.run ≤ p + length k.bytes = rw (← same) (omega arith) in
+    let own = placed (p - run_back m.events.run) (r.gives m (lexeme_of k)) in
+    behind_append g m.levels (items_of_token m.events k) (items_through (state_behind m.events k) ks)
+    ∙ ap (λ (fs : List Fault). fs ++ faults_behind g (levels_behind g m.levels (items_of_token m.events k)) (items_through (state_behind m.events k) ks)) (gives_placed g m k (omega arith) ∙ ap (λ n. placed (n - run_back m.events.run) (r.gives m (lexeme_of k))) from)
+    ∙ ap (λ (l : Form). own ++ faults_behind g l (items_through (state_behind m.events k) ks)) (levels_placed g m k (omega arith))
+    ∙ ap (λ (s : EventState). own ++ faults_behind g next.levels (items_through s ks)) same
+    ∙ ap (λ (fs : List Fault). own ++ fs) (faults_through g len (p + length k.bytes) next ks rest h.1 back)
+
+-- of tokens at the front of a text
+pub front_faults : (g : Option Language) (text : List ℕ) → IsUtf8 text → (front rest : List Token) → tokens_of text ≡ front ++ rest →
+    faults_behind g (first_levels g) (items_through first_state front) ≡ faults_along (recover_rules g) 0 (recover_rules g).first (map lexeme_of front)
+front_faults g text utf8 front rest e =
+    let cover = (joined-from (length text - 0) text 0 utf8 (IsCharBoundary-start text utf8) (omega arith)).lie in
+    faults_through g (length text) 0 (record { events = first_state; levels = first_levels g }) front rest (subst (λ (all : List Token). AreTokensFrom (length text) 0 all) e cover) (omega arith)
 
 items_part : (state : EventState) (front rest : List Token) (len : ℕ) →
     items_from state (front ++ rest) len ≡ items_through state front ++ items_from (state_after state front) rest len

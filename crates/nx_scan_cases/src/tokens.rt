@@ -1,3 +1,5 @@
+//! Texts and their tokens, cut from each border in turn.
+
 ghost use Rattle.std.specs.Prelude.{◌≡◌, ◌<◌};
 
 use nx_base::sequence::Bytes;

@@ -1,12 +1,15 @@
+-- ---- what a reader must believe: the lines of a script, and what each is
+pub mod Lines
 pub mod Grammar
-pub mod Causes
+pub mod QualifiedNames
 pub mod Commands
-pub mod Escapes
+-- ---- what a reply prints
+pub mod Printing
 pub mod FaultLines
 pub mod Kinds
-pub mod Lines
 pub mod OfferLines
-pub mod Printing
-pub mod QualifiedNames
-pub mod Reading
+pub mod Causes
+pub mod Escapes
 pub mod Replies
+-- ---- how a line is read, for private contracts
+pub mod Reading

@@ -1,3 +1,5 @@
+//! Lines of a script, right and wrong, and what each is read as.
+
 use nx_base::sequence::Bytes;
 use nx_base::way::Way;
 use nx_script::command::Command;

@@ -1,3 +1,5 @@
+//! Replies, and the text that each prints.
+
 ghost use Rattle.std.specs.Prelude.{ℕ, List, Option, None};
 
 use nx_base::cause::Cause;

@@ -244,13 +244,13 @@ module _ (passed : ComposedArePassed) (unbroken : SimplifiedIsNotBroken) where
         let Q : Option FileMap → Type 0 = λ told. IsRefusedFor told uri before.faults after.faults cause in
         refused_wants followed.files uri before.faults after.faults cause (followed.rules.usable uri gives) none (subst Q followed.tells refused)
 
-    auto_wants : (old : EditorState) (before after : FilesState) (cause : Refusal) → AreFollowed old.rules old before.map → NoneFails before after
+    auto_wants : (old : EditorState) (before after : FilesState) (cause : Refusal) → AreFollowed old.locating old before.map → NoneFails before after
         → IsRefusedAuto old before after cause → cause ≡ NoMemory
-    auto_wants old before after cause followed none (inl (inl h)) = rules_lack old.rules old before.map cause followed h.0
+    auto_wants old before after cause followed none (inl (inl h)) = rules_lack old.locating old before.map cause followed h.0
     auto_wants old before after cause followed none (inl (inr h)) =
-        h.1 ∙ rules_fail old.rules h.2.0 old before.map before.faults after.faults h.0 followed none h.2.1 h.2.2
+        h.1 ∙ rules_fail old.locating h.2.0 old before.map before.faults after.faults h.0 followed none h.2.1 h.2.2
     auto_wants old before after cause followed none (inr h) =
-        located_wants old.rules h.1.0 old before after h.0 cause followed none h.1.1 h.1.2 h.2
+        located_wants old.locating h.1.0 old before after h.0 cause followed none h.1.1 h.1.2 h.2
 
     -- ---- all commands
 

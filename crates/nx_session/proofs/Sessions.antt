@@ -6,12 +6,12 @@ use Rattle.deriv_pool.specs.declared.pool.Pool.{Pool}
 
 -- the editor of these parts
 abbrev pub seen : List ℕ → ℕ → List ℕ → Option Pool → Option (List ℕ) → ℕ → ℕ → EditorState
-seen text caret document matcher rules frontier taken = record {
+seen text caret document matcher locating frontier taken = record {
   text = text;
   caret = caret;
   document = document;
   schema = grammar_of matcher;
-  rules = rules;
+  locating = locating;
   frontier = frontier;
   taken = taken;
 }

@@ -18,7 +18,7 @@ pub record EditorState : Type 0 where
   pub caret : ℕ
   pub document : List ℕ
   pub schema : Option Grammar
-  pub rules : Option (List ℕ)
+  pub locating : Option (List ℕ)
   pub frontier : ℕ
   pub taken : ℕ
 
@@ -60,7 +60,7 @@ new_editor rules = record {
   caret = 0;
   document = codes "file:///work/untitled.xml";
   schema = None;
-  rules = rules;
+  locating = rules;
   frontier = 0;
   taken = 0;
 }

@@ -30,13 +30,13 @@ LacksRules given cause = ((cause ≡ BadUri) × HasBadRules given) ⊎ (cause �
 -- this is what the rules may give for the editor's document, where the count of the files' faults goes to `after`
 abbrev pub LocatesFor : EditorState → FilesState → ℕ → Result (Option (List ℕ)) LocateFault → Type 0
 LocatesFor editor before after given =
-    (rules : Option (List ℕ)) × RulesAre editor.rules rules
+    (rules : Option (List ℕ)) × RulesAre editor.locating rules
     × Locates before.map rules editor.document editor.text before.faults after given
 
 -- why nothing is located: the URI of the rules can't be had; or they can't be followed
 abbrev pub IsUnlocated : EditorState → FilesState → ℕ → Refusal → Type 0
 IsUnlocated editor before after cause =
-    (LacksRules editor.rules cause × (after ≡ before.faults))
+    (LacksRules editor.locating cause × (after ≡ before.faults))
     ⊎ ((fault : LocateFault) × (cause ≡ refusal_of_rules fault) × LocatesFor editor before after (Err fault))
 
 -- what may be answered of the schema of the editor's document

@@ -105,9 +105,13 @@ MarksStep old (Split at) reply new = ChangesMarks (tags.Split at) old reply new
 MarksStep old (Pair at name) reply new = ChangesMarks (tags.Pair at name) old reply new
 MarksStep old (Rename at name) reply new = ChangesMarks (tags.Rename at name) old reply new
 
--- the text is read to its end, as it is behind an `errors` that isn't refused, and so nothing is aside; one edit, which ends before the
--- text's end, is told; then all is read. So many tokens of the new text lead from the last mark before the edit, or from the start, to
--- the first mark behind it, and to what its state means. No more are taken
+-- Three sessions, one behind another: `before` the edit, `edited`, and `after` the `errors` that follows. The premises are of four kinds.
+--     The edit        puts UTF-8 between two places of the text, in order, and ends in front of the text's end.
+--     Before it       the marks are right, the text is read to its end, and nothing is aside: as it is behind an `errors`.
+--     What is done    the edit, in the editor and to the marks; then an `errors` that isn't refused.
+--     What is left    these tokens of the new text lead from the last mark before the edit, or from the start, to the first mark behind
+--                     it, and to what its state means.
+-- Then `errors` takes no more tokens than these, however long the text is
 abbrev pub OneEditTakesFew : Type 0
 OneEditTakesFew = (before edited after : SessionState) (from to : ℕ) (added : List ℕ) (faults : List Fault) (left : List Lexeme) →
     IsUtf8 added → IsPlace before.editor.text from → IsPlace before.editor.text to → from ≤ to →

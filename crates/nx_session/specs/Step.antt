@@ -44,8 +44,8 @@ OnFiles step old reply new =
     step old.editor old.files reply new.editor new.files × (new.views ≡ old.views) × (new.steps ≡ old.steps)
 
 -- a step of a command on files for which tokens are cut, however many
-abbrev pub OnFilesAndTags : (EditorState → FilesState → Reply → EditorState → FilesState → Type 0) → World → Reply → World → Type 0
-OnFilesAndTags step old reply new = step old.editor old.files reply new.editor new.files × (new.views ≡ old.views)
+abbrev pub CutsTokensOfFiles : (EditorState → FilesState → Reply → EditorState → FilesState → Type 0) → World → Reply → World → Type 0
+CutsTokensOfFiles step old reply new = step old.editor old.files reply new.editor new.files × (new.views ≡ old.views)
 
 -- a step of a command on files that edits the whole text, where it is done
 abbrev pub OnDocument : (EditorState → FilesState → Reply → EditorState → FilesState → Type 0) → World → Reply → World → Type 0
@@ -54,18 +54,18 @@ OnDocument step old reply new =
     × MovesViews (whole_edit old.editor new.editor) old.views reply new.views × (new.steps ≡ old.steps)
 
 -- a step of a command that cuts tokens
-abbrev pub OnTokens : (EditorState → ℕ → Reply → EditorState → ℕ → Type 0) → World → Reply → World → Type 0
-OnTokens step old reply new =
+abbrev pub CountsTokens : (EditorState → ℕ → Reply → EditorState → ℕ → Type 0) → World → Reply → World → Type 0
+CountsTokens step old reply new =
     step old.editor old.steps reply new.editor new.steps × (new.files ≡ old.files) × (new.views ≡ old.views)
 
 -- a step of a command on the editor alone for which tokens are cut, however many
-abbrev pub OnTags : (EditorState → Reply → EditorState → Type 0) → World → Reply → World → Type 0
-OnTags step old reply new = step old.editor reply new.editor × (new.files ≡ old.files) × (new.views ≡ old.views)
+abbrev pub CutsTokens : (EditorState → Reply → EditorState → Type 0) → World → Reply → World → Type 0
+CutsTokens step old reply new = step old.editor reply new.editor × (new.files ≡ old.files) × (new.views ≡ old.views)
 
 -- a step of a command on the editor and the views for which tokens are cut, however many
-abbrev pub OnTagsAndViews : (EditorState → List ViewState → Reply → EditorState → List ViewState → Type 0) → World → Reply → World →
+abbrev pub CutsTokensAndShifts : (EditorState → List ViewState → Reply → EditorState → List ViewState → Type 0) → World → Reply → World →
     Type 0
-OnTagsAndViews step old reply new = step old.editor old.views reply new.editor new.views × (new.files ≡ old.files)
+CutsTokensAndShifts step old reply new = step old.editor old.views reply new.editor new.views × (new.files ≡ old.files)
 
 -- a step of a command that cuts tokens, and shows the faults that it finds
 abbrev pub OnFaults : (EditorState → ℕ → Reply → EditorState → ℕ → Type 0) → World → Reply → World → Type 0
@@ -86,24 +86,24 @@ Step old (Insert at added) reply new = OnText (InsertStep at added) (edit_of at 
 Step old (Delete from to) reply new = OnText (DeleteStep from to) (edit_of from to []) old reply new
 Step old Print reply new = OnEditor PrintStep old reply new
 Step old Errors reply new = OnFaults ErrorsStep old reply new
-Step old (Slice count) reply new = OnTokens (SliceStep count) old reply new
+Step old (Slice count) reply new = CountsTokens (SliceStep count) old reply new
 Step old Stats reply new = OnEditor StatsStep old reply new
-Step old (SchemaFile uri) reply new = OnFilesAndTags (SchemaFileStep uri) old reply new
+Step old (SchemaFile uri) reply new = CutsTokensOfFiles (SchemaFileStep uri) old reply new
 Step old SchemaNone reply new = OnEditor (HoldStep None) old reply new
-Step old SchemaAuto reply new = OnFilesAndTags SchemaAutoStep old reply new
-Step old (Complete at) reply new = OnTags (CompleteStep at) old reply new
+Step old SchemaAuto reply new = CutsTokensOfFiles SchemaAutoStep old reply new
+Step old (Complete at) reply new = CutsTokens (CompleteStep at) old reply new
 Step old (Goto at) reply new = OnEditor (GotoStep at) old reply new
-Step old (Move way) reply new = OnTags (MoveStep way) old reply new
+Step old (Move way) reply new = CutsTokens (MoveStep way) old reply new
 Step old Next reply new = OnEditor NextStep old reply new
 Step old Previous reply new = OnEditor PreviousStep old reply new
 Step old Position reply new = OnEditor PositionStep old reply new
 Step old (View index) reply new = OnViews (ViewStep index) old reply new
 Step old (Close index) reply new = OnViews (CloseStep index) old reply new
 Step old (Make seed pieces) reply new = OnText (MakeStep seed pieces) (whole_edit old.editor new.editor) old reply new
-Step old (Finish at) reply new = OnTagsAndViews (TagStep (tags.Finish at)) old reply new
-Step old (Split at) reply new = OnTagsAndViews (TagStep (tags.Split at)) old reply new
-Step old (Pair at name) reply new = OnTagsAndViews (TagStep (tags.Pair at name)) old reply new
-Step old (Rename at name) reply new = OnTagsAndViews (TagStep (tags.Rename at name)) old reply new
+Step old (Finish at) reply new = CutsTokensAndShifts (TagStep (tags.Finish at)) old reply new
+Step old (Split at) reply new = CutsTokensAndShifts (TagStep (tags.Split at)) old reply new
+Step old (Pair at name) reply new = CutsTokensAndShifts (TagStep (tags.Pair at name)) old reply new
+Step old (Rename at name) reply new = CutsTokensAndShifts (TagStep (tags.Rename at name)) old reply new
 
 -- the text, the caret, the document's URI, the schema and the rules are as before
 pub record SameDocument (old new : EditorState) : Type 0 where
@@ -111,7 +111,7 @@ pub record SameDocument (old new : EditorState) : Type 0 where
   pub caret : new.caret ≡ old.caret
   pub document : new.document ≡ old.document
   pub schema : new.schema ≡ old.schema
-  pub rules : new.rules ≡ old.rules
+  pub locating : new.locating ≡ old.locating
 
 -- whatever the cause, a refused command leaves the text, the caret, the document's URI, the schema and the rules
 abbrev pub RefusalsLeaveTheDocument : Type 0

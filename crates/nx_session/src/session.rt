@@ -57,7 +57,7 @@ pub struct Session {
     caret: usize,
     document: DocumentUri,
     /// The URI text of the rules by which schemas are located.
-    rules: Option<Bytes>,
+    locating: Option<Bytes>,
     /// Reads the text for its faults.
     machine: Recover<Pool>,
     /// What is kept of its reading: the marks, with the faults between them.
@@ -86,7 +86,7 @@ impl Model for Session {
         caret = s.caret;
         document = s.document;
         schema = grammar_of s.machine.matcher;
-        rules = s.rules;
+        locating = s.locating;
         frontier = frontier_of s.marks.kept;
         taken = s.marks.taken;
       };
@@ -121,7 +121,7 @@ impl Session {
                     text: Text::new(alloc),
                     caret: 0,
                     document,
-                    rules,
+                    locating: rules,
                     machine,
                     marks,
                 };

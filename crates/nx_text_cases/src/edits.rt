@@ -1,3 +1,5 @@
+//! Edits of a text, and what is read of it then.
+
 ghost use Rattle.std.specs.Prelude.{◌≡◌, IfOk};
 ghost use Rattle.nx_text.specs.Changing.{AreChanges};
 

@@ -1,3 +1,5 @@
+//! Edits by a rule, of a text and of a plain string beside it.
+
 use nx_text::Text;
 use std::alloc::Global;
 use std::test::Fail;

@@ -1,3 +1,5 @@
+//! Borders of clusters, lines and columns.
+
 use nx_text::Text;
 use std::test::Fail;
 

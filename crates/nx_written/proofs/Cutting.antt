@@ -272,7 +272,7 @@ no_token front =
 pub written_utf8 : {around : List Around} {events : List trees.Event} {bytes : List ℕ} → Writes around events bytes → IsUtf8 bytes
 written_utf8 all_ended = IsUtf8-nil
 written_utf8 (a_string {bytes} text some chars_of apart more) = IsUtf8-append (escaped text) bytes (escaped_strings_are_read Text text refl chars_of).utf8 (written_utf8 more)
-written_utf8 (a_start_tag {bytes} name attributes tag written own plain writes more) = IsUtf8-append tag bytes (written_tags_are_read start_mark plain writes).utf8 (written_utf8 more)
+written_utf8 (a_start_tag {bytes} name attributes tag written own plain content writes more) = IsUtf8-append tag bytes (written_tags_are_read start_mark plain writes).utf8 (written_utf8 more)
 written_utf8 (an_empty_tag {bytes} name attributes tag written own plain writes more) = IsUtf8-append tag bytes (written_tags_are_read empty_mark plain writes).utf8 (written_utf8 more)
 written_utf8 (an_end_tag {element} {bytes} is more) = IsUtf8-append (end_tag element.written) bytes (spelling_utf8 (end_spelled element.written is)) (written_utf8 more)
 
@@ -304,7 +304,7 @@ empty_of plain writes = let t = written_tags_are_read empty_mark plain writes in
 -- behind a string stands a tag
 pub begins_apart : {element : Around} {outer : List Around} {events : List trees.Event} {bytes : List ℕ} → Writes (element ∷ outer) events bytes → BeginsApart events → BeginsTag bytes
 begins_apart (a_string text some chars_of apart more) none = absurd none
-begins_apart (a_start_tag {element} {outer} {bytes} name attributes tag written own plain writes more) a = begins_more tag bytes (begins_by tag (start_of plain writes))
+begins_apart (a_start_tag {element} {outer} {bytes} name attributes tag written own plain content writes more) a = begins_more tag bytes (begins_by tag (start_of plain writes))
 begins_apart (an_empty_tag {element} {outer} {bytes} name attributes tag written own plain writes more) a = begins_more tag bytes (begins_by tag (empty_of plain writes))
 begins_apart (an_end_tag {element} {bytes} is more) a = begins_more (end_tag element.written) bytes (begins_by (end_tag element.written) (end_spelled element.written is))
 
@@ -337,7 +337,7 @@ texts_cut front all_ended some u = no_token front
 texts_cut front (a_string {events} {bytes} text text_some chars_of apart more) some u =
     let read = escaped_strings_are_read Text text refl chars_of in
     further_token front (escaped text) bytes kinds.Text some u read.utf8 (written_utf8 more) (text_cut (escaped text) bytes (escaped_some text text_some) read.no_less (begins_apart more apart)) more (λ other size text. texts_cut other more size text)
-texts_cut front (a_start_tag {element} {outer} {bytes} name attributes tag written own plain writes more) some u =
+texts_cut front (a_start_tag {element} {outer} {bytes} name attributes tag written own plain content writes more) some u =
     let s = start_of plain writes in
     further_token front tag bytes kinds.Start some u (spelling_utf8 s) (written_utf8 more) (start_cut tag bytes s (written_utf8 more)) more (λ other size text. texts_cut other more size text)
 texts_cut front (an_empty_tag {element} {outer} {bytes} name attributes tag written own plain writes more) some u =
@@ -379,16 +379,16 @@ root_alone_cut front tag u h =
     ∙ ap (λ (ts : List Token). token_at kinds.Empty (length front) tag ∷ ts) (no_token (front ++ tag))
 
 pub root_utf8 : {events : List trees.Event} {bytes : List ℕ} → WritesRoot events bytes → IsUtf8 bytes
-root_utf8 (root_with_tags {bytes} name attributes tag written own plain writes more) = IsUtf8-append tag bytes (written_tags_are_read start_mark plain writes).utf8 (written_utf8 more)
+root_utf8 (root_with_tags {bytes} name attributes tag written own plain content writes more) = IsUtf8-append tag bytes (written_tags_are_read start_mark plain writes).utf8 (written_utf8 more)
 root_utf8 (root_alone name attributes tag written own plain writes) = (written_tags_are_read empty_mark plain writes).utf8
 
 pub root_begins : {events : List trees.Event} {bytes : List ℕ} → WritesRoot events bytes → BeginsTag bytes
-root_begins (root_with_tags {bytes} name attributes tag written own plain writes more) = begins_more tag bytes (begins_by tag (start_of plain writes))
+root_begins (root_with_tags {bytes} name attributes tag written own plain content writes more) = begins_more tag bytes (begins_by tag (start_of plain writes))
 root_begins (root_alone name attributes tag written own plain writes) = begins_by tag (empty_of plain writes)
 
 pub root_cut : {events : List trees.Event} {bytes : List ℕ} (front : List ℕ) (writes : WritesRoot events bytes) → IsUtf8 front →
     tokens_from (front ++ bytes) (length front) ≡ root_tokens (length front) writes
-root_cut front (root_with_tags {bytes} name attributes tag written own plain writes more) u =
+root_cut front (root_with_tags {bytes} name attributes tag written own plain content writes more) u =
     let s = start_of plain writes in
     let some = spelled_some s in
     let size = length-append front tag in

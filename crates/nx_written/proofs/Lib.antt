@@ -8,7 +8,6 @@ pub mod Completing
 pub mod Reaching
 pub mod Begun
 pub mod BegunTexts
-pub mod Places
 pub mod Prefixes
 pub mod Spellings
 pub mod Writing

@@ -8,7 +8,7 @@ use Rattle.nx_base.specs.declared.name.Name.{Name}
 use Rattle.nx_events.specs.Spelling.{Written, spelled_before, spelled_all, spelled_tag}
 use Rattle.nx_events.specs.declared.scope.Binding.{Binding}
 use Rattle.nx_events.specs.declared.state.OpenElement.{OpenElement}
-use Rattle.nx_written.specs.Documents.{Around, in_scope, end_tag, ArePlain, BeginsApart, Writes, all_ended, a_string, a_start_tag, an_empty_tag, an_end_tag, WritesRoot, root_with_tags, root_alone}
+use Rattle.nx_written.specs.Documents.{Around, in_scope, end_tag, ArePlain, BeginsApart, BeginsContent, Writes, all_ended, a_string, a_start_tag, an_empty_tag, an_end_tag, WritesRoot, root_with_tags, root_alone}
 use Rattle.nx_written.specs.Escaping.{escaped}
 use Rattle.nx_written.specs.Naming.{NamesElement, NamesAttribute}
 use Rattle.nx_written.specs.Reading.{open_elements}
@@ -63,7 +63,7 @@ pub record AddsText (IsText : List ℕ → Type 0) (old new : Held) : Type 0 whe
 
 -- behind the attributes of the tag of an element
 data EndsTag (element : Around) (outer : List Around) (events : List Event) (bytes : List ℕ) : Type 0 where
-  with_content : (rest : List ℕ) → Writes (element ∷ outer) events rest → bytes ≡ codes ">" ++ rest → EndsTag element outer events bytes
+  with_content : (rest : List ℕ) → BeginsContent events → Writes (element ∷ outer) events rest → bytes ≡ codes ">" ++ rest → EndsTag element outer events bytes
   without : (after : List Event) (rest : List ℕ) → events ≡ Leave ∷ after → Writes outer after rest → bytes ≡ codes "/>" ++ rest → EndsTag element outer events bytes
 
 -- in a tag that declares these so far
@@ -120,21 +120,15 @@ record IsOpened (IsText : List ℕ → Type 0) (start : List ℕ) (it : Held) (e
   text : it.text ++ opening_end it.stage ≡ start ++ so_far
   says : (bytes : List ℕ) → Writes (element ∷ outer) events bytes → IsText (so_far ++ bytes)
 
--- events that don't begin with an end, and are left
-OpensContent : List Event → Type 0
-OpensContent (Enter name ∷ events) = Unit {0}
-OpensContent (Chars text ∷ events) = Unit {0}
-OpensContent _ = ⊥
-
-opened : {IsText : List ℕ → Type 0} {start : List ℕ} {it : Held} {events : List Event} → OpensContent events → Going IsText start it events → IsOpened IsText start it events
-unfolding Needs Follows OpensContent
+opened : {IsText : List ℕ → Type 0} {start : List ℕ} {it : Held} {events : List Event} → BeginsContent events → Going IsText start it events → IsOpened IsText start it events
+unfolding Needs Follows
 opened {IsText} {start} {it} {events} content g = by it.stage refl g.around g.inside g.needs g.says
   where
     by : (s : Stage) → it.stage ≡ s → (around : List Around) → IsInside around it → Needs it.stage around events →
         ((bytes : List ℕ) → Follows it.stage around events bytes → IsText (g.so_far ++ bytes)) → IsOpened IsText start it events
     by stage.Inside e [] inside needs says = absurd (none events content (subst (λ (s : Stage). Needs s [] events) e needs))
       where
-        none : (es : List Event) → OpensContent es → AreLeft 0 es → ⊥
+        none : (es : List Event) → BeginsContent es → AreLeft 0 es → ⊥
         none [] c nothing_left = c
         none (Leave ∷ es) c l = c
         none (TagEnd ∷ es) c l = c
@@ -155,9 +149,9 @@ opened {IsText} {start} {it} {events} content g = by it.stage refl g.around g.in
         let left = subst (λ (s : Stage). Needs s (element ∷ outer) events) e needs in
         absurd (none events left.attributes left.after content left.is)
       where
-        none : (es : List Event) (them : List Attribute) (after : List Event) → OpensContent es → es ≡ attributes_flat them (TagEnd ∷ after) → ⊥
-        none es [] after c f = subst OpensContent f c
-        none es (a ∷ them) after c f = subst OpensContent f c
+        none : (es : List Event) (them : List Attribute) (after : List Event) → BeginsContent es → es ≡ attributes_flat them (TagEnd ∷ after) → ⊥
+        none es [] after c f = subst BeginsContent f c
+        none es (a ∷ them) after c f = subst BeginsContent f c
     by stage.Ended e [] inside needs says = absurd (subst (λ (s : Stage). Needs s [] events) e needs)
     by stage.Ended e (element ∷ outer) inside needs says = record {
       element = element;
@@ -167,7 +161,7 @@ opened {IsText} {start} {it} {events} content g = by it.stage refl g.around g.in
       so_far = g.so_far ++ codes ">";
       text = ap (λ (s : Stage). it.text ++ opening_end s) e ∙ ap (λ xs. xs ++ codes ">") g.text ∙ append_assoc start g.so_far (codes ">");
       says = λ bytes w. subst IsText (sym (append_assoc g.so_far (codes ">") bytes))
-          (says (codes ">" ++ bytes) (subst (λ (s : Stage). Follows s (element ∷ outer) events (codes ">" ++ bytes)) (sym e) (with_content bytes w refl)));
+          (says (codes ">" ++ bytes) (subst (λ (s : Stage). Follows s (element ∷ outer) events (codes ">" ++ bytes)) (sym e) (with_content bytes content w refl)));
     }
 
 -- the whole tag, by what follows its name
@@ -202,11 +196,11 @@ module _ {name : Name} {events : List Event} where
 
         by : ArePlain t.attributes → EndsTag (record { written = written; own = own ++ t.own }) (element ∷ outer) t.after t.rest →
             Writes (element ∷ outer) (Enter name ∷ events) (begin ++ bytes)
-        by plain_here (with_content rest w e) =
+        by plain_here (with_content rest content w e) =
             let P : List Event → List ℕ → Type 0 = λ es xs. Writes (element ∷ outer) (Enter name ∷ es) xs in
             subst (λ es. P es (begin ++ bytes)) (sym t.events_are)
             (subst (λ xs. P (attributes_flat t.attributes (TagEnd ∷ t.after)) xs) (whole (codes ">") rest e)
-            (a_start_tag name t.attributes (spelled_tag written (declarations own ++ t.its) (codes ">")) written (own ++ t.own) plain_here (tag (codes ">")) w))
+            (a_start_tag name t.attributes (spelled_tag written (declarations own ++ t.its) (codes ">")) written (own ++ t.own) plain_here content (tag (codes ">")) w))
         by plain_here (without left rest f w e) =
             let P : List Event → List ℕ → Type 0 = λ es xs. Writes (element ∷ outer) (Enter name ∷ es) xs in
             subst (λ es. P es (begin ++ bytes)) (sym (t.events_are ∙ ap (λ es. attributes_flat t.attributes (TagEnd ∷ es)) f))
@@ -226,7 +220,7 @@ enter_needs (element_left name attributes named plain left) = record { attribute
 
 enter_goes : {IsText : List ℕ → Type 0} {start : List ℕ} {old new : Held} {name : Name} {events : List Event} →
     EntersElement name old new → Going IsText start old (Enter name ∷ events) → Going IsText start new events
-unfolding Needs Follows OpensContent
+unfolding Needs Follows
 enter_goes {IsText} {start} {old} {new} {name} {events} w g =
     let o = opened tt g in
     let n = enter_needs o.left in
@@ -263,7 +257,7 @@ string_needs (string_left text some chars apart left) = record { some = some; ch
 
 string_goes : {IsText : List ℕ → Type 0} {start : List ℕ} {old new : Held} {string : List ℕ} {events : List Event} →
     AddsString string old new → Going IsText start old (Chars string ∷ events) → Going IsText start new events
-unfolding Needs Follows OpensContent
+unfolding Needs Follows
 string_goes {IsText} {start} {old} {new} {string} {events} w g =
     let o = opened tt g in
     let n = string_needs o.left in
@@ -574,10 +568,10 @@ root_entered name written own events named attributes after plain is bytes t =
     alone (event ∷ left) rest w plain_here f e = elim w [ ]
 
     by : ArePlain t.attributes → EndsTag (record { written = written; own = own ++ t.own }) [] t.after t.rest → WritesRoot (Enter name ∷ events) (begin ++ bytes)
-    by plain_here (with_content rest w e) =
+    by plain_here (with_content rest content w e) =
         subst (λ es. WritesRoot (Enter name ∷ es) (begin ++ bytes)) (sym t.events_are)
         (subst (λ xs. WritesRoot (Enter name ∷ attributes_flat t.attributes (TagEnd ∷ t.after)) xs) (whole (codes ">") rest e)
-        (root_with_tags name t.attributes (spelled_tag written (declarations own ++ t.its) (codes ">")) written (own ++ t.own) plain_here (tag (codes ">")) w))
+        (root_with_tags name t.attributes (spelled_tag written (declarations own ++ t.its) (codes ">")) written (own ++ t.own) plain_here content (tag (codes ">")) w))
     by plain_here (without left rest f w e) = alone left rest w plain_here f e
 
 root_begins : {old new : Held} (root : List Event) (r : RootIsLeft root) → old.open_tags ≡ [] → old.scope ≡ [] → old.stage ≡ stage.Inside →
@@ -667,10 +661,10 @@ begun_text element outer a more after its own rest (an_attribute {its = others} 
 
     by : EndsTag (record { written = element.written; own = element.own ++ (own_first ++ own_others) }) outer after rest →
         BegunText element outer (attributes_flat (a ∷ more) (TagEnd ∷ after)) (a ∷ more) bytes
-    by (with_content left w f) = record {
+    by (with_content left content w f) = record {
       text = added (codes ">") ++ left;
       is = whole (codes ">") left f;
-      begun = goes_inside (added (codes ">")) (own_first ++ own_others) (on (codes ">")) w;
+      begun = goes_inside (added (codes ">")) (own_first ++ own_others) content (on (codes ">")) w;
     }
     by (without behind_it left g w f) = record {
       text = added (codes "/>") ++ left;

@@ -1,6 +1,5 @@
 pub mod Escaping
 pub mod Naming
-pub mod Places
 pub mod Spellings
 pub mod Tags
 pub mod Pieces

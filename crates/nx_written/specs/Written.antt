@@ -15,8 +15,8 @@ use Rattle.nx_written.specs.Reading.{open_elements}
 -- inside of so many open elements: strings that aren't empty and stand apart, elements with their attributes first, and the ends of all
 pub data AreLeft : ℕ → List Event → Type 0 where
   nothing_left : AreLeft 0 []
-  string_left : {n : ℕ} {events : List Event} (text : List ℕ) → 0 < length text → IsTrue (is_of_chars text) → BeginsApart events → AreLeft (suc n) events
-      → AreLeft (suc n) (Chars text ∷ events)
+  string_left : {n : ℕ} {events : List Event} (text : List ℕ) → 0 < length text → IsTrue (is_of_chars text) → BeginsApart events
+      → AreLeft (suc n) events → AreLeft (suc n) (Chars text ∷ events)
   element_left : {n : ℕ} {events : List Event} (name : Name) (attributes : List Attribute) → IsTrue (is_xml_name name) → ArePlain attributes
       → AreLeft (suc (suc n)) events → AreLeft (suc n) (Enter name ∷ attributes_flat attributes (TagEnd ∷ events))
   end_left : {n : ℕ} {events : List Event} → AreLeft n events → AreLeft (suc n) (Leave ∷ events)

@@ -7,7 +7,7 @@
 //! The idea: which prefix is taken for a namespace is left to the one who writes. The definitions ask only that the written name expands to
 //! the name, and that a prefix which is declared is new.
 //!
-//! Declarations in force are found in maps, by prefix and by URI (`scope`), and a new prefix has a number behind those in force. So a name
+//! Declarations in force are found in maps, by prefix and by URI (`scope`), and a new prefix has the least number that none in force has. So a name
 //! takes a few look-ups, however many declarations there are.
 //!
 //! Inside of `<doc>`, an element `b` of the namespace `u` with the text `x<y`, and the end of `doc`, may be written
@@ -17,15 +17,16 @@
 pub mod declaration;
 mod escape;
 pub mod law;
-mod name_places;
 pub mod open_tag;
 mod prefix;
 mod scope;
 mod serving;
 mod spelling;
+pub mod state;
 mod tag;
 pub mod writer;
 
 pub use declaration::Declaration;
 pub use open_tag::OpenTag;
+pub use state::{write_in_tag, write_inside};
 pub use writer::{write_attributes, write_rest};

@@ -1,14 +1,13 @@
 //! Prefixes of namespaces (Namespaces in XML 1.0, sections 3 to 5).
 
-ghost use Rattle.std.specs.Prelude.{◌≡◌, ◌∷◌, true, false, Some, IfSome, MatchOption, IfOk};
-ghost use Rattle.std.specs.Fmt.{decimal};
+ghost use Rattle.std.specs.Prelude.{◌≡◌, true, false, Some, IfSome, MatchOption, IfOk};
 ghost use Rattle.std.specs.Str.{bytes_eq};
 ghost use Rattle.nx_base.specs.Names.{is_local};
 ghost use Rattle.nx_events.specs.Scopes.{last_uri, xml_uri};
 ghost use Rattle.nx_written.specs.Spellings.{Serves, IsFree};
 
 use crate::declaration::Declaration;
-use crate::scope::Scope;
+use crate::scope::{Scope, numbered};
 use nx_base::character::is_nc_name;
 use nx_base::memory::NoMemory;
 use nx_base::sequence::Bytes;
@@ -72,14 +71,7 @@ pub(crate) fn prefix_of<'a>(scope: &'a Scope, uri: &[u8]) -> Option<&'a [u8]>
     declared_prefix(scope, uri)
 }
 
-/// `n` and a number.
-fn numbered(alloc: Global, number: u64) -> Result<Vec<u8>, NoMemory>
-    ensures { IfOk result (λ prefix. prefix.items ≡ 110 ∷ decimal number) }
-{
-    Ok(format!(in alloc; "n{number}")?.into_bytes())
-}
-
-/// `n` and a number that no declaration in force has. The numbers would run out only behind more declarations than memory holds.
+/// `n` and the least number that no declaration in force has. What the scope tells of it is a guess to a contract, so it is asked.
 pub(crate) fn free_prefix(alloc: Global, scope: &Scope) -> Result<Bytes, NoMemory>
     ensures { IfOk result (IsFree scope.now) }
 {

@@ -1,14 +1,15 @@
 //! Declarations in force, found by prefix and by URI (Namespaces in XML 1.0, section 3).
 
 ghost use Rattle.std.specs.Prelude.{◌≡◌, ◌++◌, ◌∷◌, ◌-◌, [], length, take, map, option_copied, IfOk, OnOk};
+ghost use Rattle.std.specs.Fmt.{decimal};
 ghost use Rattle.nx_events.specs.Places.{last_place, last_named};
 ghost use Rattle.nx_events.specs.Scopes.{last_uri};
 ghost use Rattle.nx_events.specs.declared.scope.Binding.{Binding};
 
 use crate::declaration::Declaration;
-use crate::name_places::NamePlaces;
 use crate::serving::Serving;
 use nx_base::memory::NoMemory;
+use nx_events::name_places::NamePlaces;
 use std::alloc::Global;
 use std::marker::Model;
 
@@ -20,10 +21,12 @@ pub(crate) struct Scope {
     /// Their prefixes.
     prefixes: NamePlaces,
     serving: Serving,
-    /// A number that is greater than those of prefixes in force that are `n` and a number.
+    /// The least number that isn't the one of a prefix in force that is `n` and a number.
     number: u64,
     /// What that was in front of each declaration.
     numbers: Vec<u64>,
+    /// Numbers that were passed over at once.
+    passed: Passed,
 }
 
 impl Model for Scope {
@@ -37,11 +40,20 @@ impl Model for Scope {
     ghost invariant = { λ s. s.prefixes ≡ map (λ (it : Binding). it.prefix) s.declarations.items };
 }
 
-/// The number behind that of a prefix, if it is `n` and a number.
-fn number_behind(prefix: &[u8]) -> Option<u64> {
-    let digits = str::from_utf8(prefix.strip_prefix(b"n")?).ok()?;
-    let number: u32 = digits.parse().ok()?;
-    Some(u64::from(number) + 1)
+/// `n` and a number.
+pub(crate) fn numbered(alloc: Global, number: u64) -> Result<Vec<u8>, NoMemory>
+    ensures { IfOk result (λ prefix. prefix.items ≡ 110 ∷ decimal number) }
+{
+    Ok(format!(in alloc; "n{number}")?.into_bytes())
+}
+
+/// Numbers in a row that prefixes among the first declarations have, so that they needn't be asked one by one again.
+#[derive(Clone, Copy)]
+struct Passed {
+    first: u64,
+    behind: u64,
+    /// So many declarations have them.
+    declarations: usize,
 }
 
 impl Scope {
@@ -56,6 +68,11 @@ impl Scope {
             serving: Serving::new(alloc),
             number: 0,
             numbers: Vec::new(alloc),
+            passed: Passed {
+                first: 0,
+                behind: 0,
+                declarations: 0,
+            },
         }
     }
 
@@ -77,7 +94,7 @@ impl Scope {
         self.declarations.len()
     }
 
-    /// The number to try first for a new prefix.
+    /// The least number that isn't the one of a prefix in force that is `n` and a number.
     pub(crate) fn first_number(&self) -> u64 {
         self.number
     }
@@ -129,13 +146,47 @@ impl Scope {
         Ok(())
     }
 
+    /// How many declarations have to be in force for a prefix of them to be `n` and this number.
+    fn declarations_of(&self, number: u64) -> Result<Option<usize>, NoMemory> {
+        let prefix = numbered(self.alloc, number)?;
+        match self.prefixes.last_place(&prefix) {
+            None => Ok(None),
+            Some(place) => Ok(Some(place + 1)),
+        }
+    }
+
+    /// Goes on to the next number that no prefix in force has. They would run out only behind more declarations than memory holds.
+    fn pass_numbers(&mut self) -> Result<(), NoMemory>
+        ensures { OnOk result (self.new ≡ self.old) }
+    {
+        let first = self.number.checked_add(1).ok_or(NoMemory)?;
+        let mut passed = Passed {
+            first,
+            behind: first,
+            declarations: 0,
+        };
+        if first == self.passed.first && self.passed.declarations <= self.len() {
+            passed = self.passed;
+        }
+        for number in passed.behind..u64::MAX {
+            let Some(declarations) = self.declarations_of(number)? else {
+                passed.behind = number;
+                self.number = number;
+                self.passed = passed;
+                return Ok(());
+            };
+            passed.declarations = passed.declarations.max(declarations);
+        }
+        Err(NoMemory)
+    }
+
     /// Notes the number of a prefix that is put in force.
     fn count(&mut self, prefix: &[u8]) -> Result<(), NoMemory>
-        ensures { self.new ≡ self.old }
+        ensures { OnOk result (self.new ≡ self.old) }
     {
         self.numbers.push(self.number)?;
-        if let Some(number) = number_behind(prefix) {
-            self.number = self.number.max(number);
+        if numbered(self.alloc, self.number)?.as_slice() == prefix {
+            self.pass_numbers()?;
         }
         Ok(())
     }

@@ -22,7 +22,7 @@ type Row = (
     &'static str,
 );
 
-const ROWS: [Row; 14] = [
+const ROWS: [Row; 15] = [
     // an empty element, and the end of what is open
     (
         &[],
@@ -78,7 +78,7 @@ const ROWS: [Row; 14] = [
         ],
         "<n0:b xmlns:n0='u'/></doc>",
     ),
-    // a number behind those in force
+    // the least number that none in force has
     (
         &[("n0", "x"), ("n2", "y")],
         &[
@@ -87,7 +87,28 @@ const ROWS: [Row; 14] = [
             ("/", "", "", ""),
             ("/", "", "", ""),
         ],
-        "<n3:b xmlns:n3='u'/></doc>",
+        "<n1:b xmlns:n1='u'/></doc>",
+    ),
+    // one of them is free again behind its element, and those above are passed over each time
+    (
+        &[("n2", "x"), ("n1", "x"), ("n02", "y")],
+        &[
+            ("E", "u", "b", ""),
+            (">", "", "", ""),
+            ("E", "v", "c", ""),
+            ("A", "w", "d", "1"),
+            (">", "", "", ""),
+            ("/", "", "", ""),
+            ("/", "", "", ""),
+            ("E", "u", "b", ""),
+            (">", "", "", ""),
+            ("E", "w", "c", ""),
+            (">", "", "", ""),
+            ("/", "", "", ""),
+            ("/", "", "", ""),
+            ("/", "", "", ""),
+        ],
+        "<n0:b xmlns:n0='u'><n3:c xmlns:n3='v' n4:d='1' xmlns:n4='w'/></n0:b><n0:b xmlns:n0='u'><n3:c xmlns:n3='w'/></n0:b></doc>",
     ),
     // two declarations of one namespace: the default serves the element, and the other the attribute
     (

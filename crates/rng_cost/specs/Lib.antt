@@ -2,3 +2,4 @@ pub mod Costs
 pub mod Least
 pub mod Leaves
 pub mod Rounds
+pub mod Sides

@@ -1,15 +1,15 @@
 //! The leaves by which a pattern is filled at the least cost.
 //!
-//! One walk finds the leaves and the cost of both sides of a choice, and then lets go of those of the dearer side. So each node is
-//! looked at once, however long a chain of choices is. Where the second side is cheaper its leaves, 10,000 at most, are
-//! moved to the place of the first side's, at each choice above them.
+//! A first walk notes of each choice which side costs less, and a second one, which takes these notes in the order of its own walk, adds
+//! the leaves of those sides. So each node is looked at twice, and each leaf is put in its place once, however long a chain of choices
+//! is.
 
-ghost use Rattle.std.specs.Prelude.{◌≡◌, ◌≤◌, [], ◌∷◌, ◌++◌, nat_le, min, length, take, drop, if◌then◌else◌, IfOk, OnOk};
+ghost use Rattle.std.specs.Prelude.{◌≡◌, [], ◌∷◌, ◌++◌, ◌&&◌, not, if◌then◌else◌, IfOk, OnOk};
 ghost use Rattle.rng_core.specs.Meaning.{pattern_of};
-ghost use Rattle.rng_cost.specs.Least.{least as least_of};
 ghost use Rattle.rng_cost.specs.Leaves.{leaves as leaves_by, patterns_of};
+ghost use Rattle.rng_cost.specs.Sides.{AddsLeaves};
 
-use crate::pattern_cost::{OVER, both, element_cost};
+use crate::sides::{Sides, note_sides};
 use nx_base::memory::NoMemory;
 use nx_base::sequence::Sequence;
 use rng_core::grammar::Pat;
@@ -18,93 +18,64 @@ use std::alloc::Global;
 /// Leaves of a pattern, in order.
 pub type Leaves<'a> = Sequence<&'a Pat>;
 
-/// Adds a leaf, and answers its cost.
-#[inline(never)]
-fn add_leaf<'a>(leaf: &'a Pat, cost: u32, leaves: &mut Leaves<'a>) -> Result<u32, NoMemory>
-    ensures cost { IfOk result (λ told. told ≡ cost) }
-    ensures added { OnOk result (patterns_of leaves.new ≡ patterns_of leaves.old ++ pattern_of leaf.now ∷ []) }
+/// Adds a leaf, if it is on a side that is filled.
+fn add_leaf<'a>(leaf: &'a Pat, filled: bool, leaves: &mut Leaves<'a>) -> Result<(), NoMemory>
+    ensures { OnOk result (patterns_of leaves.new ≡ patterns_of leaves.old ++ (if filled then pattern_of leaf.now ∷ [] else [])) }
 {
-    leaves.push(leaf)?;
-    Ok(cost)
-}
-
-/// Of leaves of which those from one place on are of the first side of a choice, and those from another on of the second, keeps
-/// those of the cheaper side, of the first where both cost alike. Answers its cost.
-#[inline(never)]
-fn keep_cheapest(
-    leaves: &mut Leaves<'_>,
-    from: usize,
-    middle: usize,
-    first: u32,
-    second: u32,
-) -> u32
-    requires ordered { from ≤ middle }
-    requires inside { middle ≤ length leaves.old }
-    ensures cost { result ≡ min first second }
-    ensures kept { leaves.new ≡ (if nat_le first second then take middle leaves.old else take from leaves.old ++ drop middle leaves.old) }
-{
-    if first <= second {
-        let end = leaves.len();
-        leaves.cut(middle, end);
-        return first;
+    if !filled {
+        return Ok(());
     }
-    leaves.cut(from, middle);
-    second
+    leaves.push(leaf)?;
+    Ok(())
 }
 
-/// Adds the leaves of a pattern, and answers what they cost together.
-fn add_leaves<'a>(costs: &[u32], pattern: &'a Pat, leaves: &mut Leaves<'a>) -> Result<u32, NoMemory>
-    ensures cost { IfOk result (λ cost. cost ≡ least_of costs.now (pattern_of pattern.now)) }
-    ensures within { IfOk result (λ cost. cost ≤ 10001) }
-    ensures added { OnOk result (patterns_of leaves.new ≡ patterns_of leaves.old ++ leaves_by costs.now (pattern_of pattern.now)) }
+/// Whether both hold.
+fn both(one: bool, other: bool) -> bool
+    ensures { result ≡ (one && other) }
+{
+    one && other
+}
+
+/// Adds the leaves of a pattern, if it is on a side that is filled, by what is noted of its choices.
+fn add_leaves<'a>(
+    pattern: &'a Pat,
+    filled: bool,
+    sides: &mut Sides,
+    leaves: &mut Leaves<'a>,
+) -> Result<(), NoMemory>
+    ensures { OnOk result (AddsLeaves filled (pattern_of pattern.now) sides.old sides.new (patterns_of leaves.old) (patterns_of leaves.new)) }
 {
     match pattern {
-        Pat::NotAllowed => {
-            let cost = add_leaf(pattern, OVER, leaves)?;
-            Ok(cost)
-        }
-        Pat::Empty => Ok(0),
-        Pat::Text => Ok(0),
-        Pat::Typed(_, _) => {
-            let cost = add_leaf(pattern, 1, leaves)?;
-            Ok(cost)
-        }
-        Pat::Value(_, _) => {
-            let cost = add_leaf(pattern, 1, leaves)?;
-            Ok(cost)
-        }
-        Pat::List(_) => {
-            let cost = add_leaf(pattern, 1, leaves)?;
-            Ok(cost)
-        }
-        Pat::Attribute(_, _) => {
-            let cost = add_leaf(pattern, 1, leaves)?;
-            Ok(cost)
-        }
-        Pat::Ref(number) => {
-            let cost = add_leaf(pattern, element_cost(costs, *number), leaves)?;
-            Ok(cost)
+        Pat::Empty => Ok(()),
+        Pat::Text => Ok(()),
+        Pat::NotAllowed
+        | Pat::Typed(_, _)
+        | Pat::Value(_, _)
+        | Pat::List(_)
+        | Pat::Attribute(_, _)
+        | Pat::Ref(_) => {
+            add_leaf(pattern, filled, leaves)?;
+            Ok(())
         }
         Pat::OneOrMore(body) => {
-            let cost = add_leaves(costs, body, leaves)?;
-            Ok(cost)
+            add_leaves(body, filled, sides, leaves)?;
+            Ok(())
         }
         Pat::Choice(a, b) => {
-            let from = leaves.len();
-            let first = add_leaves(costs, a, leaves)?;
-            let middle = leaves.len();
-            let second = add_leaves(costs, b, leaves)?;
-            Ok(keep_cheapest(leaves, from, middle, first, second))
+            let first = sides.pop();
+            add_leaves(a, both(filled, first), sides, leaves)?;
+            add_leaves(b, both(filled, !first), sides, leaves)?;
+            Ok(())
         }
         Pat::Group(a, b) => {
-            let first = add_leaves(costs, a, leaves)?;
-            let second = add_leaves(costs, b, leaves)?;
-            Ok(both(first, second))
+            add_leaves(a, filled, sides, leaves)?;
+            add_leaves(b, filled, sides, leaves)?;
+            Ok(())
         }
         Pat::Interleave(a, b) => {
-            let first = add_leaves(costs, a, leaves)?;
-            let second = add_leaves(costs, b, leaves)?;
-            Ok(both(first, second))
+            add_leaves(a, filled, sides, leaves)?;
+            add_leaves(b, filled, sides, leaves)?;
+            Ok(())
         }
     }
 }
@@ -117,7 +88,9 @@ pub(crate) fn cheapest_leaves<'a>(
 ) -> Result<Leaves<'a>, NoMemory>
     ensures { IfOk result (λ found. patterns_of found ≡ leaves_by costs.now (pattern_of pattern.now)) }
 {
+    let mut sides = Sides::new(alloc);
+    note_sides(costs, pattern, &mut sides)?;
     let mut leaves = Leaves::new(alloc);
-    add_leaves(costs, pattern, &mut leaves)?;
+    add_leaves(pattern, true, &mut sides, &mut leaves)?;
     Ok(leaves)
 }

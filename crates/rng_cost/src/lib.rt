@@ -13,7 +13,8 @@
 //! order that is worst for it takes some ten million looks, and a schema of a million nodes with such a chain in it 3,335 times a million,
 //! which is tens of seconds.
 //!
-//! What a pattern is filled by at this cost are its leaves (`cheapest`): of each choice those of the cheaper side.
+//! What a pattern is filled by at this cost are its leaves (`cheapest`): of each choice those of the cheaper side, which is noted
+//! first (`sides`).
 #![tactic(auto)]
 
 pub mod cheapest;
@@ -21,6 +22,7 @@ mod costs;
 pub mod law;
 mod pattern_cost;
 mod rounds;
+mod sides;
 
 pub use cheapest::Leaves;
 pub use costs::{Costs, MOST_COST};

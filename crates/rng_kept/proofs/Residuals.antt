@@ -4,7 +4,7 @@ use Rattle.std.specs.Str.{chars, is_utf8}
 use lib.Utf8.{encode}
 use Rattle.nx_base.specs.Characters.{is_char, is_space, is_name_start, is_name_char}
 use Rattle.rng_kept.specs.SmallPatterns.{star}
-use Rattle.rng_kept.specs.Examples.{LeavesResiduals, ShufflesChildren, NeedsElements}
+use Rattle.rng_kept.specs.Examples.{LeavesResiduals, ShufflesChildren, SharesWays, NeedsElements}
 
 pub leaves_residuals : LeavesResiduals
 unfolding star is_char is_space is_name_start is_name_char chars is_utf8 encode
@@ -32,6 +32,10 @@ leaves_residuals = record {
 pub shuffles_children : ShufflesChildren
 unfolding star is_char is_space is_name_start is_name_char chars is_utf8 encode
 shuffles_children = record { a_b_a = refl; no_second_b = refl; no_end_without_a = refl }
+
+pub shares_ways : SharesWays
+unfolding star is_char is_space is_name_start is_name_char chars is_utf8 encode
+shares_ways = record { one_way = refl; either_then_either = refl; none_behind = refl }
 
 pub needs_elements : NeedsElements
 unfolding star is_char is_space is_name_start is_name_char chars is_utf8 encode

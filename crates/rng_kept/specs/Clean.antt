@@ -13,15 +13,20 @@ use Rattle.rng_core.specs.Soundness.{IsSoundPattern}
 use Rattle.rng_kept.specs.SmallPatterns.{is_not_allowed}
 use Rattle.rng_kept.specs.Lists.{has_no_list, has_flat_lists}
 
--- a string that is matched, not blank where blanks is false
+-- a string that the pattern matches; one that isn't blank, where `blanks` is false
 pub record TakesString (g : List Definition) (blanks : Bool) (p : Pattern) : Type 0 where
   pub text : List ℕ
   pub of_chars : IsTrue (is_of_chars text)
   pub kind : (blanks || not (is_blank text)) ≡ true
   pub matched : Matches g p [] (string text nil)
 
--- each part of a pattern matches something that can be written, each leaf is one of a sound grammar, and no list stands in a list. No
--- attributes are matched where attributes is false, and no blank strings where blanks is false
+-- No part of the pattern is dead: each matches something that can be written. Each leaf is one of a sound grammar, and no list stands
+-- in a list. Two questions tell where the pattern stands. `attributes`: may attributes come? They may in a start tag that is open; where
+-- they may not, no attribute pattern is left. `blanks`: does a blank string count? It does among children as they stand; where it
+-- doesn't, since children are seen without blank strings, each leaf matches a string that isn't blank. So a pattern is
+--     `Clean g true true` in an open start tag,
+--     `Clean g false true` for children as they stand, and
+--     `Clean g false false` for children without blank strings
 pub data Clean (g : List Definition) (attributes blanks : Bool) : Pattern → Type 0 where
   clean_empty : Clean g attributes blanks empty
   clean_text : Clean g attributes blanks any_text
@@ -41,6 +46,6 @@ pub data Clean (g : List Definition) (attributes blanks : Bool) : Pattern → Ty
   clean_interleave : {p q : Pattern} → Clean g attributes blanks p → Clean g attributes blanks q
       → Clean g attributes blanks (interleave p q)
 
--- notAllowed, or such a pattern
+-- such a pattern, or notAllowed: a view of the children (as they stand, or without blank strings) that is dead as a whole
 pub record Fine (g : List Definition) (attributes blanks : Bool) (p : Pattern) : Type 0 where
   pub clean : is_not_allowed p ≡ false → Clean g attributes blanks p

@@ -5,8 +5,8 @@ use Rattle.rng_core.specs.Patterns.{Pattern, Definition, not_allowed}
 use Rattle.rng_kept.specs.SmallPatterns.{choice_of}
 use Rattle.rng_kept.specs.Openings.{Opening, opens}
 use Rattle.rng_kept.specs.Skipping.{skip_opens}
-use Rattle.rng_kept.specs.Residuals.{Outer, document, inside, Way, among, in_tag, Residual}
-use Rattle.rng_kept.specs.Merging.{stepped}
+use Rattle.rng_kept.specs.Residuals.{Outer, document, inside, one_of, Way, among, in_tag, Residual}
+use Rattle.rng_kept.specs.Merging.{with_ways, stepped}
 
 abbrev pub content_in : Option Definition → Pattern
 content_in None = not_allowed
@@ -45,6 +45,7 @@ enter_outer g n (inside b l v o) =
     let strict = opens g n b in
     let loose = opens g n l in
     map (tag_of_both g loose o) strict ++ map (tag_of_loose g o) (others strict loose)
+enter_outer g n (one_of o u) = with_ways (enter_outer g n o) (enter_outer g n u)
 
 abbrev pub enter_way : List Definition → Name → Way → Residual
 enter_way g n (among o) = enter_outer g n o
@@ -61,6 +62,7 @@ skip_outer g n (inside b l v o) =
     let strict = skip_opens g n b in
     let loose = skip_opens g n l in
     map (tag_of_both g loose o) strict ++ map (tag_of_loose g o) (others strict loose)
+skip_outer g n (one_of o u) = with_ways (skip_outer g n o) (skip_outer g n u)
 
 abbrev pub skip_way : List Definition → Name → Way → Residual
 skip_way g n (among o) = skip_outer g n o

@@ -1,5 +1,5 @@
 -- Worked examples: a schema with its kept lists and residuals, step by step.
-use Rattle.std.specs.Prelude.{◌≡◌, ℕ, List, [], ◌∷◌, codes, true, false, Some, None, IsSome}
+use Rattle.std.specs.Prelude.{◌≡◌, ℕ, List, [], ◌∷◌, length, codes, true, false, Some, None, IsSome}
 use Rattle.nx_base.specs.declared.name.Name.{Name}
 use Rattle.nx_base.specs.Trees.{nil, string, element, Event, Enter, Att, TagEnd, Chars, Leave}
 use Rattle.rng_types.specs.declared.datatype.Datatype.{Datatype}
@@ -153,13 +153,39 @@ pub record ShufflesChildren : Type 0 where
   pub no_second_b : answered (behind_empty b (behind_empty b (inside_root shuffled))) ≡ None
   pub no_end_without_a : answered (leave (behind_empty b (inside_root shuffled))) ≡ None
 
--- ---- elements that are needed where content is skipped
+-- ---- two definitions of one name, each inside of the other
 
 abbrev pub c : Name
 c = plain_name (codes "c")
 
 abbrev pub d : Name
 d = plain_name (codes "d")
+
+-- element r { (itself, element b { empty }) | (the other, element d { empty }) | empty }
+abbrev pub of_either : Pattern
+of_either = choice (choice (group (ref 0) (ref 2)) (group (ref 1) (ref 3))) empty
+
+abbrev pub doubled : Language
+doubled = record {
+  start = ref 0;
+  definitions = element_of r of_either ∷ element_of r of_either ∷ element_of b empty ∷ element_of d empty ∷ [];
+}
+
+-- inside of an r
+abbrev pub in_r : Residual → Residual
+in_r x = tag_end (enter doubled.definitions r x)
+
+-- behind a b or a d, and the end of what it stands in
+abbrev pub behind_end : Name → Residual → Residual
+behind_end n x = leave (leave (tag_end (enter doubled.definitions n x)))
+
+-- at each depth there is one way to go on, and what comes behind an r may be what either definition wants there
+pub record SharesWays : Type 0 where
+  pub one_way : length (in_r (in_r (inside_root doubled))) ≡ 1
+  pub either_then_either : IsSome (answered (behind_end d (behind_end b (leave (in_r (in_r (inside_root doubled)))))))
+  pub none_behind : answered (leave (leave (in_r (inside_root doubled)))) ≡ None
+
+-- ---- elements that are needed where content is skipped
 
 abbrev pub e : Name
 e = plain_name (codes "e")

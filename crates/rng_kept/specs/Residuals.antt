@@ -5,12 +5,15 @@ use Rattle.nx_base.specs.Trees.{Attribute, Children, nil, without_blanks, Event,
 use Rattle.rng_core.specs.Patterns.{Pattern, Definition}
 use Rattle.rng_core.specs.Matching.{Matches, Weakly}
 
--- what is left around an open element: of the children as they stand, of the children without blank strings, and further out
+-- what is left around an open element: of the children as they stand, of the children without blank strings, and further out. Ways to
+-- go on that differ in what is left around alone are one way, with the choice of theirs around it
 pub data Outer : Type 0 where
   -- outside of the root
   document : (rest : Pattern) → Outer
   -- inside of an element
   inside : (strict loose : Pattern) (void : Bool) (outer : Outer) → Outer
+  -- what is left in one way, or in another
+  one_of : (this other : Outer) → Outer
 
 -- one way to go on: among children, or in a start tag
 pub data Way : Type 0 where
@@ -45,6 +48,8 @@ pub data TakesOuter (g : List Definition) : Outer → List Event → Type 0 wher
   at_document : {p : Pattern} {s : List Event} (c : Children) → s ≡ children_flat c [] → Matches g p [] c → TakesOuter g (document p) s
   at_inside : {b l : Pattern} {v : Bool} {o : Outer} {s : List Event} (k : Children) (rest : List Event)
       → s ≡ children_flat k (Leave ∷ rest) → TakesChildren g b l v k → TakesOuter g o rest → TakesOuter g (inside b l v o) s
+  at_this : {o u : Outer} {s : List Event} → TakesOuter g o s → TakesOuter g (one_of o u) s
+  at_other : {o u : Outer} {s : List Event} → TakesOuter g u s → TakesOuter g (one_of o u) s
 
 pub data TakesWay (g : List Definition) : Way → List Event → Type 0 where
   among_children : {o : Outer} {s : List Event} → TakesOuter g o s → TakesWay g (among o) s

@@ -1,6 +1,6 @@
 //! Worked examples of the definitions, as laws. Nothing here runs.
 
-ghost use Rattle.rng_kept.specs.Examples.{KeepsLists, NoParagraphAlone, LeavesResiduals, ShufflesChildren, CountsChildren, NeedsElements};
+ghost use Rattle.rng_kept.specs.Examples.{KeepsLists, NoParagraphAlone, LeavesResiduals, ShufflesChildren, SharesWays, CountsChildren, NeedsElements};
 
 /// Behind each kind of move a list that it keeps, and a list that can't become valid.
 pub fn moves_keep_lists()
@@ -12,6 +12,7 @@ pub fn moves_keep_lists()
 pub fn events_leave_residuals()
     ensures in_order { LeavesResiduals }
     ensures in_any_order { ShufflesChildren }
+    ensures shared { SharesWays }
 {}
 
 /// Elements that every content needs which can be skipped, and what counts as an element of it.

@@ -7,8 +7,9 @@
 //!
 //! A residual (`specs/Residuals.antt`) is what a matcher computes: patterns for what may still come, some ways to go on. Each way
 //! keeps two views of the children of an open element, as they stand and without blank strings, since the standard matches them
-//! weakly (section 9.3.7). Ways with the same outside are merged, so that they stay few. `specs/Standing.antt` says when a residual
-//! stands for the kept lists behind moves: it takes exactly the ends of valid lists.
+//! weakly (section 9.3.7). Ways with the same outside are merged, and so are those that differ in their outside alone, so that
+//! they stay few. `specs/Standing.antt` says when a residual stands for the kept lists behind moves: it takes exactly the ends of
+//! valid lists.
 //!
 //! The files named for patterns (`SmallPatterns`, `Nullable`, `Lists`, `Strings`, `SolidStrings`, `Attributes`, `Openings`,
 //! `Skipping`) and for residuals (`Merging`, `Entering`, `Tags`, `Content`, `Required`) are the residuals that the calls of a matcher

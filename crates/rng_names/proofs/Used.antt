@@ -17,7 +17,7 @@ use Rattle.rng_names.specs.Used.{is_leaf, used_in, used, IsParted, parted_more, 
 
 -- ---- one of two
 
-either : {A : Type 0} (P : A → Type 0) (t : Bool) (x y : A) → P x → P y → P (cond t x y)
+pub either : {A : Type 0} (P : A → Type 0) (t : Bool) (x y : A) → P x → P y → P (cond t x y)
 either P true x y h k = h
 either P false x y h k = k
 
@@ -27,7 +27,7 @@ module _ (P : Pattern → Type 0) (none : P not_allowed) where
     side_holds : (p q : Pattern) → P p → P q → P (with_side p q)
     side_holds p q h k = either P (is_not_allowed p) q _ k (either P (is_not_allowed q) p _ h (either P (is_side q p) p (choice p q) h (both p q h k)))
 
-    choice_holds : (p q : Pattern) → P p → ((a b : Pattern) → P (choice a b) → P a × P b) → P q → P (choice_of p q)
+    pub choice_holds : (p q : Pattern) → P p → ((a b : Pattern) → P (choice a b) → P a × P b) → P q → P (choice_of p q)
     choice_holds p (choice a b) h parts k = let t = parts a b k in choice_holds (choice_of p a) b (choice_holds p a h parts t.0) parts t.1
     choice_holds p not_allowed h parts k = side_holds p not_allowed h k
     choice_holds p empty h parts k = side_holds p empty h k
@@ -41,10 +41,10 @@ module _ (P : Pattern → Type 0) (none : P not_allowed) where
     choice_holds p (group q r) h parts k = side_holds p (group q r) h k
     choice_holds p (interleave q r) h parts k = side_holds p (interleave q r) h k
 
-  group_holds : (p q : Pattern) → P p → P q → P (group p q) → P (group_of p q)
+  pub group_holds : (p q : Pattern) → P p → P q → P (group p q) → P (group_of p q)
   group_holds p q h k g = either P (is_not_allowed p || is_not_allowed q) not_allowed _ none (either P (is_empty p) q _ k (either P (is_empty q) p (group p q) h g))
 
-  interleave_holds : (p q : Pattern) → P p → P q → P (interleave p q) → P (interleave_of p q)
+  pub interleave_holds : (p q : Pattern) → P p → P q → P (interleave p q) → P (interleave_of p q)
   interleave_holds p q h k g = either P (is_not_allowed p || is_not_allowed q) not_allowed _ none (either P (is_empty p) q _ k (either P (is_empty q) p (interleave p q) h g))
 
 -- ---- a name stays used where more may be left out

@@ -10,17 +10,17 @@ use Rattle.rng_core.specs.Matching.{Split, to_first, Matches}
 use Rattle.rng_kept.specs.SmallPatterns.{is_not_allowed, choice_of, star}
 use Rattle.rng_kept.specs.Nullable.{nullable}
 use Rattle.rng_kept.specs.Openings.{Opening, opening, added, joined, then_group, then_interleave, under_interleave, open_definition, opens}
-use Rattle.rng_kept.specs.Residuals.{Outer, document, inside, Way, among, in_tag, Residual}
+use Rattle.rng_kept.specs.Residuals.{Outer, document, inside, one_of, Way, among, in_tag, Residual}
 use Rattle.rng_kept.specs.Entering.{content_of, rest_at, has_number, others, tag_at_top, tag_of_both, tag_of_loose, enter_outer, enter_way, enter}
-use Rattle.rng_kept.specs.Merging.{joined_outer, can_join_ways, joined_way, with_way, with_ways, stepped}
+use Rattle.rng_kept.specs.Merging.{same_outer, is_outer_in, with_outer, either_outer, joined_outer, can_join_ways, joined_way, with_way, with_ways, stepped}
 use Rattle.rng_kept.specs.Events.{IsAmong, first, later}
 use Rattle.rng_kept.specs.Clean.{Clean, clean_empty, clean_text, clean_data, clean_value, clean_list, clean_attribute, clean_ref, clean_one_or_more, clean_choice, clean_group, clean_interleave, Fine}
-use Rattle.rng_kept.specs.Lively.{Given, Within, IsLivelyOutside, lively_document, lively_inside, IsLively, lively_among, lively_in_tag, AreLively, none_lively, one_lively}
+use Rattle.rng_kept.specs.Lively.{Given, Within, IsLivelyOutside, lively_document, lively_inside, lively_one_of, IsLively, lively_among, lively_in_tag, AreLively, none_lively, one_lively}
 use Rattle.rng_residual.proofs.SmallPatterns.{by_test, is_not_allowed-is, split_none, split_none_is}
 use Rattle.rng_residual.proofs.Entering.{IsNamed, AreNamed, one_named, named_first, opens_named}
 use Rattle.rng_residual.specs.Solid.{PassNoBlank}
 use Rattle.rng_kept.specs.Strings.{string_tests, after}
-use Rattle.rng_kept.specs.Content.{is_dead_outer, among_of, loose_after, outer_after, chars_way, chars, may_leave, leave_outer, leave_way, leave}
+use Rattle.rng_kept.specs.Content.{is_dead_outer, among_of, loose_after, chars_outer, chars_way, chars, ways_of, may_leave, leave_outer, leave_way, leave}
 use Rattle.rng_residual.proofs.Content.{is_flat_outer, IsFlat}
 use Rattle.rng_residual.proofs.Tags.{IsCleanTag}
 use Rattle.rng_kept.specs.Attributes.{value_fits, after_attribute, close}
@@ -40,6 +40,7 @@ use Rattle.rng_residual.proofs.Nullable.{true_and}
 pub flat_outer : {g : List Definition} {o : Outer} → IsLivelyOutside g o → is_flat_outer o ≡ true
 flat_outer (lively_document c) = flat_clean c
 flat_outer (lively_inside c d e h) = true_and _ _ (flat_fine c) (flat_fine d)
+flat_outer (lively_one_of h i) = true_and _ _ (flat_outer h) (flat_outer i)
 
 flat_way : {g : List Definition} {l : List Name} {w : Way} → IsLively g l w → IsFlat w
 flat_way (lively_among h) = flat_outer h
@@ -89,12 +90,25 @@ pub record SomeAttribute (g : List Definition) (n : Name) (p q : Pattern) (a : L
   pub from : (b : List Attribute) (k : Children) → Matches g p (attribute_is n value ∷ b) k → Matches g q b k
 
 module _ {g : List Definition} where
+  lively_with_outer : (o u : Outer) → IsLivelyOutside g o → IsLivelyOutside g u → IsLivelyOutside g (with_outer o u)
+  lively_with_outer o u h i = by_test (λ r. IsLivelyOutside g r) (is_outer_in u o) o (one_of o u) (λ _. h) (λ _. lively_one_of h i)
+
+  lively_either : (o u : Outer) → IsLivelyOutside g o → IsLivelyOutside g u → IsLivelyOutside g (either_outer o u)
+  lively_either o (document p) h i = lively_with_outer o (document p) h i
+  lively_either o (inside b l v u) h i = lively_with_outer o (inside b l v u) h i
+  lively_either o (one_of u r) h (lively_one_of i j) = lively_either (either_outer o u) r (lively_either o u h i) j
+
   lively_joined : (o u : Outer) → IsLivelyOutside g o → IsLivelyOutside g u → IsLivelyOutside g (joined_outer o u)
   lively_joined (document p) (document q) (lively_document c) (lively_document d) = lively_document (clean_choice_of p q c (fine d))
   lively_joined (document p) (inside b l v o) h i = h
+  lively_joined (document p) (one_of u r) h i = h
   lively_joined (inside b l v o) (document q) h i = h
+  lively_joined (inside b l v o) (one_of u r) h i = h
   lively_joined (inside b l v o) (inside c k w u) (lively_inside e f a h) (lively_inside d j x i) =
-      lively_inside (fine_choice b c e d) (fine_choice l k f j) (joined_alive b l c k v w a) h
+      by_test (λ r. IsLivelyOutside g r) (same_outer o u) (inside (choice_of b c) (choice_of l k) (v || w) o) (inside b l v (either_outer o u))
+      (λ _. lively_inside (fine_choice b c e d) (fine_choice l k f j) (joined_alive b l c k v w a) h)
+      (λ _. lively_inside e f a (lively_either o u h i))
+  lively_joined (one_of o u) r h i = h
 
   pub among_lively : {l : List Name} {o : Outer} → IsLively g l (among o) → IsLivelyOutside g o
   among_lively (lively_among h) = h
@@ -103,7 +117,7 @@ module _ {g : List Definition} where
   lively_joined_way (among o) (among u) h i = lively_among (lively_joined o u (among_lively h) (among_lively i))
   lively_joined_way (among o) (in_tag q u) h i = h
   lively_joined_way (in_tag p o) (among u) h i = h
-  lively_joined_way (in_tag p o) (in_tag q u) h i = h
+  lively_joined_way (in_tag p o) (in_tag q u) (lively_in_tag c w h) (lively_in_tag d x i) = lively_in_tag c w (lively_either o u h i)
 
   lively_with_way : {l : List Name} (xs : Residual) (w : Way) → AreLively g l xs → IsLively g l w → AreLively g l (with_way xs w)
   lively_with_way [] w a h = one_lively h none_lively
@@ -126,14 +140,15 @@ module _ {g : List Definition} where
   pub lively_among_of : {l : List Name} (o : Outer) → (is_dead_outer o ≡ false → IsLivelyOutside g o) → AreLively g l (among_of o)
   lively_among_of {l = l} o h = by_test (λ r. AreLively g l r) (is_dead_outer o) [] (among o ∷ []) (λ _. none_lively) (λ e. one_lively (lively_among (h e)) none_lively)
 
-  chars_outer : {l : List Name} (t : List ℕ) {o : Outer} → IsLivelyOutside g o → AreLively g l (among_of (outer_after t o))
-  chars_outer t (lively_document {p = p} c) =
+  chars_outside : {l : List Name} (t : List ℕ) {o : Outer} → IsLivelyOutside g o → AreLively g l (chars_outer t o)
+  chars_outside t (lively_document {p = p} c) =
       lively_among_of (document (after t p)) (λ e. lively_document ((fine_after (string_tests t) p (fine c)).clean e))
-  chars_outer t (lively_inside {b = b} {l = l} {v = v} {o = o} c d a h) =
+  chars_outside t (lively_inside {b = b} {l = l} {v = v} {o = o} c d a h) =
       lively_among_of (inside (after t b) (loose_after t l) false o) (λ e. lively_inside (fine_after (string_tests t) b c) (fine_loose_after t l d) e h)
+  chars_outside t (lively_one_of {o = o} {u = u} h i) = lively_with_ways (chars_outer t o) (chars_outer t u) (chars_outside t h) (chars_outside t i)
 
   chars_way_lively : {l : List Name} (t : List ℕ) (w : Way) → IsLively g l w → AreLively g [] (chars_way t w)
-  chars_way_lively t (among o) h = chars_outer t (among_lively h)
+  chars_way_lively t (among o) h = chars_outside t (among_lively h)
   chars_way_lively t (in_tag p o) h = none_lively
 
   pub chars_lively : {l : List Name} (t : List ℕ) (x : Residual) → AreLively g l x → AreLively g [] (chars t x)
@@ -141,13 +156,19 @@ module _ {g : List Definition} where
 
   -- ---- an element's end
 
-  lively_if : {l : List Name} (t : Bool) {o : Outer} → IsLivelyOutside g o → AreLively g l (if t then among o ∷ [] else [])
-  lively_if true h = one_lively (lively_among h) none_lively
-  lively_if false h = none_lively
+  pub ways_of_lively : {l : List Name} (o : Outer) → IsLivelyOutside g o → AreLively g l (ways_of o)
+  ways_of_lively (document p) h = one_lively (lively_among h) none_lively
+  ways_of_lively (inside b l v o) h = one_lively (lively_among h) none_lively
+  ways_of_lively (one_of o u) (lively_one_of h i) = lively_with_ways (ways_of o) (ways_of u) (ways_of_lively o h) (ways_of_lively u i)
+
+  lively_if : {l : List Name} (t : Bool) (o : Outer) → IsLivelyOutside g o → AreLively g l (if t then ways_of o else [])
+  lively_if true o h = ways_of_lively o h
+  lively_if false o h = none_lively
 
   leave_outer_lively : {l : List Name} {o : Outer} → IsLivelyOutside g o → AreLively g l (leave_outer o)
   leave_outer_lively (lively_document c) = none_lively
-  leave_outer_lively (lively_inside {b = b} {l = l} {v = v} c d a h) = lively_if (may_leave b l v) h
+  leave_outer_lively (lively_inside {b = b} {l = l} {v = v} {o = o} c d a h) = lively_if (may_leave b l v) o h
+  leave_outer_lively (lively_one_of {o = o} {u = u} h i) = lively_with_ways (leave_outer o) (leave_outer u) (leave_outer_lively h) (leave_outer_lively i)
 
   leave_way_lively : {l : List Name} (w : Way) → IsLively g l w → AreLively g [] (leave_way w)
   leave_way_lively (among o) h = leave_outer_lively (among_lively h)
@@ -389,6 +410,8 @@ enter_outer_lively {g = g} n live (lively_inside {b = b} {l = l} {o = o} c d a h
     all_append (map (tag_of_both g (opens g n l) o) (opens g n b)) (map (tag_of_loose g o) (others (opens g n b) (opens g n l)))
     (both_lively live h (opens g n l) (opens g n b) (opens_fine l n d) (opens_named b) (opens_fine b n c))
     (loose_lively live h (others (opens g n b) (opens g n l)) (others_named (opens g n b) (opens g n l) (opens_named l)) (others_clean (opens g n b) (opens g n l) (opens_fine l n d)))
+enter_outer_lively {g = g} n live (lively_one_of {o = o} {u = u} h i) =
+    lively_with_ways (enter_outer g n o) (enter_outer g n u) (enter_outer_lively n live h) (enter_outer_lively n live i)
 
 enter_way_lively : {g : List Definition} {l : List Name} (n : Name) → AreLive g → (w : Way) → IsLively g l w → AreLively g [] (enter_way g n w)
 enter_way_lively n live (among o) (lively_among h) = enter_outer_lively n live h

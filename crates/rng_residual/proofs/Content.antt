@@ -1,5 +1,5 @@
 -- A string and an element's end take off one event.
-use Rattle.std.proofs.Common.{◌≡◌, ℕ, List, [], ◌∷◌, Bool, true, false, not, ◌&&◌, ◌||◌, refl, ap, subst, ⊎_elim}
+use Rattle.std.proofs.Common.{◌≡◌, ℕ, List, [], ◌∷◌, Bool, true, false, not, ◌&&◌, ◌||◌, refl, ap, subst, inl, inr, ⊎_elim}
 use Rattle.std.specs.Prelude.{if◌then◌else◌}
 use Rattle.std.specs.List.{AllByRecursion}
 use Rattle.nx_base.specs.Characters.{is_blank}
@@ -9,18 +9,19 @@ use Rattle.rng_core.specs.Matching.{Matches}
 use Rattle.rng_kept.specs.SmallPatterns.{is_not_allowed}
 use Rattle.rng_kept.specs.Nullable.{nullable}
 use Rattle.rng_kept.specs.Lists.{has_flat_lists}
-use Rattle.rng_kept.specs.Residuals.{Outer, document, inside, Way, among, in_tag, Residual, TakesChildren, strictly, loosely, voidly, TakesOuter, at_document, at_inside, TakesWay, among_children, in_start_tag, Takes, by_this}
+use Rattle.rng_kept.specs.Residuals.{Outer, document, inside, one_of, Way, among, in_tag, Residual, TakesChildren, strictly, loosely, voidly, TakesOuter, at_document, at_inside, at_this, at_other, TakesWay, among_children, in_start_tag, Takes, by_this}
 use Rattle.rng_residual.proofs.SmallPatterns.{by_test, or_true, and_true, never_no, is_not_allowed-is}
 use Rattle.rng_residual.proofs.Nullable.{nullable_in, nullable_out, true_or_left, true_or_right}
 use Rattle.rng_kept.specs.Strings.{after}
-use Rattle.rng_kept.specs.Content.{is_dead_outer, among_of, loose_after, outer_after, chars_way, chars, may_leave, leave_outer, leave_way, leave}
+use Rattle.rng_kept.specs.Content.{is_dead_outer, among_of, loose_after, chars_outer, chars_way, chars, ways_of, may_leave, leave_outer, leave_way, leave}
 use Rattle.rng_residual.proofs.Strings.{after_in, after_out}
-use Rattle.rng_residual.proofs.Merging.{takes_one, step_in, step_out}
+use Rattle.rng_residual.proofs.Merging.{takes_one, with_ways_in, with_ways_out, step_in, step_out}
 
 -- no list stands in a list of what is seen first
 abbrev pub is_flat_outer : Outer → Bool
 is_flat_outer (document p) = has_flat_lists p
 is_flat_outer (inside b l v o) = has_flat_lists b && has_flat_lists l
+is_flat_outer (one_of o u) = is_flat_outer o && is_flat_outer u
 
 abbrev pub IsFlat : Way → Type 0
 IsFlat (among o) = is_flat_outer o ≡ true
@@ -38,6 +39,8 @@ dead_no (document p) e (at_document c f m) = nothing_matched p e m
 dead_no (inside b l v o) e (at_inside k rest f (strictly m) t) = nothing_matched b (and_true _ _ e).0 m
 dead_no (inside b l v o) e (at_inside k rest f (loosely m) t) = nothing_matched l (and_true _ _ (and_true _ _ e).1).0 m
 dead_no (inside b l v o) e (at_inside k rest f (voidly h i) t) = not_both v h (and_true _ _ (and_true _ _ e).1).1
+dead_no (one_of o u) e (at_this t) = dead_no o (and_true _ _ e).0 t
+dead_no (one_of o u) e (at_other t) = dead_no u (and_true _ _ e).1 t
 
 pub among_in : {g : List Definition} {s : List Event} (o : Outer) → TakesOuter g o s → Takes g (among_of o) s
 among_in {g = g} {s = s} o h =
@@ -96,26 +99,37 @@ children_out b l v t r (strictly m) = strictly (after_out b m)
 children_out b l v t r (loosely m) = loosely (loose_out l t r m)
 children_out b l v t r (voidly x y) = cc
 
-pub outer_after_in : {g : List Definition} {t : List ℕ} {s : List Event} (o : Outer) → is_flat_outer o ≡ true → TakesOuter g o (Chars t ∷ s) → TakesOuter g (outer_after t o) s
-outer_after_in {g = g} {t = t} {s = s} (document p) f (at_document c e m) =
+pub chars_outer_in : {g : List Definition} {t : List ℕ} {s : List Event} (o : Outer) → is_flat_outer o ≡ true → TakesOuter g o (Chars t ∷ s) → Takes g (chars_outer t o) s
+chars_outer_in {g = g} {t = t} {s = s} (document p) f (at_document c e m) =
     let w = spoken t c s [] (λ d. cc) e in
-    at_document w.rest w.events (after_in f (subst (λ x. Matches g p [] x) w.is m))
-outer_after_in {g = g} {t = t} {s = s} (inside b l v o) f (at_inside k rest e c h) =
+    among_in (document (after t p)) (at_document w.rest w.events (after_in f (subst (λ x. Matches g p [] x) w.is m)))
+chars_outer_in {g = g} {t = t} {s = s} (inside b l v o) f (at_inside k rest e c h) =
     let w = spoken t k s (Leave ∷ rest) (λ d. cc) e in
     let i = and_true _ _ f in
-    at_inside w.rest rest w.events (children_in b l v t w.rest i.0 i.1 (subst (λ x. TakesChildren g b l v x) w.is c)) h
+    among_in (inside (after t b) (loose_after t l) false o)
+    (at_inside w.rest rest w.events (children_in b l v t w.rest i.0 i.1 (subst (λ x. TakesChildren g b l v x) w.is c)) h)
+chars_outer_in {t = t} (one_of o u) f (at_this h) = with_ways_in (chars_outer t o) (chars_outer t u) (inl (chars_outer_in o (and_true _ _ f).0 h))
+chars_outer_in {t = t} (one_of o u) f (at_other h) = with_ways_in (chars_outer t o) (chars_outer t u) (inr (chars_outer_in u (and_true _ _ f).1 h))
 
-pub outer_after_out : {g : List Definition} {t : List ℕ} {s : List Event} (o : Outer) → TakesOuter g (outer_after t o) s → TakesOuter g o (Chars t ∷ s)
-outer_after_out {t = t} (document p) (at_document c e m) = at_document (string t c) (ap (λ (z : List Event). Chars t ∷ z) e) (after_out p m)
-outer_after_out {t = t} (inside b l v o) (at_inside k rest e c h) =
+document_out : {g : List Definition} {t : List ℕ} {s : List Event} (p : Pattern) → TakesOuter g (document (after t p)) s → TakesOuter g (document p) (Chars t ∷ s)
+document_out {t = t} p (at_document c e m) = at_document (string t c) (ap (λ (z : List Event). Chars t ∷ z) e) (after_out p m)
+
+inside_out : {g : List Definition} {t : List ℕ} {s : List Event} (b l : Pattern) (v : Bool) (o : Outer) → TakesOuter g (inside (after t b) (loose_after t l) false o) s → TakesOuter g (inside b l v o) (Chars t ∷ s)
+inside_out {t = t} b l v o (at_inside k rest e c h) =
     at_inside (string t k) rest (ap (λ (z : List Event). Chars t ∷ z) e) (children_out b l v t k c) h
 
+pub chars_outer_out : {g : List Definition} {t : List ℕ} {s : List Event} (o : Outer) → Takes g (chars_outer t o) s → TakesOuter g o (Chars t ∷ s)
+chars_outer_out {t = t} (document p) h = document_out p (among_out (document (after t p)) h)
+chars_outer_out {t = t} (inside b l v o) h = inside_out b l v o (among_out (inside (after t b) (loose_after t l) false o) h)
+chars_outer_out {t = t} (one_of o u) h =
+    ⊎_elim (λ n. at_this (chars_outer_out o n)) (λ n. at_other (chars_outer_out u n)) (with_ways_out (chars_outer t o) (chars_outer t u) h)
+
 chars_way_in : {g : List Definition} {t : List ℕ} {s : List Event} (w : Way) → IsFlat w → TakesWay g w (Chars t ∷ s) → Takes g (chars_way t w) s
-chars_way_in {t = t} (among o) f (among_children h) = among_in (outer_after t o) (outer_after_in o f h)
+chars_way_in (among o) f (among_children h) = chars_outer_in o f h
 chars_way_in (in_tag p o) f (in_start_tag a k rest e w h) = not_chars _ a e
 
 chars_way_out : {g : List Definition} {t : List ℕ} {s : List Event} (w : Way) → Takes g (chars_way t w) s → TakesWay g w (Chars t ∷ s)
-chars_way_out {t = t} (among o) h = among_children (outer_after_out o (among_out (outer_after t o) h))
+chars_way_out (among o) h = among_children (chars_outer_out o h)
 chars_way_out (in_tag p o) h = elim h [ ]
 
 pub chars_in : {g : List Definition} {t : List ℕ} {s : List Event} (x : Residual) → AllByRecursion IsFlat x → Takes g x (Chars t ∷ s) → Takes g (chars t x) s
@@ -151,19 +165,35 @@ none_left_out b l v e =
     (λ h. ⊎_elim (λ i. loosely (nullable_out l i)) (λ i. voidly i refl) (or_true (nullable l) v h))
     (or_true (nullable b) (nullable l || v) e)
 
+pub ways_of_in : {g : List Definition} {s : List Event} (o : Outer) → TakesOuter g o s → Takes g (ways_of o) s
+ways_of_in (document p) h = by_this (among_children h)
+ways_of_in (inside b l v o) h = by_this (among_children h)
+ways_of_in (one_of o u) (at_this h) = with_ways_in (ways_of o) (ways_of u) (inl (ways_of_in o h))
+ways_of_in (one_of o u) (at_other h) = with_ways_in (ways_of o) (ways_of u) (inr (ways_of_in u h))
+
+pub ways_of_out : {g : List Definition} {s : List Event} (o : Outer) → Takes g (ways_of o) s → TakesOuter g o s
+ways_of_out (document p) h = among_one (takes_one h)
+ways_of_out (inside b l v o) h = among_one (takes_one h)
+ways_of_out (one_of o u) h =
+    ⊎_elim (λ n. at_this (ways_of_out o n)) (λ n. at_other (ways_of_out u n)) (with_ways_out (ways_of o) (ways_of u) h)
+
 leave_outer_in : {g : List Definition} {s : List Event} (o : Outer) → TakesOuter g o (Leave ∷ s) → Takes g (leave_outer o) s
 leave_outer_in {s = s} (document p) (at_document c e m) = left_top c s e
 leave_outer_in {g = g} {s = s} (inside b l v o) (at_inside k rest e c h) =
     let f = left k s rest e in
-    rw (none_left b l v (subst (λ x. TakesChildren g b l v x) f.0 c), f.1) (by_this (among_children h))
+    rw (none_left b l v (subst (λ x. TakesChildren g b l v x) f.0 c), f.1) (ways_of_in o h)
+leave_outer_in (one_of o u) (at_this h) = with_ways_in (leave_outer o) (leave_outer u) (inl (leave_outer_in o h))
+leave_outer_in (one_of o u) (at_other h) = with_ways_in (leave_outer o) (leave_outer u) (inr (leave_outer_in u h))
 
 leave_outer_out : {g : List Definition} {s : List Event} (o : Outer) → Takes g (leave_outer o) s → TakesOuter g o (Leave ∷ s)
 leave_outer_out (document p) h = elim h [ ]
 leave_outer_out {g = g} {s = s} (inside b l v o) h = go (may_leave b l v) h (λ e. none_left_out b l v e)
   where
-    go : (t : Bool) → Takes g (if t then among o ∷ [] else []) s → (t ≡ true → TakesChildren g b l v nil) → TakesOuter g (inside b l v o) (Leave ∷ s)
-    go true n c = at_inside nil s refl (c refl) (among_one (takes_one n))
+    go : (t : Bool) → Takes g (if t then ways_of o else []) s → (t ≡ true → TakesChildren g b l v nil) → TakesOuter g (inside b l v o) (Leave ∷ s)
+    go true n c = at_inside nil s refl (c refl) (ways_of_out o n)
     go false n c = elim n [ ]
+leave_outer_out (one_of o u) h =
+    ⊎_elim (λ n. at_this (leave_outer_out o n)) (λ n. at_other (leave_outer_out u n)) (with_ways_out (leave_outer o) (leave_outer u) h)
 
 leave_way_in : {g : List Definition} {s : List Event} (w : Way) → Unit {0} → TakesWay g w (Leave ∷ s) → Takes g (leave_way w) s
 leave_way_in (among o) u (among_children h) = leave_outer_in o h

@@ -10,9 +10,10 @@ use Rattle.rng_core.specs.Matching.{Matches, by_element, by_first, by_second}
 use Rattle.rng_kept.specs.SmallPatterns.{choice_of, star}
 use Rattle.rng_kept.specs.Openings.{Opening, added, joined, then_group, then_interleave, under_interleave, open_definition, opens}
 use Rattle.rng_residual.specs.Openings.{Opened, opened_first, opened_later}
-use Rattle.rng_kept.specs.Residuals.{Outer, document, inside, Residual, MatchesWeakly, TakesChildren, strictly, loosely, voidly, TakesOuter, at_document, at_inside, TakesWay, in_start_tag, Takes, by_this, by_later}
+use Rattle.rng_kept.specs.Residuals.{Outer, document, inside, one_of, Residual, MatchesWeakly, TakesChildren, strictly, loosely, voidly, TakesOuter, at_document, at_inside, at_this, at_other, TakesWay, in_start_tag, Takes, by_this, by_later}
 use Rattle.rng_kept.specs.Entering.{content_in, content_of, rest_at, has_number, others, tag_at_top, tag_of_both, tag_of_loose, enter_outer}
 use Rattle.rng_residual.proofs.SmallPatterns.{or_same, by_test, never_no, or_true}
+use Rattle.rng_residual.proofs.Merging.{with_ways_in, with_ways_out}
 use Rattle.rng_residual.proofs.Openings.{opens_in, opens_out, num_same}
 
 -- ---- the numbers of openings name definitions that have the name
@@ -216,6 +217,8 @@ enter_in {g = g} n (inside b l v o) s (at_inside k rest e c t) =
         let P : Children → Type 0 = λ x. Matches g l [] (without_blanks x) in
         rw ev (loose_in (opens g n b) (opens g n l) o rest t (opens g n l) r (λ i h. h) (opens_in (subst P is m)))
     go r is ev (voidly f h) = cc
+enter_in {g = g} n (one_of o u) s (at_this h) = with_ways_in (enter_outer g n o) (enter_outer g n u) (inl (enter_in n o s h))
+enter_in {g = g} n (one_of o u) s (at_other h) = with_ways_in (enter_outer g n o) (enter_outer g n u) (inr (enter_in n u s h))
 
 -- ---- and back
 
@@ -315,3 +318,5 @@ enter_out {g = g} n (inside b l v o) s h =
     widened (strictly m) = strictly m
     widened (loosely m) = loosely m
     widened (voidly x y) = cc
+enter_out {g = g} n (one_of o u) s h =
+    ⊎_elim (λ x. at_this (enter_out n o s x)) (λ x. at_other (enter_out n u s x)) (with_ways_out (enter_outer g n o) (enter_outer g n u) h)

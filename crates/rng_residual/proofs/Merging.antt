@@ -1,13 +1,14 @@
 -- Merged ways take the same, and a step of each way is a step of all.
-use Rattle.std.proofs.Common.{◌≡◌, List, [], ◌∷◌, Bool, true, false, ◌||◌, refl, ap, inl, inr, ◌⊎◌, ⊎_elim}
+use Rattle.std.proofs.Common.{◌≡◌, List, [], ◌∷◌, Bool, true, false, ◌||◌, refl, ap, subst, inl, inr, ◌⊎◌, ⊎_elim}
+use Rattle.std.specs.Prelude.{if◌then◌else◌}
 use Rattle.std.specs.List.{AllByRecursion}
 use Rattle.nx_base.specs.Trees.{Children, Event}
 use Rattle.rng_core.specs.Patterns.{Pattern, Definition}
 use Rattle.rng_core.specs.Matching.{by_first, by_second}
 use Rattle.rng_core.specs.Equality.{same_pattern}
 use Rattle.rng_kept.specs.SmallPatterns.{choice_of}
-use Rattle.rng_kept.specs.Residuals.{Outer, document, inside, Way, among, in_tag, Residual, TakesChildren, strictly, loosely, voidly, TakesOuter, at_document, at_inside, TakesWay, among_children, Takes, by_this, by_later}
-use Rattle.rng_kept.specs.Merging.{same_flag, in_document, in_inside, same_outer, can_join, joined_outer, can_join_ways, joined_way, with_way, with_ways, stepped}
+use Rattle.rng_kept.specs.Residuals.{Outer, document, inside, one_of, Way, among, in_tag, Residual, TakesChildren, strictly, loosely, voidly, TakesOuter, at_document, at_inside, at_this, at_other, TakesWay, among_children, in_start_tag, Takes, by_this, by_later}
+use Rattle.rng_kept.specs.Merging.{same_flag, in_document, in_inside, in_one_of, same_outer, is_outer_in, with_outer, either_outer, same_children, can_join, joined_outer, can_join_ways, joined_way, with_way, with_ways, stepped}
 use Rattle.rng_residual.proofs.SmallPatterns.{or_same, or_sides, or_true, by_test, same_is, and_true}
 use Rattle.rng_residual.proofs.Nullable.{true_or_left, true_or_right}
 
@@ -22,19 +23,28 @@ same_flag_is false false h = refl
 document-is : (p : Pattern) (r : Outer) → in_document (same_pattern p) r ≡ true → document p ≡ r
 document-is p (document q) h = ap document (same_is p q h)
 document-is p (inside b l v o) h = cc
+document-is p (one_of o u) h = cc
 
 inside-is : (b l : Pattern) (v : Bool) (o : Outer) → ((r : Outer) → same_outer o r ≡ true → o ≡ r) → (r : Outer) →
     in_inside (same_pattern b) (same_pattern l) (same_flag v) (same_outer o) r ≡ true → inside b l v o ≡ r
 inside-is b l v o f (document q) h = cc
+inside-is b l v o f (one_of u r) h = cc
 inside-is b l v o f (inside c k w u) h =
     let e = and_true _ _ h in
     let d = and_true _ _ e.1 in
     let a = and_true _ _ d.1 in
     rw (same_is b c e.0, same_is l k d.0, same_flag_is v w a.0, f u a.1) refl
 
+one_of-is : (o u : Outer) → ((r : Outer) → same_outer o r ≡ true → o ≡ r) → ((r : Outer) → same_outer u r ≡ true → u ≡ r) → (r : Outer) →
+    in_one_of (same_outer o) (same_outer u) r ≡ true → one_of o u ≡ r
+one_of-is o u f k (document q) h = cc
+one_of-is o u f k (inside b l v r) h = cc
+one_of-is o u f k (one_of r s) h = let e = and_true _ _ h in rw (f r e.0, k s e.1) refl
+
 pub same_outer_is : (o r : Outer) → same_outer o r ≡ true → o ≡ r
 same_outer_is (document p) r h = document-is p r h
 same_outer_is (inside b l v o) r h = inside-is b l v o (same_outer_is o) r h
+same_outer_is (one_of o u) r h = one_of-is o u (same_outer_is o) (same_outer_is u) r h
 
 -- ---- two of the same outside
 
@@ -54,49 +64,145 @@ module _ {g : List Definition} where
   children_sides b l c k v w (loosely m) = ⊎_elim (λ n. inl (loosely n)) (λ n. inr (loosely n)) (or_sides ((or_same g l k).to m))
   children_sides b l c k v w (voidly e f) = ⊎_elim (λ i. inl (voidly i f)) (λ i. inr (voidly i f)) (or_true v w e)
 
-  outer_first : {s : List Event} (o u : Outer) → TakesOuter g o s → TakesOuter g (joined_outer o u) s
-  outer_first (document p) (document q) (at_document c e m) = at_document c e ((or_same g p q).from (by_first m))
-  outer_first (document p) (inside b l v o) h = h
-  outer_first (inside b l v o) (document q) h = h
-  outer_first (inside b l v o) (inside c k w u) (at_inside x rest e m h) = at_inside x rest e (children_first b l c k v w m) h
+  -- ---- one of two
 
-  outer_second : {s : List Event} (o u : Outer) → can_join o u ≡ true → TakesOuter g u s → TakesOuter g (joined_outer o u) s
-  outer_second (document p) (document q) j (at_document c e m) = at_document c e ((or_same g p q).from (by_second m))
-  outer_second (document p) (inside b l v o) j h = cc
-  outer_second (inside b l v o) (document q) j h = cc
-  outer_second (inside b l v o) (inside c k w u) j (at_inside x rest e m h) =
-      at_inside x rest e (children_second b l c k v w m) (rw (same_outer_is o u j) h)
+  outer_parts : {o u : Outer} {s : List Event} → TakesOuter g (one_of o u) s → TakesOuter g o s ⊎ TakesOuter g u s
+  outer_parts (at_this h) = inl h
+  outer_parts (at_other h) = inr h
+
+  -- one that there is a choice of is taken
+  outer_in : {s : List Event} (u o : Outer) → is_outer_in u o ≡ true → TakesOuter g u s → TakesOuter g o s
+  outer_in {s = s} u (document p) e h = subst (λ r. TakesOuter g r s) (same_outer_is u (document p) e) h
+  outer_in {s = s} u (inside b l v o) e h = subst (λ r. TakesOuter g r s) (same_outer_is u (inside b l v o) e) h
+  outer_in {s = s} u (one_of o r) e h =
+      ⊎_elim (λ a. at_this (outer_in u o a h)) (λ a. at_other (subst (λ x. TakesOuter g x s) (same_outer_is u r a) h))
+      (or_true (is_outer_in u o) (same_outer u r) e)
+
+  with_outer_in : {s : List Event} (o u : Outer) → TakesOuter g o s ⊎ TakesOuter g u s → TakesOuter g (with_outer o u) s
+  with_outer_in {s = s} o u h =
+      by_test (λ r. TakesOuter g r s) (is_outer_in u o) o (one_of o u)
+      (λ e. ⊎_elim (λ n. n) (λ n. outer_in u o e n) h)
+      (λ _. ⊎_elim (λ n. at_this n) (λ n. at_other n) h)
+
+  with_outer_out : {s : List Event} (o u : Outer) → TakesOuter g (with_outer o u) s → TakesOuter g o s ⊎ TakesOuter g u s
+  with_outer_out {s = s} o u h =
+      by_test (λ r. TakesOuter g r s → TakesOuter g o s ⊎ TakesOuter g u s) (is_outer_in u o) o (one_of o u)
+      (λ _ n. inl n) (λ _ n. outer_parts n) h
+
+  either_in : {s : List Event} (o u : Outer) → TakesOuter g o s ⊎ TakesOuter g u s → TakesOuter g (either_outer o u) s
+  either_in o (document p) h = with_outer_in o (document p) h
+  either_in o (inside b l v u) h = with_outer_in o (inside b l v u) h
+  either_in o (one_of u r) h =
+      either_in (either_outer o u) r
+      (⊎_elim
+      (λ n. inl (either_in o u (inl n)))
+      (λ n. ⊎_elim (λ m. inl (either_in o u (inr m))) (λ m. inr m) (outer_parts n))
+      h)
+
+  either_out : {s : List Event} (o u : Outer) → TakesOuter g (either_outer o u) s → TakesOuter g o s ⊎ TakesOuter g u s
+  either_out o (document p) h = with_outer_out o (document p) h
+  either_out o (inside b l v u) h = with_outer_out o (inside b l v u) h
+  either_out o (one_of u r) h =
+      ⊎_elim
+      (λ n. ⊎_elim (λ m. inl m) (λ m. inr (at_this m)) (either_out o u n))
+      (λ n. inr (at_other n))
+      (either_out (either_outer o u) r h)
+
+  -- ---- two in one
+
+  same_children_are : (b l c k : Pattern) (v w : Bool) {x : Children} → same_children b l v c k w ≡ true → TakesChildren g c k w x → TakesChildren g b l v x
+  same_children_are b l c k v w h t =
+      let e = and_true _ _ h in
+      let d = and_true _ _ e.1 in
+      rw (same_is b c e.0, same_is l k d.0, same_flag_is v w d.1) t
+
+  -- inside of elements that have the same outside, or the same children
+  inside_in : {s : List Event} (b l c k : Pattern) (v w : Bool) (o u : Outer) → (same_outer o u || same_children b l v c k w) ≡ true →
+      TakesOuter g (inside b l v o) s ⊎ TakesOuter g (inside c k w u) s → TakesOuter g (joined_outer (inside b l v o) (inside c k w u)) s
+  inside_in {s = s} b l c k v w o u j h = go (same_outer o u) refl j
+    where
+      both : o ≡ u → TakesOuter g (inside b l v o) s ⊎ TakesOuter g (inside c k w u) s → TakesOuter g (inside (choice_of b c) (choice_of l k) (v || w) o) s
+      both e (inl (at_inside x rest f m t)) = at_inside x rest f (children_first b l c k v w m) t
+      both e (inr (at_inside x rest f m t)) = at_inside x rest f (children_second b l c k v w m) (rw e t)
+
+      apart : same_children b l v c k w ≡ true → TakesOuter g (inside b l v o) s ⊎ TakesOuter g (inside c k w u) s → TakesOuter g (inside b l v (either_outer o u)) s
+      apart e (inl (at_inside x rest f m t)) = at_inside x rest f m (either_in o u (inl t))
+      apart e (inr (at_inside x rest f m t)) = at_inside x rest f (same_children_are b l c k v w e m) (either_in o u (inr t))
+
+      go : (q : Bool) → same_outer o u ≡ q → (q || same_children b l v c k w) ≡ true →
+          TakesOuter g (if q then inside (choice_of b c) (choice_of l k) (v || w) o else inside b l v (either_outer o u)) s
+      go true e i = both (same_outer_is o u e) h
+      go false e i = apart i h
+
+  inside_out : {s : List Event} (b l c k : Pattern) (v w : Bool) (o u : Outer) → (same_outer o u || same_children b l v c k w) ≡ true →
+      TakesOuter g (joined_outer (inside b l v o) (inside c k w u)) s → TakesOuter g (inside b l v o) s ⊎ TakesOuter g (inside c k w u) s
+  inside_out {s = s} b l c k v w o u j h = go (same_outer o u) refl j h
+    where
+      both : o ≡ u → TakesOuter g (inside (choice_of b c) (choice_of l k) (v || w) o) s → TakesOuter g (inside b l v o) s ⊎ TakesOuter g (inside c k w u) s
+      both e (at_inside x rest f m t) =
+          ⊎_elim (λ n. inl (at_inside x rest f n t)) (λ n. inr (at_inside x rest f n (rw (← e) t))) (children_sides b l c k v w m)
+
+      same_back : same_children b l v c k w ≡ true → {x : Children} → TakesChildren g b l v x → TakesChildren g c k w x
+      same_back h t =
+          let e = and_true _ _ h in
+          let d = and_true _ _ e.1 in
+          rw (← same_is b c e.0, ← same_is l k d.0, ← same_flag_is v w d.1) t
+
+      apart : same_children b l v c k w ≡ true → TakesOuter g (inside b l v (either_outer o u)) s → TakesOuter g (inside b l v o) s ⊎ TakesOuter g (inside c k w u) s
+      apart e (at_inside x rest f m t) =
+          ⊎_elim (λ n. inl (at_inside x rest f m n)) (λ n. inr (at_inside x rest f (same_back e m) n)) (either_out o u t)
+
+      go : (q : Bool) → same_outer o u ≡ q → (q || same_children b l v c k w) ≡ true →
+          TakesOuter g (if q then inside (choice_of b c) (choice_of l k) (v || w) o else inside b l v (either_outer o u)) s →
+          TakesOuter g (inside b l v o) s ⊎ TakesOuter g (inside c k w u) s
+      go true e i n = both (same_outer_is o u e) n
+      go false e i n = apart i n
+
+  outer_joined : {s : List Event} (o u : Outer) → can_join o u ≡ true → TakesOuter g o s ⊎ TakesOuter g u s → TakesOuter g (joined_outer o u) s
+  outer_joined (document p) (document q) j (inl (at_document c e m)) = at_document c e ((or_same g p q).from (by_first m))
+  outer_joined (document p) (document q) j (inr (at_document c e m)) = at_document c e ((or_same g p q).from (by_second m))
+  outer_joined (inside b l v o) (inside c k w u) j h = inside_in b l c k v w o u j h
+  outer_joined (document p) (inside c k w u) j h = cc
+  outer_joined (document p) (one_of u r) j h = cc
+  outer_joined (inside b l v o) (document q) j h = cc
+  outer_joined (inside b l v o) (one_of u r) j h = cc
+  outer_joined (one_of o u) r j h = cc
 
   outer_sides : {s : List Event} (o u : Outer) → can_join o u ≡ true → TakesOuter g (joined_outer o u) s → TakesOuter g o s ⊎ TakesOuter g u s
   outer_sides (document p) (document q) j (at_document c e m) =
       ⊎_elim (λ n. inl (at_document c e n)) (λ n. inr (at_document c e n)) (or_sides ((or_same g p q).to m))
-  outer_sides (document p) (inside b l v o) j h = cc
+  outer_sides (inside b l v o) (inside c k w u) j h = inside_out b l c k v w o u j h
+  outer_sides (document p) (inside c k w u) j h = cc
+  outer_sides (document p) (one_of u r) j h = cc
   outer_sides (inside b l v o) (document q) j h = cc
-  outer_sides (inside b l v o) (inside c k w u) j (at_inside x rest e m h) =
-      ⊎_elim (λ n. inl (at_inside x rest e n h)) (λ n. inr (at_inside x rest e n (rw (← same_outer_is o u j) h))) (children_sides b l c k v w m)
+  outer_sides (inside b l v o) (one_of u r) j h = cc
+  outer_sides (one_of o u) r j h = cc
 
   -- ---- two ways
 
   outer_of : {o : Outer} {s : List Event} → TakesWay g (among o) s → TakesOuter g o s
   outer_of (among_children h) = h
 
-  way_first : {s : List Event} (x w : Way) → TakesWay g x s → TakesWay g (joined_way x w) s
-  way_first (among o) (among u) h = among_children (outer_first o u (outer_of h))
-  way_first (among o) (in_tag q u) h = h
-  way_first (in_tag p o) (among u) h = h
-  way_first (in_tag p o) (in_tag q u) h = h
+  -- in tags of the same content
+  tag_joined : {s : List Event} (p q : Pattern) (o u : Outer) → p ≡ q → TakesWay g (in_tag p o) s ⊎ TakesWay g (in_tag q u) s → TakesWay g (in_tag p (either_outer o u)) s
+  tag_joined p q o u same (inl (in_start_tag a k rest e w h)) = in_start_tag a k rest e w (either_in o u (inl h))
+  tag_joined p q o u same (inr (in_start_tag a k rest e w h)) = in_start_tag a k rest e (rw same w) (either_in o u (inr h))
 
-  way_second : {s : List Event} (x w : Way) → can_join_ways x w ≡ true → TakesWay g w s → TakesWay g (joined_way x w) s
-  way_second (among o) (among u) j h = among_children (outer_second o u j (outer_of h))
-  way_second (among o) (in_tag q u) j h = cc
-  way_second (in_tag p o) (among u) j h = cc
-  way_second (in_tag p o) (in_tag q u) j h = cc
+  tag_sides : {s : List Event} (p q : Pattern) (o u : Outer) → p ≡ q → TakesWay g (in_tag p (either_outer o u)) s → TakesWay g (in_tag p o) s ⊎ TakesWay g (in_tag q u) s
+  tag_sides p q o u same (in_start_tag a k rest e w h) =
+      ⊎_elim (λ n. inl (in_start_tag a k rest e w n)) (λ n. inr (in_start_tag a k rest e (rw (← same) w) n)) (either_out o u h)
+
+  way_joined : {s : List Event} (x w : Way) → can_join_ways x w ≡ true → TakesWay g x s ⊎ TakesWay g w s → TakesWay g (joined_way x w) s
+  way_joined (among o) (among u) j h = among_children (outer_joined o u j (⊎_elim (λ n. inl (outer_of n)) (λ n. inr (outer_of n)) h))
+  way_joined (among o) (in_tag q u) j h = cc
+  way_joined (in_tag p o) (among u) j h = cc
+  way_joined (in_tag p o) (in_tag q u) j h = tag_joined p q o u (same_is p q j) h
 
   way_sides : {s : List Event} (x w : Way) → can_join_ways x w ≡ true → TakesWay g (joined_way x w) s → TakesWay g x s ⊎ TakesWay g w s
   way_sides (among o) (among u) j h = ⊎_elim (λ n. inl (among_children n)) (λ n. inr (among_children n)) (outer_sides o u j (outer_of h))
   way_sides (among o) (in_tag q u) j h = cc
   way_sides (in_tag p o) (among u) j h = cc
-  way_sides (in_tag p o) (in_tag q u) j h = cc
+  way_sides (in_tag p o) (in_tag q u) j h = tag_sides p q o u (same_is p q j) h
 
   -- ---- lists of ways
 
@@ -112,7 +218,7 @@ module _ {g : List Definition} where
   with_way_in [] w h = ⊎_elim (λ n. elim n [ ]) (λ n. by_this n) h
   with_way_in {s = s} (x ∷ xs) w h =
       by_test (λ r. Takes g r s) (can_join_ways x w) _ _
-      (λ j. ⊎_elim (λ n. ⊎_elim (λ m. by_this (way_first x w m)) (λ m. by_later m) (takes_parts n)) (λ n. by_this (way_second x w j n)) h)
+      (λ j. ⊎_elim (λ n. ⊎_elim (λ m. by_this (way_joined x w j (inl m))) (λ m. by_later m) (takes_parts n)) (λ n. by_this (way_joined x w j (inr n))) h)
       (λ _. ⊎_elim (λ n. ⊎_elim (λ m. by_this m) (λ m. by_later (with_way_in xs w (inl m))) (takes_parts n)) (λ n. by_later (with_way_in xs w (inr n))) h)
 
   pub with_way_out : {s : List Event} (xs : Residual) (w : Way) → Takes g (with_way xs w) s → Takes g xs s ⊎ TakesWay g w s

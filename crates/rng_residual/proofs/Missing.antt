@@ -5,7 +5,7 @@ use Rattle.rng_core.specs.Patterns.{Pattern, Definition, Language}
 use Rattle.rng_core.specs.Validity.{Valid, Viable}
 use Rattle.rng_kept.specs.Moves.{Move, take, skip_to, any_value, any_string, missing_attributes, missing_content, Adds, adds_event, adds_skipped, adds_value, adds_string, adds_attributes, adds_content, is_tag_open, open_elements, attributes_of}
 use Rattle.rng_kept.specs.KeptLists.{Kept, IsEndOf, CanMove}
-use Rattle.rng_kept.specs.Residuals.{document, inside, Way, among, in_tag, Residual, is_tag, is_in_tag, at_document, at_inside, TakesWay, among_children, in_start_tag, Takes, by_this, by_later}
+use Rattle.rng_kept.specs.Residuals.{Outer, Way, among, in_tag, Residual, is_tag, is_in_tag, TakesOuter, at_document, at_inside, at_this, at_other, TakesWay, among_children, in_start_tag, Takes, by_this, by_later}
 use Rattle.rng_kept.specs.Lively.{IsLively, AreLively, Lively, lively}
 use Rattle.rng_residual.proofs.Alive.{lively_first}
 use Rattle.rng_kept.specs.Live.{AreLive}
@@ -185,14 +185,19 @@ record TagRest (s : List Event) : Type 0 where
   rest : List Event
   is : s ≡ attributes_flat attributes (TagEnd ∷ rest)
 
+-- what is left outside of tags doesn't begin in one
+no_outside_in_tag : {X : Type 0} {g : List Definition} {o : Outer} (s : List Event) → TakesOuter g o s → is_tagged true s ≡ true → X
+no_outside_in_tag s (at_document c e m) h = absurd (true≢false (sym h ∙ (ap (λ (z : List Event). is_tagged true z) e ∙ no_children_in_tag c [] refl)))
+no_outside_in_tag s (at_inside k rest e m t) h =
+    absurd (true≢false (sym h ∙ (ap (λ (z : List Event). is_tagged true z) e ∙ no_children_in_tag k (Leave ∷ rest) refl)))
+no_outside_in_tag s (at_this t) h = no_outside_in_tag s t h
+no_outside_in_tag s (at_other t) h = no_outside_in_tag s t h
+
 in_tag_rest : {g : List Definition} (x : Residual) (s : List Event) → Takes g x s → is_tagged true s ≡ true → TagRest s
 in_tag_rest [] s t h = elim t [ ]
 in_tag_rest (w ∷ ws) s (by_later t) h = in_tag_rest ws s t h
 in_tag_rest (w ∷ ws) s (by_this (in_start_tag a k rest e m t)) h = record { attributes = a; rest = children_flat k (Leave ∷ rest); is = e }
-in_tag_rest (w ∷ ws) s (by_this (among_children (at_document c e m))) h =
-    absurd (true≢false (sym h ∙ (ap (λ (z : List Event). is_tagged true z) e ∙ no_children_in_tag c [] refl)))
-in_tag_rest (w ∷ ws) s (by_this (among_children (at_inside k rest e m t))) h =
-    absurd (true≢false (sym h ∙ (ap (λ (z : List Event). is_tagged true z) e ∙ no_children_in_tag k (Leave ∷ rest) refl)))
+in_tag_rest (w ∷ ws) s (by_this (among_children t)) h = no_outside_in_tag s t h
 
 -- events inside of an element
 record ContentRest (s : List Event) : Type 0 where
@@ -200,15 +205,20 @@ record ContentRest (s : List Event) : Type 0 where
   rest : List Event
   is : s ≡ children_flat children (Leave ∷ rest)
 
+outer_rest : {g : List Definition} {o : Outer} (d : ℕ) (s : List Event) → 1 ≤ d → TakesOuter g o s → depth_after d s ≡ 0 → ContentRest s
+outer_rest d s l (at_document c f m) e =
+    let none : d ≡ 0 = sym (ap (λ (z : List Event). depth_after d z) f ∙ depth_children d c []) ∙ e in
+    absurd (omega (arith, l, none))
+outer_rest d s l (at_inside k rest f m t) e = record { children = k; rest = rest; is = f }
+outer_rest d s l (at_this t) e = outer_rest d s l t e
+outer_rest d s l (at_other t) e = outer_rest d s l t e
+
 content_rest : {g : List Definition} (d : ℕ) (x : Residual) (s : List Event) → 1 ≤ d → Takes g x s → is_tagged false s ≡ true → depth_after d s ≡ 0 → ContentRest s
 content_rest d [] s l t h e = elim t [ ]
 content_rest d (w ∷ ws) s l (by_later t) h e = content_rest d ws s l t h e
 content_rest d (w ∷ ws) s l (by_this (in_start_tag a k rest f m t)) h e =
     absurd (true≢false (sym h ∙ (ap (λ (z : List Event). is_tagged false z) f ∙ no_attributes_outside a (children_flat k (Leave ∷ rest)))))
-content_rest d (w ∷ ws) s l (by_this (among_children (at_document c f m))) h e =
-    let none : d ≡ 0 = sym (ap (λ (z : List Event). depth_after d z) f ∙ depth_children d c []) ∙ e in
-    absurd (omega (arith, l, none))
-content_rest d (w ∷ ws) s l (by_this (among_children (at_inside k rest f m t))) h e = record { children = k; rest = rest; is = f }
+content_rest d (w ∷ ws) s l (by_this (among_children t)) h e = outer_rest d s l t e
 
 module _ {g : Language} {p : Pattern} {h : List Move} {x : Residual} (live : AreLive g.definitions) (f : Stands g p h x) where
   missing_tag : is_tag_open h ≡ true → CanMove g p h missing_attributes
@@ -259,10 +269,7 @@ way_told {g = g} {p = p} {h = h} {x = x} live f w i up =
     told false (among o) s t e = refl
     told false (in_tag q o) s (in_start_tag a k rest d m t) e =
         absurd (true≢false (sym e ∙ (ap (λ (z : List Event). is_tagged false z) d ∙ no_attributes_outside a (children_flat k (Leave ∷ rest)))))
-    told true (among (document q)) s (among_children (at_document c d m)) e =
-        absurd (true≢false (sym e ∙ (ap (λ (z : List Event). is_tagged true z) d ∙ no_children_in_tag c [] refl)))
-    told true (among (inside q l v o)) s (among_children (at_inside k rest d m t)) e =
-        absurd (true≢false (sym e ∙ (ap (λ (z : List Event). is_tagged true z) d ∙ no_children_in_tag k (Leave ∷ rest) refl)))
+    told true (among o) s (among_children t) e = no_outside_in_tag s t e
 
 ways_told : {g : Language} {p : Pattern} {h : List Move} {x : Residual} → AreLive g.definitions → Stands g p h x → (w : Way) (ws : Residual) → AreLively g.definitions (attributes_of h) (w ∷ ws) →
     ((s : List Event) → Takes g.definitions (w ∷ ws) s → Takes g.definitions x s) → is_in_tag (w ∷ ws) ≡ is_tag_open h

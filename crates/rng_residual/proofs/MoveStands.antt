@@ -1,5 +1,5 @@
 -- A residual stands for the kept lists behind each move.
-use Rattle.std.proofs.Common.{◌≡◌, ℕ, List, [], ◌∷◌, ◌++◌, Bool, true, false, refl, ap, sym, subst, inr, ⊎_elim, ◌∙◌, append_assoc}
+use Rattle.std.proofs.Common.{◌≡◌, ℕ, List, [], ◌∷◌, ◌++◌, Bool, true, false, refl, ap, sym, subst, inl, inr, ⊎_elim, ◌∙◌, append_assoc}
 use Rattle.std.specs.Prelude.{IsTrue, if◌then◌else◌}
 use Rattle.std.specs.Str.{is_utf8}
 use Rattle.nx_base.specs.declared.name.Name.{Name}
@@ -10,11 +10,11 @@ use Rattle.rng_core.specs.Matching.{Matches}
 use Rattle.rng_core.specs.Validity.{Valid, Viable}
 use Rattle.rng_kept.specs.SmallPatterns.{is_not_allowed}
 use Rattle.rng_kept.specs.Lists.{has_flat_lists}
-use Rattle.rng_kept.specs.Residuals.{Outer, document, inside, Way, among, in_tag, Residual, TakesChildren, strictly, loosely, voidly, TakesOuter, at_document, at_inside, TakesWay, among_children, in_start_tag, Takes, by_this, by_later}
+use Rattle.rng_kept.specs.Residuals.{Outer, document, inside, one_of, Way, among, in_tag, Residual, TakesChildren, strictly, loosely, voidly, TakesOuter, at_document, at_inside, at_this, at_other, TakesWay, among_children, in_start_tag, Takes, by_this, by_later}
 use Rattle.rng_kept.specs.Merging.{stepped, answered}
 use Rattle.rng_kept.specs.Events.{IsAmong, IsText, AreText, IsDistinct, distinct_attribute, distinct_enter, distinct_chars, distinct_leave}
 use Rattle.rng_kept.specs.Clean.{Clean, Fine}
-use Rattle.rng_kept.specs.Lively.{Within, IsLivelyOutside, lively_document, lively_inside, IsLively, lively_among, lively_in_tag, AreLively, none_lively}
+use Rattle.rng_kept.specs.Lively.{Within, IsLivelyOutside, lively_document, lively_inside, lively_one_of, IsLively, lively_among, lively_in_tag, AreLively, none_lively}
 use Rattle.rng_kept.specs.Moves.{Move, take, skip_to, any_value, any_string, missing_attributes, missing_content, Adds, adds_skipped, adds_value, adds_string, adds_attributes, adds_content, attributes_after, attributes_of, IsTextMove, AreTextMoves}
 use Rattle.rng_kept.specs.KeptLists.{Asks, Kept, IsEndOf}
 use Rattle.rng_kept.specs.Live.{IsFrame, AreLive}
@@ -23,7 +23,7 @@ use Rattle.rng_residual.proofs.SmallPatterns.{and_true, never_no, is_not_allowed
 use Rattle.rng_kept.specs.SolidStrings.{solid_tests, after_solid}
 use Rattle.rng_residual.specs.Solid.{TestsSolid}
 use Rattle.rng_residual.proofs.Members.{tests_are_solid}
-use Rattle.rng_kept.specs.Content.{among_of, leave_skip_way, leave_skip, outer_after_any, any_string_way, chars_any}
+use Rattle.rng_kept.specs.Content.{leave_skip_way, leave_skip, any_string_outer, any_string_way, chars_any}
 use Rattle.rng_kept.specs.Tags.{children_of, any_value_way, attribute_any, missing_way, tag_end_missing}
 use Rattle.rng_kept.specs.Entering.{skip_way, enter_skip}
 use Rattle.rng_kept.specs.Attributes.{after_any_attribute, drop}
@@ -36,8 +36,8 @@ use Rattle.rng_residual.proofs.Repair.{repair, distinct_right, distinct_apart2}
 use Rattle.rng_residual.proofs.Fresh.{attributes_can_be_written as attributes_written}
 use Rattle.rng_residual.proofs.Content.{among_in, among_out, spoken, not_chars}
 use Rattle.rng_residual.proofs.Tags.{children_of_in, children_of_out, tag_in, tag_out, no_attribute_outside, given, ended, outer_of}
-use Rattle.rng_residual.proofs.Merging.{Taking, SomeWay, this_way, later_way, some_taking, stepped_in, stepped_out_all}
-use Rattle.rng_residual.proofs.Alive.{lively_stepped, lively_among_of, lively_tag_of, one_within, end_children}
+use Rattle.rng_residual.proofs.Merging.{with_ways_in, with_ways_out, Taking, SomeWay, this_way, later_way, some_taking, stepped_in, stepped_out_all}
+use Rattle.rng_residual.proofs.Alive.{lively_stepped, lively_with_ways, lively_among_of, lively_tag_of, one_within, end_children}
 use Rattle.rng_residual.proofs.Distinct.{distinct_children, distinct_attributes_on, text_of_writable, attributes_append, children_append}
 use Rattle.rng_residual.proofs.Standing.{answer_stands, lively_all, writable_end, adds_is, event_stands}
 use Rattle.rng_residual.proofs.Events.{attributes_unique}
@@ -256,18 +256,22 @@ kept_string t r b = go (is_blank t) b
     go false e = refl
 
 module _ {g : List Definition} (z : TestsSolid g) where
-  any_outer_in : {t : List ℕ} {s : List Event} → IsTrue (is_utf8 t) → is_blank t ≡ false → {o : Outer} → IsLivelyOutside g o → TakesOuter g o (Chars t ∷ s) → TakesOuter g (outer_after_any o) s
+  any_outer_in : {t : List ℕ} {s : List Event} → IsTrue (is_utf8 t) → is_blank t ≡ false → {o : Outer} → IsLivelyOutside g o → TakesOuter g o (Chars t ∷ s) → Takes g (any_string_outer o) s
   any_outer_in {t = t} {s = s} u b (lively_document {p = p} c) (at_document k e m) =
       let w = spoken t k s [] (λ d. cc) e in
-      at_document w.rest w.events (by_in (fine_keeps g false true) (tests_of_fine false true (z.all.passes t u b)) (fine c) (subst (λ x. Matches g p [] x) w.is m))
-  any_outer_in {t = t} {s = s} u b (lively_inside {b = p} {l = l} {v = v} c d a h) (at_inside k rest e m i) =
+      among_in (document (after_solid p))
+      (at_document w.rest w.events (by_in (fine_keeps g false true) (tests_of_fine false true (z.all.passes t u b)) (fine c) (subst (λ x. Matches g p [] x) w.is m)))
+  any_outer_in {t = t} {s = s} u b (lively_inside {b = p} {l = l} {v = v} {o = o} c d a h) (at_inside k rest e m i) =
       let w = spoken t k s (Leave ∷ rest) (λ d. cc) e in
-      at_inside w.rest rest w.events (go w.rest (subst (λ x. TakesChildren g p l v x) w.is m)) i
+      among_in (inside (after_solid p) (after_solid l) false o)
+      (at_inside w.rest rest w.events (go w.rest (subst (λ x. TakesChildren g p l v x) w.is m)) i)
     where
       go : (r : Children) → TakesChildren g p l v (string t r) → TakesChildren g (after_solid p) (after_solid l) false r
       go r (strictly n) = strictly (by_in (fine_keeps g false true) (tests_of_fine false true (z.all.passes t u b)) c n)
       go r (loosely n) = loosely (by_in (fine_keeps g false false) (tests_of_fine false false (z.all.passes t u b)) d (subst (λ x. Matches g l [] x) (kept_string t r b) n))
       go r (voidly x y) = cc
+  any_outer_in u b (lively_one_of {o = o} {u = r} h i) (at_this k) = with_ways_in (any_string_outer o) (any_string_outer r) (inl (any_outer_in u b h k))
+  any_outer_in u b (lively_one_of {o = o} {u = r} h i) (at_other k) = with_ways_in (any_string_outer o) (any_string_outer r) (inr (any_outer_in u b i k))
 
   any_fine_out : {f b : Bool} (p : Pattern) → Fine g f b p → {k : Children} → Matches g (after_solid p) [] k → OneString g IsSolid p k
   any_fine_out p c {k = k} m = go (is_not_allowed p) refl
@@ -279,11 +283,14 @@ module _ {g : List Definition} (z : TestsSolid g) where
       go true e = none (subst (λ q. Matches g (after_solid q) [] k) (is_not_allowed-is p e) m)
       go false e = any_string_out z.none_else (c.clean e) m
 
-  any_outer_out : {s : List Event} {o : Outer} → IsLivelyOutside g o → TakesOuter g (outer_after_any o) s → OuterString g o s
-  any_outer_out (lively_document c) (at_document k e m) =
+  any_document_out : {s : List Event} {p : Pattern} → Clean g false true p → TakesOuter g (document (after_solid p)) s → OuterString g (document p) s
+  any_document_out c (at_document k e m) =
       let w = any_string_out z.none_else c m in
       record { text = w.text; solid = w.is_ok; taken = at_document (string w.text k) (ap (λ (y : List Event). Chars w.text ∷ y) e) w.matched }
-  any_outer_out {s = s} (lively_inside {b = p} {l = l} {v = v} {o = o} c d a h) (at_inside k rest e m i) = go m
+
+  any_inside_out : {s : List Event} {p l : Pattern} {v : Bool} {o : Outer} → Fine g false true p → Fine g false false l →
+      TakesOuter g (inside (after_solid p) (after_solid l) false o) s → OuterString g (inside p l v o) s
+  any_inside_out {s = s} {p = p} {l = l} {v = v} {o = o} c d (at_inside k rest e m i) = go m
     where
       go : TakesChildren g (after_solid p) (after_solid l) false k → OuterString g (inside p l v o) s
       go (strictly n) =
@@ -294,17 +301,28 @@ module _ {g : List Definition} (z : TestsSolid g) where
           record { text = w.text; solid = w.is_ok; taken = at_inside (string w.text k) rest (ap (λ (y : List Event). Chars w.text ∷ y) e) (loosely (rw (kept_string w.text k w.is_ok.1) w.matched)) i }
       go (voidly x y) = cc
 
-  any_outer_lively : {o : Outer} → IsLivelyOutside g o → AreLively g [] (among_of (outer_after_any o))
+  any_outer_out : {s : List Event} {o : Outer} → IsLivelyOutside g o → Takes g (any_string_outer o) s → OuterString g o s
+  any_outer_out (lively_document {p = p} c) h = any_document_out c (among_out (document (after_solid p)) h)
+  any_outer_out (lively_inside {b = p} {l = l} {v = v} {o = o} c d a h) i = any_inside_out c d (among_out (inside (after_solid p) (after_solid l) false o) i)
+  any_outer_out (lively_one_of {o = o} {u = u} h i) k =
+      ⊎_elim
+      (λ x. let w = any_outer_out h x in record { text = w.text; solid = w.solid; taken = at_this w.taken })
+      (λ x. let w = any_outer_out i x in record { text = w.text; solid = w.solid; taken = at_other w.taken })
+      (with_ways_out (any_string_outer o) (any_string_outer u) k)
+
+  any_outer_lively : {o : Outer} → IsLivelyOutside g o → AreLively g [] (any_string_outer o)
   any_outer_lively (lively_document {p = p} c) = lively_among_of (document (after_solid p)) (λ e. lively_document ((fine_after solid_tests p (fine c)).clean e))
   any_outer_lively (lively_inside {b = b} {l = l} {o = o} c d a h) = lively_among_of (inside (after_solid b) (after_solid l) false o) (λ e. lively_inside (fine_after solid_tests b c) (fine_after solid_tests l d) e h)
+  any_outer_lively (lively_one_of {o = o} {u = u} h i) =
+      lively_with_ways (any_string_outer o) (any_string_outer u) (any_outer_lively h) (any_outer_lively i)
 
   any_string_way_in : {l : List Name} {t : List ℕ} {s : List Event} → IsTrue (is_utf8 t) → is_blank t ≡ false → (w : Way) → IsLively g l w → TakesWay g w (Chars t ∷ s) → Takes g (any_string_way w) s
-  any_string_way_in u b (among o) (lively_among h) (among_children k) = among_in (outer_after_any o) (any_outer_in u b h k)
+  any_string_way_in u b (among o) (lively_among h) (among_children k) = any_outer_in u b h k
   any_string_way_in u b (in_tag p o) i (in_start_tag a k rest e w h) = not_chars _ a e
 
   any_string_way_out : {l : List Name} {s : List Event} → IsDistinct [] s → (w : Way) → IsLively g l w → Takes g (any_string_way w) s → WayBefore g l any_string s w
   any_string_way_out d (among o) (lively_among h) k =
-      let w = any_outer_out h (among_out (outer_after_any o) k) in
+      let w = any_outer_out h k in
       record { added = Chars w.text ∷ []; adds = adds_string w.text w.solid.0 w.solid.1; distinct = distinct_chars d; taken = among_children w.taken }
   any_string_way_out d (in_tag p o) i k = elim k [ ]
 
@@ -343,6 +361,8 @@ end_inside (x ∷ a) (element n b k c) s z e = cc
 pub no_tag_outside : {X : Type 0} {g : List Definition} (a : List Attribute) (s : List Event) (o : Outer) → TakesOuter g o (attributes_flat a (TagEnd ∷ s)) → X
 no_tag_outside a s (document p) (at_document c e m) = end_top a c s e
 no_tag_outside a s (inside b l v o) (at_inside k rest e c h) = end_inside a k s rest e
+no_tag_outside a s (one_of o u) (at_this h) = no_tag_outside a s o h
+no_tag_outside a s (one_of o u) (at_other h) = no_tag_outside a s u h
 
 module _ {g : List Definition} (z : TestsSolid g) where
   missing_way_in : {l : List Name} (a : List Attribute) (s : List Event) → AreText s → (w : Way) → IsLively g l w → TakesWay g w (attributes_flat a (TagEnd ∷ s)) → Takes g (missing_way w) s

@@ -16,9 +16,9 @@ use Rattle.rng_kept.specs.SmallPatterns.{is_not_allowed}
 use Rattle.rng_kept.specs.Moves.{Move, attributes_of, Adds, adds_skipped, adds_content}
 use Rattle.rng_kept.specs.KeptLists.{HasChild, this_element, behind_element, behind_string, skip_end, skip_move, IsNeeded, Kept, Asks, IsEndOf, CanMove}
 use Rattle.rng_kept.specs.Events.{IsText, AreText}
-use Rattle.rng_kept.specs.Residuals.{Outer, document, inside, among, in_tag, Residual, TakesChildren, strictly, loosely, voidly, TakesOuter, at_document, at_inside, among_children, in_start_tag, Takes, by_this, by_later}
+use Rattle.rng_kept.specs.Residuals.{Outer, document, inside, one_of, among, in_tag, Residual, TakesChildren, strictly, loosely, voidly, TakesOuter, at_document, at_inside, at_this, at_other, among_children, in_start_tag, Takes, by_this, by_later}
 use Rattle.rng_kept.specs.Clean.{Clean, clean_empty, clean_text, clean_data, clean_value, clean_list, clean_attribute, clean_ref, clean_one_or_more, clean_choice, clean_group, clean_interleave, Fine}
-use Rattle.rng_kept.specs.Lively.{IsLivelyOutside, lively_document, lively_inside, IsLively, lively_among, AreLively}
+use Rattle.rng_kept.specs.Lively.{IsLivelyOutside, lively_document, lively_inside, lively_one_of, IsLively, lively_among, AreLively}
 use Rattle.rng_kept.specs.Live.{AreLive}
 use Rattle.rng_kept.specs.Standing.{Stands}
 use Rattle.rng_kept.specs.Needed.{is_in, either_way, sole_names, defined_names, child_names, in_front, front_names, content_names, outer_names, way_skips, skip_names, or_none, needed}
@@ -442,6 +442,10 @@ outer_there {g = g} (Some m) s over (inside b l w o) (at_inside k rest e c t) =
     go r q (strictly f) = needs_first (front_names g m b) (front_names g m l) (front_there q f) (λ n h. h)
     go r q (loosely f) = needs_second (front_names g m b) (front_names g m l) (front_there (order_without_blanks q) f) (λ n h. blanks_back over h)
     go r q (voidly f h) = no_element q h
+outer_there {g = g} (Some m) s over (one_of o u) (at_this h) =
+    needs_first (outer_names g (Some m) o) (outer_names g (Some m) u) (outer_there (Some m) s over o h) (λ n k. k)
+outer_there {g = g} (Some m) s over (one_of o u) (at_other h) =
+    needs_second (outer_names g (Some m) o) (outer_names g (Some m) u) (outer_there (Some m) s over u h) (λ n k. k)
 outer_there None s over (document p) (at_document c e f) = no_leave s over c e
 outer_there {g = g} None s over (inside b l w o) (at_inside k rest e c t) =
     let u = children_unique over k s rest e in
@@ -452,6 +456,10 @@ outer_there {g = g} None s over (inside b l w o) (at_inside k rest e c t) =
     go false (strictly f) = needs_first (content_names g b) (content_names g l) (content_there f) (λ n h. h)
     go false (loosely f) = needs_second (content_names g b) (content_names g l) (content_there f) (λ n h. blanks_back over h)
     go false (voidly f h) = cc
+outer_there {g = g} None s over (one_of o u) (at_this h) =
+    needs_first (outer_names g None o) (outer_names g None u) (outer_there None s over o h) (λ n k. k)
+outer_there {g = g} None s over (one_of o u) (at_other h) =
+    needs_second (outer_names g None o) (outer_names g None u) (outer_there None s over u h) (λ n k. k)
 
 no_tag_skipped : {X : Type 0} (skip : Option Name) (s z : List Event) (x : Children) (a : List Attribute) → children_flat x (skip_end skip ∷ s) ≡ attributes_flat a (TagEnd ∷ z) → X
 no_tag_skipped (Some m) s z x a e = not_tag m s z x a e
@@ -501,6 +509,12 @@ fine_content {g = g} {b = b} {n = n} p c s = go (is_not_allowed p) refl s
         let same : child_names g p ≡ w.names = let f : Some (child_names g p) ≡ Some w.names = w.is in cc in
         lacking (c.clean e) (ap (λ (ns : List Name). is_in n ns) same ∙ w.lacks)
 
+lacking_this : {g : List Definition} {skip : Option Name} {o u : Outer} {n : Name} → OuterLacking g skip o n → OuterLacking g skip (one_of o u) n
+lacking_this w = record { over = w.over; written = w.written; rest = w.rest; fresh = w.fresh; taken = at_this w.taken; lacks = w.lacks }
+
+lacking_other : {g : List Definition} {skip : Option Name} {o u : Outer} {n : Name} → OuterLacking g skip u n → OuterLacking g skip (one_of o u) n
+lacking_other w = record { over = w.over; written = w.written; rest = w.rest; fresh = w.fresh; taken = at_other w.taken; lacks = w.lacks }
+
 outer_lacking : {g : List Definition} (skip : Option Name) {o : Outer} (n : Name) → IsLivelyOutside g o → Spares (outer_names g skip o) n → OuterLacking g skip o n
 outer_lacking (Some m) n (lively_document {p = p} c) s =
     let w = front_lacking c s in
@@ -515,6 +529,9 @@ outer_lacking {g = g} (Some m) n (lively_inside {b = b} {l = l} {v = v} {o = o} 
     let w = fine_front l d f in
     up_to_element w (Leave ∷ u.rest) (λ k. fresh_leave (u.fresh [])) (at_inside w.all u.rest refl (loosely (rw (solid_stays (w.solid refl)) w.matched)) u.taken))
     (one_spares (front_names g m b) (front_names g m l) n s)
+outer_lacking {g = g} (Some m) n (lively_one_of {o = o} {u = u} h i) s =
+    ⊎_elim (λ f. lacking_this (outer_lacking (Some m) n h f)) (λ f. lacking_other (outer_lacking (Some m) n i f))
+    (one_spares (outer_names g (Some m) o) (outer_names g (Some m) u) n s)
 outer_lacking None n (lively_document c) s = let none : None ≡ Some s.names = s.is in cc
 outer_lacking {g = g} None n (lively_inside {b = b} {l = l} {v = v} {o = o} c d a h) s = go v refl s
   where
@@ -537,6 +554,9 @@ outer_lacking {g = g} None n (lively_inside {b = b} {l = l} {v = v} {o = o} c d 
         (λ t. let w = fine_content b c t in all_of w.children w.written (strictly w.matched) w.lacks)
         (λ t. let w = fine_content l d t in all_of w.children w.written (loosely (rw (solid_stays (w.solid refl)) w.matched)) w.lacks)
         (one_spares (content_names g b) (content_names g l) n f)
+outer_lacking {g = g} None n (lively_one_of {o = o} {u = u} h i) s =
+    ⊎_elim (λ f. lacking_this (outer_lacking None n h f)) (λ f. lacking_other (outer_lacking None n i f))
+    (one_spares (outer_names g None o) (outer_names g None u) n s)
 
 record SkipLacking (g : List Definition) (l : List Name) (skip : Option Name) (x : Residual) (n : Name) : Type 0 where
   over : Children

@@ -9,10 +9,10 @@ use Rattle.rng_core.specs.Matching.{InOrder, then_second, string_of_first, eleme
 use Rattle.rng_kept.specs.SmallPatterns.{is_not_allowed, group_of, star}
 use Rattle.rng_kept.specs.Openings.{Opening, then_group, then_interleave, under_interleave}
 use Rattle.rng_residual.specs.Openings.{Opened, opened_first, opened_later}
-use Rattle.rng_kept.specs.Residuals.{Outer, document, inside, Way, among, in_tag, Residual, TakesChildren, strictly, loosely, voidly, TakesOuter, at_document, at_inside, TakesWay, among_children, in_start_tag, Takes, by_this, by_later}
+use Rattle.rng_kept.specs.Residuals.{Outer, document, inside, one_of, Way, among, in_tag, Residual, TakesChildren, strictly, loosely, voidly, TakesOuter, at_document, at_inside, at_this, at_other, TakesWay, among_children, in_start_tag, Takes, by_this, by_later}
 use Rattle.rng_kept.specs.Entering.{rest_at, has_number, others, tag_of_both, tag_of_loose, skip_outer, skip_way, enter_skip}
 use Rattle.rng_kept.specs.Clean.{Clean, clean_empty, clean_text, clean_data, clean_value, clean_list, clean_attribute, clean_ref, clean_one_or_more, clean_choice, clean_group, clean_interleave, Fine}
-use Rattle.rng_kept.specs.Lively.{IsLivelyOutside, lively_document, lively_inside, IsLively, lively_among, AreLively, none_lively, one_lively}
+use Rattle.rng_kept.specs.Lively.{IsLivelyOutside, lively_document, lively_inside, lively_one_of, IsLively, lively_among, AreLively, none_lively, one_lively}
 use Rattle.rng_residual.proofs.SmallPatterns.{never_no, is_not_allowed-is}
 use Rattle.rng_residual.proofs.Entering.{AreNamed, none_named, named_first, joined_named, group_named, left_named, right_named, definition_named, either_takes, first_takes, top_in, both_in, loose_in, element_in, opened_at, top_out}
 use Rattle.rng_kept.specs.Live.{AreLive}
@@ -23,8 +23,9 @@ use Rattle.rng_residual.proofs.Fresh.{CanBeWritten}
 use Rattle.rng_residual.proofs.Joining.{none_written, solid_stays}
 use Rattle.rng_residual.proofs.Skip.{skip_in, skip_out, some_children}
 use Rattle.rng_residual.proofs.Events.{attributes_unique, children_unique, order_flat, passed, at_end, at_leave, order_without_blanks, seen}
-use Rattle.rng_residual.proofs.Merging.{Taking, SomeWay, this_way, later_way, some_taking, stepped_in, stepped_out_all}
-use Rattle.rng_residual.proofs.Alive.{lively_first, lively_stepped, joined_clean, group_clean, left_clean, right_clean, definition_clean, AreCleanRests, no_rests, tops_lively, both_lively, loose_lively, all_append, others_named, others_clean}
+use Rattle.rng_residual.proofs.Merging.{with_ways_in, with_ways_out, Taking, SomeWay, this_way, later_way, some_taking, stepped_in, stepped_out_all}
+use Rattle.rng_residual.proofs.Content.{ways_of_in, ways_of_out}
+use Rattle.rng_residual.proofs.Alive.{lively_first, lively_with_ways, ways_of_lively, lively_stepped, joined_clean, group_clean, left_clean, right_clean, definition_clean, AreCleanRests, no_rests, tops_lively, both_lively, loose_lively, all_append, others_named, others_clean}
 
 -- ---- the openings name definitions, and are clean
 
@@ -86,6 +87,8 @@ skip_outer_lively {g = g} n live (lively_inside {b = b} {l = l} {o = o} c d a h)
     all_append (map (tag_of_both g (skip_opens g n l) o) (skip_opens g n b)) (map (tag_of_loose g o) (others (skip_opens g n b) (skip_opens g n l)))
     (both_lively live h (skip_opens g n l) (skip_opens g n b) (skip_fine l n d) (skip_named b) (skip_fine b n c))
     (loose_lively live h (others (skip_opens g n b) (skip_opens g n l)) (others_named (skip_opens g n b) (skip_opens g n l) (skip_named l)) (others_clean (skip_opens g n b) (skip_opens g n l) (skip_fine l n d)))
+skip_outer_lively {g = g} n live (lively_one_of {o = o} {u = u} h i) =
+    lively_with_ways (skip_outer g n o) (skip_outer g n u) (skip_outer_lively n live h) (skip_outer_lively n live i)
 
 pub skip_way_lively : {g : List Definition} {l : List Name} (n : Name) → AreLive g → (w : Way) → IsLively g l w → AreLively g [] (skip_way g n w)
 skip_way_lively n live (among o) (lively_among h) = skip_outer_lively n live h
@@ -113,6 +116,8 @@ skip_outer_in {g = g} n s over (inside b l w o) (at_inside k rest e c t) =
     go r q (strictly m) = first_takes (map (tag_of_both g (skip_opens g n l) o) (skip_opens g n b)) _ (both_in (skip_opens g n l) o rest t (skip_opens g n b) (skip_in q m))
     go r q (loosely m) = loose_in (skip_opens g n b) (skip_opens g n l) o rest t (skip_opens g n l) r (λ i h. h) (skip_in (order_without_blanks q) m)
     go r q (voidly f h) = no_element q h
+skip_outer_in {g = g} n s over (one_of o u) (at_this t) = with_ways_in (skip_outer g n o) (skip_outer g n u) (inl (skip_outer_in n s over o t))
+skip_outer_in {g = g} n s over (one_of o u) (at_other t) = with_ways_in (skip_outer g n o) (skip_outer g n u) (inr (skip_outer_in n s over u t))
 
 -- what an opened tag takes, by openings of one kind or the other
 record OutOfTwo (g : List Definition) (n : Name) (strict loose : List Opening) (outer : Outer) (s : List Event) : Type 0 where
@@ -221,6 +226,11 @@ skip_outer_out {g = g} {n = n} {s = s} (lively_inside {b = b} {l = l} {v = v} {o
     (λ x. loose_out n (skip_opens g n b) (skip_opens g n l) o (skip_opens g n l) (skip_named l) (λ a k r y. y) x)
     (either_takes (map (tag_of_both g (skip_opens g n l) o) (skip_opens g n b)) _ t) in
     skip_inside_out b l v o c d w
+skip_outer_out {g = g} {n = n} {s = s} (lively_one_of {o = o} {u = u} h i) t =
+    ⊎_elim
+    (λ x. let w = skip_outer_out h x in record { over = w.over; written = w.written; taken = at_this w.taken })
+    (λ x. let w = skip_outer_out i x in record { over = w.over; written = w.written; taken = at_other w.taken })
+    (with_ways_out (skip_outer g n o) (skip_outer g n u) t)
 
 -- ---- of residuals
 
@@ -310,12 +320,18 @@ leave_outer_skip_in : {g : List Definition} {s : List Event} (over : Children) (
 leave_outer_skip_in {s = s} over (document p) (at_document c e m) = no_leave s over c e
 leave_outer_skip_in {g = g} {s = s} over (inside b l v o) (at_inside k rest e c h) =
     let u = children_unique over k s rest e in
-    by_this (among_children (subst (λ z. TakesOuter g o z) (sym u.1) h))
+    ways_of_in o (subst (λ z. TakesOuter g o z) (sym u.1) h)
+leave_outer_skip_in over (one_of o u) (at_this h) = with_ways_in (leave_skip_outer o) (leave_skip_outer u) (inl (leave_outer_skip_in over o h))
+leave_outer_skip_in over (one_of o u) (at_other h) = with_ways_in (leave_skip_outer o) (leave_skip_outer u) (inr (leave_outer_skip_in over u h))
 
 leave_outer_skip_out : {g : List Definition} {s : List Event} {o : Outer} → IsLivelyOutside g o → Takes g (leave_skip_outer o) s → LeavesOuter g o s
 leave_outer_skip_out (lively_document c) h = elim h [ ]
-leave_outer_skip_out (lively_inside c d a h) (by_this (among_children t)) = children_viable c d a t
-leave_outer_skip_out (lively_inside c d a h) (by_later t) = elim t [ ]
+leave_outer_skip_out (lively_inside {o = o} c d a h) t = children_viable c d a (ways_of_out o t)
+leave_outer_skip_out (lively_one_of {o = o} {u = u} h i) t =
+    ⊎_elim
+    (λ x. let w = leave_outer_skip_out h x in record { over = w.over; written = w.written; taken = at_this w.taken })
+    (λ x. let w = leave_outer_skip_out i x in record { over = w.over; written = w.written; taken = at_other w.taken })
+    (with_ways_out (leave_skip_outer o) (leave_skip_outer u) t)
 
 pub not_tag_leave : {X : Type 0} (s z : List Event) (x : Children) (a : List Attribute) → children_flat x (Leave ∷ s) ≡ attributes_flat a (TagEnd ∷ z) → X
 not_tag_leave s z nil [] e = cc
@@ -365,7 +381,9 @@ leave_skip_out {g = g} {l = l} {s = s} x a h =
 
 leave_skip_outer_lively : {g : List Definition} {o : Outer} → IsLivelyOutside g o → AreLively g [] (leave_skip_outer o)
 leave_skip_outer_lively (lively_document c) = none_lively
-leave_skip_outer_lively (lively_inside c d a h) = one_lively (lively_among h) none_lively
+leave_skip_outer_lively (lively_inside {o = o} c d a h) = ways_of_lively o h
+leave_skip_outer_lively (lively_one_of {o = o} {u = u} h i) =
+    lively_with_ways (leave_skip_outer o) (leave_skip_outer u) (leave_skip_outer_lively h) (leave_skip_outer_lively i)
 
 pub leave_skip_way_lively : {g : List Definition} {l : List Name} (w : Way) → IsLively g l w → AreLively g [] (leave_skip_way w)
 leave_skip_way_lively (among o) (lively_among h) = leave_skip_outer_lively h

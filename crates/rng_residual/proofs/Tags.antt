@@ -9,7 +9,7 @@ use Rattle.rng_core.specs.Matching.{no_attribute, Matches, by_empty, by_text, by
 use Rattle.rng_kept.specs.SmallPatterns.{is_not_allowed, one_or_more_of}
 use Rattle.rng_kept.specs.Nullable.{nullable}
 use Rattle.rng_kept.specs.Lists.{lists_are, has_no_list, has_flat_lists}
-use Rattle.rng_kept.specs.Residuals.{Outer, document, inside, Way, among, in_tag, Residual, MatchesWeakly, TakesChildren, strictly, loosely, voidly, TakesOuter, at_document, at_inside, TakesWay, among_children, in_start_tag, Takes, by_this}
+use Rattle.rng_kept.specs.Residuals.{Outer, document, inside, one_of, Way, among, in_tag, Residual, MatchesWeakly, TakesChildren, strictly, loosely, voidly, TakesOuter, at_document, at_inside, at_this, at_other, TakesWay, among_children, in_start_tag, Takes, by_this}
 use Rattle.rng_kept.specs.Entering.{enter_way, enter}
 use Rattle.rng_kept.specs.Events.{AreText}
 use Rattle.rng_residual.proofs.SmallPatterns.{Same, or_same, seq_same, mix_same, or_sides, by_test, and_true, never_no, is_not_allowed-is}
@@ -182,6 +182,8 @@ attribute_inside n v (element m a k r) s z e = cc
 pub no_attribute_outside : {X : Type 0} {g : List Definition} {n : Name} {v : List ℕ} {s : List Event} (o : Outer) → TakesOuter g o (Att n v ∷ s) → X
 no_attribute_outside {n = n} {v = v} {s = s} (document p) (at_document c e m) = attribute_top n v c s e
 no_attribute_outside {n = n} {v = v} {s = s} (inside b l w o) (at_inside k rest e c h) = attribute_inside n v k s rest e
+no_attribute_outside (one_of o u) (at_this h) = no_attribute_outside o h
+no_attribute_outside (one_of o u) (at_other h) = no_attribute_outside u h
 
 pub tag_in : {g : List Definition} {p : Pattern} {o : Outer} {s : List Event} → TakesWay g (in_tag p o) s → Takes g (tag_of p o) s
 tag_in {g = g} {p = p} {o = o} {s = s} h = by_test (λ r. Takes g r s) (is_not_allowed p) _ _ (λ e. none (subst (λ q. TakesWay g (in_tag q o) s) (is_not_allowed-is p e) h)) (λ _. by_this h)
@@ -241,6 +243,8 @@ end_inside (element n a k r) s z e = cc
 pub no_end_outside : {X : Type 0} {g : List Definition} {s : List Event} (o : Outer) → TakesOuter g o (TagEnd ∷ s) → X
 no_end_outside {s = s} (document p) (at_document c e m) = end_top c s e
 no_end_outside {s = s} (inside b l v o) (at_inside k rest e c h) = end_inside k s rest e
+no_end_outside (one_of o u) (at_this h) = no_end_outside o h
+no_end_outside (one_of o u) (at_other h) = no_end_outside u h
 
 -- what stands in a start tag is clean
 abbrev pub IsCleanTag : List Definition → Way → Type 0

@@ -14,7 +14,7 @@ use Rattle.rng_kept.specs.Events.{IsAmong, IsDistinct, distinct_enter}
 use Rattle.rng_kept.specs.Moves.{Move, take, attributes_of}
 use Rattle.rng_kept.specs.KeptLists.{IsEndOf, CanMove}
 use Rattle.rng_kept.specs.Mentioned.{class_mentions, IsClassOf, IsAttributesOf, itself, of_one_or_more, of_first_choice, of_second_choice, of_first_of_group, of_second_of_group, of_first_of_interleave, of_second_of_interleave, of_elements, of_attributes, AreUnmentionedAlike}
-use Rattle.rng_kept.specs.Residuals.{Outer, document, inside, Way, among, in_tag, Residual, TakesChildren, strictly, loosely, voidly, TakesOuter, at_document, at_inside, TakesWay, among_children, in_start_tag, Takes, by_this, by_later}
+use Rattle.rng_kept.specs.Residuals.{Outer, document, inside, one_of, Way, among, in_tag, Residual, TakesChildren, strictly, loosely, voidly, TakesOuter, at_document, at_inside, at_this, at_other, TakesWay, among_children, in_start_tag, Takes, by_this, by_later}
 use Rattle.rng_kept.specs.Live.{AreLive}
 use Rattle.rng_kept.specs.Lively.{IsLively, lively_in_tag, AreLively}
 use Rattle.rng_kept.specs.Standing.{Stands}
@@ -76,6 +76,8 @@ module _ {g : List Definition} {n m : Name} (both : (i : ℕ) (d : Definition) �
   renamed_outer (inside b l v o) s (at_inside k rest e x t) =
       let w = entered n k s (Leave ∷ rest) (λ d. cc) e in
       at_inside (element m w.attributes w.children w.rest) rest (ap (λ (z : List Event). Enter m ∷ z) w.events) (renamed_children (subst (λ c. TakesChildren g b l v c) w.is x)) t
+  renamed_outer (one_of o u) s (at_this t) = at_this (renamed_outer o s t)
+  renamed_outer (one_of o u) s (at_other t) = at_other (renamed_outer u s t)
 
   renamed_taken : (x : Residual) (s : List Event) → Takes g x (Enter n ∷ s) → Takes g x (Enter m ∷ s)
   renamed_taken [] s t = elim t [ ]

@@ -5,8 +5,8 @@ use Rattle.nx_base.specs.Trees.{Children, nil, Event, TagEnd, Leave, attributes_
 use Rattle.rng_core.specs.Patterns.{Pattern, Definition}
 use Rattle.rng_core.specs.Matching.{Matches, as_they_stand}
 use Rattle.rng_kept.specs.SmallPatterns.{is_not_allowed}
-use Rattle.rng_kept.specs.Residuals.{Outer, inside, Way, Residual, TakesChildren, strictly, loosely, voidly, TakesOuter, at_document, at_inside, TakesWay, among_children, in_start_tag, Takes, by_this}
-use Rattle.rng_kept.specs.Lively.{IsLivelyOutside, lively_document, lively_inside, IsLively, lively_among, lively_in_tag, Lively, lively}
+use Rattle.rng_kept.specs.Residuals.{Outer, inside, Way, Residual, TakesChildren, strictly, loosely, voidly, TakesOuter, at_document, at_inside, at_this, TakesWay, among_children, in_start_tag, Takes, by_this}
+use Rattle.rng_kept.specs.Lively.{IsLivelyOutside, lively_document, lively_inside, lively_one_of, IsLively, lively_among, lively_in_tag, Lively, lively}
 use Rattle.rng_residual.proofs.Fresh.{IsFresh, fresh_end, fresh_leave}
 use Rattle.rng_kept.specs.Live.{AreLive}
 use Rattle.rng_residual.proofs.Repair.{repair, distinct_right, distinct_apart2}
@@ -48,6 +48,7 @@ outer_viable {g = g} (lively_inside {b = b} {l = l} {v = v} {o = o} c d a h) = g
         in_children w.children w.written (loosely (rw (solid_stays (w.solid refl)) m)) k
     go k true true true ex ey ez f = in_children nil none_written (voidly ez refl) k
     go k true true false ex ey ez f = cc
+outer_viable (lively_one_of h i) = let w = outer_viable h in record { rest = w.rest; fresh = w.fresh; taken = at_this w.taken }
 
 -- what is taken, where the open tag has these attributes
 pub record HasRest (g : List Definition) (l : List Name) (x : Residual) : Type 0 where

@@ -27,5 +27,6 @@ mod SaidTexts
 mod Answering
 mod Marks
 mod Walking
+mod PlainWalking
 pub mod WholeFiles
 mod Order

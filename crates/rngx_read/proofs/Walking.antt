@@ -85,7 +85,7 @@ steady_all (item ∷ more) walked steady = steady_all more (behind_one item walk
 
 -- ---- items of tokens, one after another
 
-behind_both : (one other : List Item) (walked : Walked) → behind_all (one ++ other) walked ≡ behind_all other (behind_all one walked)
+pub behind_both : (one other : List Item) (walked : Walked) → behind_all (one ++ other) walked ≡ behind_all other (behind_all one walked)
 unfolding behind_all
 behind_both [] other walked = refl
 behind_both (item ∷ one) other walked = behind_both one other (behind_one item walked)

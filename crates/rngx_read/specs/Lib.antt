@@ -21,3 +21,4 @@ pub mod Building
 pub mod Indexing
 pub mod Marking
 pub mod Walking
+pub mod PlainWalking

@@ -1,8 +1,8 @@
 -- The tokens and items of a text, as the program goes over them. No public contract rests on these.
-use Rattle.std.specs.Prelude.{ℕ, List, [], ◌∷◌, Option, Some, None}
-use Rattle.std.specs.List.{AllByRecursion}
+use Rattle.std.specs.Prelude.{ℕ, Bool, false, ◌&&◌, ◌||◌, ◌==◌, nat_eq, codes, List, [], ◌∷◌, Option, Some, None}
+use Rattle.std.specs.List.{AllByRecursion, starts_with}
 use Rattle.std.specs.Option.{option_or}
-use Rattle.std.specs.Str.{IsUtf8}
+use Rattle.std.specs.Str.{IsUtf8, byte}
 use Rattle.nx_base.specs.Tokens.{IsOfKind}
 use Rattle.nx_base.specs.declared.token.Token.{Token}
 use Rattle.nx_base.specs.declared.token.TokenKind.TheVariants as kinds
@@ -16,6 +16,11 @@ AreTextTokens tokens = AllByRecursion (λ (token : Token). IsUtf8 token.bytes ×
 -- the token as a start tag of the same bytes
 abbrev pub as_start : Token → Token
 as_start token = record token { kind = kinds.Start }
+
+-- `xmlns` stands in the bytes
+unfoldable pub has_xmlns : List ℕ → Bool
+has_xmlns [] = false
+has_xmlns (b ∷ bytes) = (b == byte "x" && starts_with nat_eq (b ∷ bytes) (codes "xmlns")) || has_xmlns bytes
 
 -- where an item begins
 abbrev pub begin_of : Item → ℕ

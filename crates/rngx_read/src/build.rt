@@ -1,16 +1,19 @@
 //! The elements of a schema put together from the items of a text, while what stands in other namespaces is passed over.
 
 ghost use Rattle.std.specs.Prelude.{◌≡◌, ◌+◌, ◌<◌, ◌^◌, ◌++◌, OnOk};
+ghost use Rattle.nx_events.specs.PlainAttributes.{attribute_name};
 ghost use Rattle.rngx_read.specs.Building as building;
 ghost use Rattle.rngx_read.specs.Views.{built_of, frame_of, listed};
 ghost use Rattle.rngx_read.specs.Walking.{at_start};
 
+use crate::defaults::bytes_of;
 use crate::element::{Attribute, Element, Tag};
 use crate::scope::Scope;
 use nx_base::memory::NoMemory;
 use nx_base::name::{Name, Names};
 use nx_base::sequence::{Bytes, Sequence, TryCopy};
 use nx_events::item::{Event, Item};
+use nx_events::plain_opening::PlainAttribute;
 use std::alloc::Global;
 use std::mem;
 
@@ -58,11 +61,14 @@ fn bare(alloc: Global, local: Bytes, scope: Scope, at: usize) -> Open
     }
 }
 
-/// Adds copies of bytes at the end.
-fn extend(text: &mut Bytes, more: &Bytes) -> Result<(), NoMemory>
+/// Adds copies of bytes at the end. Where that is refused, any text may be there.
+fn extend(alloc: Global, text: &mut Bytes, more: &[u8]) -> Result<(), NoMemory>
     ensures { OnOk result (text.new ≡ text.old ++ more.now) }
 {
-    text.append(more.copy()?)
+    let mut bytes = mem::replace(text, Bytes::new(alloc)).into_vec();
+    bytes.extend_from_slice(more)?;
+    *text = Bytes::from_vec(bytes);
+    Ok(())
 }
 
 impl Builder {
@@ -101,7 +107,7 @@ impl Builder {
     }
 
     /// An element begins.
-    fn enter(&mut self, name: &Name, at: usize) -> Result<(), NoMemory>
+    pub(crate) fn enter(&mut self, name: &Name, at: usize) -> Result<(), NoMemory>
         requires { self.old.passed + 1 < 2 ^ 64 }
         ensures { OnOk result (built_of self.new ≡ building.entered_by self.old.passed name.now (built_of self.old)) }
     {
@@ -125,6 +131,19 @@ impl Builder {
         Ok(())
     }
 
+    /// The innermost element has this attribute, whose name one look told.
+    pub(crate) fn plain_attribute(&mut self, attribute: &PlainAttribute<'_>) -> Result<(), NoMemory>
+        ensures { OnOk result (built_of self.new
+            ≡ building.attribute_by self.old.passed (attribute_name attribute.now) attribute.now.value.now (built_of self.old)) }
+    {
+        if self.passed > 0 || attribute.is_xml {
+            return Ok(());
+        }
+        let local = bytes_of(self.alloc, attribute.local)?;
+        let value = bytes_of(self.alloc, attribute.value)?;
+        self.inner.tag.attributes.push(Attribute { local, value })
+    }
+
     /// The innermost element has this attribute.
     fn attribute(&mut self, name: &Name, value: &Bytes) -> Result<(), NoMemory>
         ensures { OnOk result (built_of self.new ≡ building.attribute_by self.old.passed name.now value.now (built_of self.old)) }
@@ -138,17 +157,17 @@ impl Builder {
     }
 
     /// A string stands in the innermost element.
-    fn string(&mut self, text: &Bytes) -> Result<(), NoMemory>
+    pub(crate) fn string(&mut self, text: &[u8]) -> Result<(), NoMemory>
         ensures { OnOk result (built_of self.new ≡ building.string_by self.old.passed text.now (built_of self.old)) }
     {
         if self.passed > 0 {
             return Ok(());
         }
-        extend(&mut self.inner.tag.text, text)
+        extend(self.alloc, &mut self.inner.tag.text, text)
     }
 
     /// The innermost element ends.
-    fn leave(&mut self) -> Result<(), NoMemory>
+    pub(crate) fn leave(&mut self) -> Result<(), NoMemory>
         ensures { OnOk result (built_of self.new ≡ building.left_by self.old.passed (built_of self.old)) }
     {
         if self.passed > 0 {
@@ -171,7 +190,7 @@ impl Builder {
         match item {
             Item::Event(Event::Enter(name), span) => self.enter(name, span.from),
             Item::Event(Event::Att(name, value), _) => self.attribute(name, value),
-            Item::Event(Event::Chars(text), _) => self.string(text),
+            Item::Event(Event::Chars(text), _) => self.string(text.as_slice()),
             Item::Event(Event::Leave, _) => self.leave(),
             Item::Event(Event::EnterLost, _) | Item::Event(Event::TagEnd, _) | Item::Fault(_) => {
                 Ok(())

@@ -6,14 +6,13 @@ ghost use Rattle.nx_base.specs.Tokens.{tokens_of, AreTokensOf};
 ghost use Rattle.nx_events.specs.InForce.{pairs_of};
 ghost use Rattle.nx_events.specs.Items.{own_bindings};
 ghost use Rattle.rngx_read.specs.Elements.{declared_of_token};
-ghost use Rattle.rngx_read.specs.Marking.{AreTextTokens, as_start};
+ghost use Rattle.rngx_read.specs.Marking.{AreTextTokens, as_start, has_xmlns};
 
 use nx_base::memory::NoMemory;
 use nx_base::name::Names;
 use nx_base::sequence::TryCopy;
 use nx_base::steps::Steps;
 use nx_base::token::{Token, TokenKind};
-use nx_events::declares;
 use nx_events::in_force::scope;
 use nx_events::reader::{begin, take};
 use nx_scan::border::{tokens_are_of_kind, tokens_fit, tokens_go_on};
@@ -70,13 +69,28 @@ fn as_start(token: &Token) -> Result<Token, NoMemory>
     })
 }
 
+/// Whether `xmlns` stands in the bytes, without which nothing in a tag declares.
+#[tactic(auto, unfolding(crate::specs::Marking::has_xmlns))]
+fn has_xmlns(bytes: &[u8]) -> bool
+    ensures { result ≡ has_xmlns bytes.now }
+{
+    let mut rest = bytes;
+    while let Some((first, behind)) = rest.split_first() {
+        if *first == b'x' && rest.starts_with(b"xmlns") {
+            return true;
+        }
+        rest = behind;
+    }
+    false
+}
+
 /// The own declarations of a tag: those in force behind a start tag of its bytes that stands alone. Most tags have none.
 #[tactic(auto, using(crate::proofs::Declaring::own_are, crate::proofs::Declaring::none_are))]
 fn own_of(alloc: Global, tag: &Token) -> Result<Names, NoMemory>
     requires { tag.now.from + length tag.now.bytes < 2 ^ 64 }
     ensures { IfOk result (λ own. own ≡ pairs_of (own_bindings tag.now)) }
 {
-    if !declares(alloc, tag)? {
+    if !has_xmlns(tag.bytes.as_slice()) {
         return Ok(Names::new(alloc));
     }
     let start = as_start(tag)?;

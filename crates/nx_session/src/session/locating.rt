@@ -64,11 +64,11 @@ impl Session {
 
     /// The URI of the rules that were given, if any were.
     fn rules_uri(&self) -> Result<Option<Bytes>, Refusal>
-        ensures given { IfOk result (RulesAre self.now.editor.rules) }
+        ensures given { IfOk result (RulesAre self.now.editor.locating) }
         ensures utf8 { IfOk result (λ found. IfSome found IsUtf8) }
-        ensures lacks { IfErr result (LacksRules self.now.editor.rules) }
+        ensures lacks { IfErr result (LacksRules self.now.editor.locating) }
     {
-        let Some(given) = &self.rules else {
+        let Some(given) = &self.locating else {
             return Ok(None);
         };
         let Ok(text) = str::from_utf8(given.as_slice()) else {

@@ -3,7 +3,7 @@ use Rattle.rng_core.specs.declared.grammar.Def.{Def}
 use Rattle.rng_core.specs.declared.grammar.Pat.{Pat}
 use Rattle.rng_core.specs.Meaning.{class_of, pattern_of, definition_of}
 use Rattle.rng_core.specs.Names.{has_name}
-use Rattle.rng_core.specs.Patterns.{Pattern, not_allowed}
+use Rattle.rng_core.specs.Patterns.{Pattern}
 use Rattle.deriv_plain.specs.Known.{with_known}
 use Rattle.deriv_plain.proofs.Knowing.{one_known, known_here, known_later, known_one_by_one, all_known}
 use Rattle.deriv_plain.proofs.plain.known.Goals as goal

@@ -1,7 +1,7 @@
 use Rattle.std.proofs.Common.{◌≡◌, ◌++◌, codes, string_bytes, sym, ◌∙◌}
 use Rattle.std.proofs.lemmas.Result.{IfOk-weaker}
 use Rattle.percent_encoding.specs.Percent.{percent_decode}
-use Rattle.nx_host.proofs.DiskPathLemmas.{Below, RootNamed, stripped, not_stripped, named_from_root}
+use Rattle.nx_host.proofs.DiskPathLemmas.{Below, RootNamed, stripped, named_from_root}
 use Rattle.nx_host.proofs.disk_path.rooted_path.Goals as goal
 
 pub returns-in-Some : goal.returns-in-Some

@@ -1,9 +1,10 @@
-use Rattle.std.proofs.Common.{◌≡◌, ◌-◌, ◌+◌, ◌++◌, [], ◌∷◌, take, length, ap, sym, subst, ◌∙◌, arith}
+use Rattle.std.proofs.Common.{◌≡◌, ◌-◌, ◌+◌, ◌++◌, [], ◌∷◌, take, length, ap, sym, ◌∙◌, arith}
 use Rattle.nx_base.specs.Shifting.{placed}
 use Rattle.nx_marks.specs.Chain.{faults_in, reach}
 use Rattle.nx_marks.specs.Nodes.{marks_at}
-use Rattle.nx_marks.specs.Tree.{any_faulty, at_root, if_root, Summed}
+use Rattle.nx_marks.specs.Tree.{at_root}
 use Rattle.nx_marks.proofs.Faults.{faultless_first, fit-left, fit-mark, fit-parts, listed-parts, nothing-listed, on_ok, parts-length, parts-reach}
+use Rattle.nx_marks.proofs.Trees.{sums_at}
 use Rattle.nx_marks.proofs.tree.Tree.+add_faults.Goals.{then-count-eq0-via-then-count-eq0, then-count-eq0-via-else-count-eq0+then-not-deref}
 use Rattle.nx_marks.proofs.tree.Tree.+add_faults.Goals as goal
 
@@ -14,10 +15,8 @@ returns-then-count-eq0 g t c =
       | then-count-eq0-via-then-count-eq0 w ↦ listed (ap (λ n. faults_in c.args.place (take n c.args.self.now)) w.if-count-eq0.true)
       | then-count-eq0-via-else-count-eq0+then-not-deref w ↦
           (let n = c.in-Some.node.value in
-          let at : c.args.self.now ≡ marks_at n = sym c.self.view_is ∙ ap (at_root [] (λ b. b.value.left ++ b.value.mark ∷ b.value.right)) c.in-Some.is in
-          let sums : Summed (marks_at n) n.sums.count n.sums.reach n.sums.whole n.sums.faulty =
-          subst (if_root (λ b. Summed (b.value.left ++ b.value.mark ∷ b.value.right) b.value.sums.count b.value.sums.reach b.value.sums.whole b.value.sums.faulty)) c.in-Some.is c.self.invariant in
-          listed (faultless_first c.args.place c.args.count c.args.self.now (ap any_faulty at ∙ sym sums.are_faulty ∙ ap (λ n. n.sums.faulty) (sym w.deref.ensures) ∙ w.if-not-deref.true)))
+          let sums = sums_at c.self.view_is c.self.invariant c.in-Some.is in
+          listed (faultless_first c.args.place c.args.count c.args.self.now (sym sums.are_faulty ∙ ap (λ n. n.sums.faulty) (sym w.deref.ensures) ∙ w.if-not-deref.true)))
     ]
 
 pub add_faults-requires : goal.add_faults-requires

@@ -29,7 +29,7 @@ returns-in-Ok-clause-step g c =
     rw (← c.self.view_is) (
       done.0,
       record {
-        editor = shown_is_edited (seen c.self.inside.text c.self.inside.caret c.self.inside.document c.self.inside.machine.matcher c.self.inside.rules (frontier_of c.self.inside.marks.kept) c.self.inside.marks.taken) c.args.from c.args.to [] c.delete.new.self c.moved_caret-self-inside.result (frontier_of c.edit.new.self.kept) c.edit.new.self.taken 0
+        editor = shown_is_edited (seen c.self.inside.text c.self.inside.caret c.self.inside.document c.self.inside.machine.matcher c.self.inside.locating (frontier_of c.self.inside.marks.kept) c.self.inside.marks.taken) c.args.from c.args.to [] c.delete.new.self c.moved_caret-self-inside.result (frontier_of c.edit.new.self.kept) c.edit.new.self.taken 0
             done.1 c.moved_caret-self-inside.ensures refl c.edit.ensures.taken;
         frontier = c.edit.ensures.frontier;
         border = c.frontier_is_border.ensures c.self.inside.machine c.delete.new.self c.edit.new.self.kept c.len-new_len.ensures.utf8 (invariant_of-self g c).well.read;

@@ -15,7 +15,7 @@ invariant_of-self c =
 
 pub returns-in-Ok-clause-held : goal.returns-in-Ok-clause-held
 returns-in-Ok-clause-held c =
-    rw (← c.self.view_is) (rw (c.replace.ensures.after) (rw (c.replace-in-Ok.ensures.after) (begun_anew (seen c.self.inside.text c.self.inside.caret c.self.inside.document c.self.inside.machine.matcher c.self.inside.rules (frontier_of c.self.inside.marks.kept) c.self.inside.marks.taken) (grammar_of c.begun.new.machine.matcher) (grammar_of c.args.matcher) (frontier_of c.in-Ok.marks.kept) c.in-Ok.marks.taken
+    rw (← c.self.view_is) (rw (c.replace.ensures.after) (rw (c.replace-in-Ok.ensures.after) (begun_anew (seen c.self.inside.text c.self.inside.caret c.self.inside.document c.self.inside.machine.matcher c.self.inside.locating (frontier_of c.self.inside.marks.kept) c.self.inside.marks.taken) (grammar_of c.begun.new.machine.matcher) (grammar_of c.args.matcher) (frontier_of c.in-Ok.marks.kept) c.in-Ok.marks.taken
     (c.begun.ensures.grammar ∙ ap grammar_of c.new-machine.ensures) c.in-Ok.ensures.frontier c.in-Ok.ensures.taken)))
 
 pub returns-in-Ok-clause-marks : goal.returns-in-Ok-clause-marks

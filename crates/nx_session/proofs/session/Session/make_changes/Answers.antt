@@ -43,7 +43,7 @@ pub returns-clause-made : goal.returns-clause-made
 returns-clause-made g c =
     let text = c.self.inside.text in
     let changes = c.args.changes.now in
-    let old = seen text c.self.inside.caret c.self.inside.document c.self.inside.machine.matcher c.self.inside.rules
+    let old = seen text c.self.inside.caret c.self.inside.document c.self.inside.machine.matcher c.self.inside.locating
     (frontier_of c.self.inside.marks.kept) c.self.inside.marks.taken in
     let is : c.apply.new.self ≡ changed text changes = c.in_ok-apply.ensures.changed in
     let P : SessionState → Type 0 = λ s. AreChanges s.editor.text changes in

@@ -1,0 +1,6 @@
+-- ---- what a reader must believe
+pub mod Fillable
+pub mod Laws
+-- ---- the same over residuals, cited by private contracts
+pub mod Going
+pub mod Filling

@@ -1,0 +1,10 @@
+pub mod Matching
+pub mod Alike
+pub mod Faults
+pub mod Offers
+pub mod Pruning
+pub mod Standing
+pub mod Restrictions
+pub mod Lists
+pub mod Pieces
+pub mod Files

@@ -1,0 +1,12 @@
+pub mod Values
+pub mod Places
+pub mod Changes
+pub mod Documents
+pub mod Encodings
+pub mod Envelopes
+pub mod Answers
+pub mod Frames
+pub mod Contents
+pub mod Sent
+pub mod Diagnostics
+pub mod Capabilities

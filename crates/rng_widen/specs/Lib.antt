@@ -1,0 +1,15 @@
+pub mod Types
+pub mod Facets
+pub mod Naming
+pub mod Widened
+pub mod Encodings
+pub mod CompactTokens
+pub mod CompactHead
+pub mod CompactPlaces
+pub mod CompactWidenings
+pub mod MarkupPlaces
+pub mod MarkupWidenings
+pub mod MarkupViews
+pub mod Handed
+pub mod Notes
+pub mod Laws
