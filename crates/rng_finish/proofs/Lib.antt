@@ -1,0 +1,6 @@
+mod Together
+mod Naming
+mod Standing
+mod Rests
+mod Fits
+mod Adding
