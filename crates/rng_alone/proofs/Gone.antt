@@ -1,10 +1,9 @@
 -- Behind a string, and behind an element, no string is left of what stands alone; and where no child has to come, that is told.
 use Rattle.std.proofs.Common.{◌≡◌, ℕ, List, [], ◌∷◌, map, Bool, true, false, refl, sym, ap, ◌∙◌, ◌⊎◌, subst, inl, inr}
-use Rattle.std.specs.Prelude.{◌&&◌, ◌||◌, ◌==◌, if◌then◌else◌, Option, Some, None, slice_get}
+use Rattle.std.specs.Prelude.{◌||◌, ◌==◌, if◌then◌else◌, Option, Some, None, slice_get}
 use Rattle.std.specs.List.{AllByRecursion}
 use Rattle.std.proofs.lemmas.Bool.{and_parts, and_from, or_parts, or_from, or_left, or_cases, cases_Bool, false≢true}
 use Rattle.nx_base.specs.declared.name.Name.{Name}
-use Rattle.nx_base.specs.Trees.{nil}
 use Rattle.rng_core.specs.Matching.{by_first, by_second, by_group, by_interleave, no_attribute, then_second, no_child}
 use Rattle.rng_core.specs.Names.{has_name}
 use Rattle.rng_core.specs.Patterns.{Pattern, Definition, not_allowed, empty, any_text, typed, literal, listed, attribute, ref, one_or_more, choice, group, interleave}
@@ -21,7 +20,7 @@ use Rattle.rng_names.proofs.Used.{either, choice_holds, group_holds, interleave_
 use Rattle.rng_fill.specs.Fillable.{has_string_leaf}
 use Rattle.rng_alone.specs.Alone.{has_complex, go_beside, are_beside, is_alone}
 use Rattle.rng_alone.specs.Left.{some_passes}
-use Rattle.rng_alone.proofs.Under.{Under, IsUnder, itself, empty_left, repeated_parts, group_parts, star_left, after_left, ending_left, choice_left, as_group, as_interleave, wider_left, wider_right, plain_group}
+use Rattle.rng_alone.proofs.Under.{Under, IsUnder, itself, empty_left, repeated_parts, group_parts, star_left, ending_left, choice_left, as_group, as_interleave, wider_left, wider_right, plain_group}
 
 -- ---- no string passes where there is none
 

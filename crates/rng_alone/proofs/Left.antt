@@ -1,17 +1,16 @@
 -- Residuals whose strings stand alone stay so behind each call of a matcher.
 use Rattle.std.proofs.Common.{◌≡◌, ℕ, List, [], ◌∷◌, ◌++◌, map, Bool, true, false, refl, sym, ◌∙◌, ◌⊎◌, inl, inr, Option, Some, None}
-use Rattle.std.specs.Prelude.{slice_get, ◌||◌, ◌==◌, if◌then◌else◌}
-use Rattle.std.specs.List.{AllByRecursion}
+use Rattle.std.specs.Prelude.{slice_get, ◌||◌}
 use Rattle.std.proofs.lemmas.Bool.{or_parts, cases_Bool, false≢true}
 use Rattle.nx_base.specs.Trees.{Event, Enter, Att, TagEnd, Chars, Leave}
 use Rattle.nx_base.specs.declared.name.Name.{Name}
 use Rattle.nx_base.specs.Characters.{is_blank}
-use Rattle.rng_core.specs.Patterns.{Pattern, Definition, not_allowed, one_or_more}
+use Rattle.rng_core.specs.Patterns.{Pattern, Definition}
 use Rattle.rng_kept.specs.Attributes.{value_fits, attribute_by, close, drop}
-use Rattle.rng_kept.specs.Clean.{Clean, Fine}
+use Rattle.rng_kept.specs.Clean.{Clean}
 use Rattle.rng_kept.specs.Content.{is_dead_outer, among_of, loose_after, chars_outer, any_string_outer, chars_way, any_string_way, ways_of, may_leave, leave_outer, leave_skip_outer, leave_way, leave_skip_way}
 use Rattle.rng_kept.specs.Entering.{content_in, content_of, has_number, others, rest_at, tag_at_top, tag_of_both, tag_of_loose, enter_outer, skip_outer, enter_way, skip_way}
-use Rattle.rng_kept.specs.Live.{IsStart, one_ref, a_choice, AreLive}
+use Rattle.rng_kept.specs.Live.{IsStart, one_ref, a_choice}
 use Rattle.rng_kept.specs.Lively.{IsLively, lively_in_tag, AreLively}
 use Rattle.rng_kept.specs.Merging.{same_outer, is_outer_in, with_outer, either_outer, joined_outer, can_join_ways, joined_way, with_way, with_ways, stepped}
 use Rattle.rng_kept.specs.Nullable.{nullable}
@@ -19,19 +18,19 @@ use Rattle.rng_kept.specs.Openings.{Opening, opens}
 use Rattle.rng_kept.specs.Residuals.{Outer, document, inside, one_of, Way, among, in_tag, Residual}
 use Rattle.rng_kept.specs.Skipping.{skip_opens}
 use Rattle.rng_kept.specs.SmallPatterns.{is_not_allowed, choice_of}
-use Rattle.rng_kept.specs.SolidStrings.{solid_tests, after_solid, loosen}
+use Rattle.rng_kept.specs.SolidStrings.{solid_tests, after_solid}
 use Rattle.rng_kept.specs.Strings.{Tests, string_tests, after, after_by}
 use Rattle.rng_kept.specs.Tags.{tag_of, attribute_way, any_value_way, children_of, tag_end_way, missing_way}
 use Rattle.rng_residual.proofs.Alive.{lively_first}
 use Rattle.rng_residual.proofs.AnyMoves.{drop_clean}
 use Rattle.rng_residual.proofs.Cleaning.{fine_close}
-use Rattle.rng_residual.proofs.SmallPatterns.{by_test, is_not_allowed-is}
+use Rattle.rng_residual.proofs.SmallPatterns.{is_not_allowed-is}
 use Rattle.rng_names.proofs.Used.{either}
 use Rattle.rng_fill.specs.Fillable.{has_string_leaf}
 use Rattle.rng_alone.specs.Alone.{is_alone, HaveAloneContents}
-use Rattle.rng_alone.specs.Left.{some_passes, AreAloneInside, IsAloneOutside, IsAloneWay, AreAlone, AreAloneBehind, MovesKeepAlone, FramesAreAlone}
+use Rattle.rng_alone.specs.Left.{some_passes, AreAloneInside, IsAloneOutside, IsAloneWay, AreAlone, MovesKeepAlone, FramesAreAlone}
 use Rattle.rng_residual.specs.Moves.{behind_event}
-use Rattle.rng_alone.proofs.Under.{Under, IsUnder, itself, after_left, attribute_left, close_left, drop_left, loosen_left, choice_left, nothing_left}
+use Rattle.rng_alone.proofs.Under.{Under, after_left, attribute_left, close_left, drop_left, loosen_left, choice_left, nothing_left}
 use Rattle.rng_alone.proofs.Gone.{none_passes, choice_passes, choice_none, after_none, IsBare, Rests, rest_at_is, opens_bare, skip_bare, passed_all}
 
 -- ---- ways that are merged

@@ -1,8 +1,8 @@
 -- What pruning leaves of a content whose strings stand alone is such a content.
-use Rattle.std.proofs.Common.{◌≡◌, ℕ, List, Bool, true, false, refl}
-use Rattle.std.specs.Prelude.{◌&&◌, ◌||◌}
+use Rattle.std.proofs.Common.{◌≡◌, ℕ, List, true, refl}
+use Rattle.std.specs.Prelude.{◌||◌}
 use Rattle.std.proofs.lemmas.Bool.{and_parts, or_parts, or_from}
-use Rattle.rng_core.specs.Patterns.{Pattern, group, interleave}
+use Rattle.rng_core.specs.Patterns.{Pattern, group}
 use Rattle.rng_live.specs.Pruned.{PrunesBy, prunes_not_allowed, prunes_empty, prunes_text, prunes_data, prunes_value, prunes_list, prunes_attribute}
 use Rattle.rng_live.specs.Pruned.{prunes_ref, prunes_one_or_more, prunes_neither, prunes_second, prunes_first, prunes_group, prunes_interleave}
 use Rattle.rng_fill.specs.Fillable.{has_string_leaf}

@@ -5,7 +5,7 @@ use Rattle.std.proofs.lemmas.Bool.{and_parts, and_from, or_parts, or_from, false
 use Rattle.nx_base.specs.declared.name.Name.{Name}
 use Rattle.rng_core.specs.Names.{has_attribute_name}
 use Rattle.rng_core.specs.Patterns.{Pattern, not_allowed, empty, any_text, typed, literal, listed, attribute, ref, one_or_more, choice, group, interleave}
-use Rattle.rng_kept.specs.Attributes.{around, attribute_by, close, drop}
+use Rattle.rng_kept.specs.Attributes.{attribute_by, close, drop}
 use Rattle.rng_kept.specs.Nullable.{nullable}
 use Rattle.rng_kept.specs.Skipping.{ending}
 use Rattle.rng_kept.specs.SmallPatterns.{is_not_allowed, is_empty, is_star, choice_of, group_of, interleave_of, one_or_more_of, star}

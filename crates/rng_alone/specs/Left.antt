@@ -1,5 +1,5 @@
 -- Residuals whose strings stand alone: what is left of such contents.
-use Rattle.std.specs.Prelude.{◌≡◌, ℕ, Bool, true, false, ◌||◌, List, []}
+use Rattle.std.specs.Prelude.{◌≡◌, Bool, true, false, ◌||◌, List, []}
 use Rattle.std.specs.List.{AllByRecursion}
 use Rattle.nx_base.specs.Trees.{Event}
 use Rattle.nx_base.specs.declared.name.Name.{Name}
