@@ -1,0 +1,9 @@
+pub mod Documents
+pub mod Parameters
+pub mod Methods
+pub mod Talks
+pub mod Changes
+pub mod Notices
+pub mod Answers
+pub mod Serving
+pub mod Runs
