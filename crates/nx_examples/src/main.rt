@@ -9,11 +9,8 @@ ghost use Rattle.rng_fill_cases.specs.Usable.{IsUsable};
 
 use nx_base::sequence::Bytes;
 use nx_base::steps::Steps;
-use nx_host::disk::{DiskFiles, StdOut};
-use nx_run::run::run;
-use nx_run::status::Status;
-use nx_views::pane::{FaultPane, LimitedPane};
-use nx_views::view::View;
+use nx_host::disk::DiskFiles;
+use nx_process::here::run_here;
 use rng_core::grammar::{Def, Grammar};
 use rng_fill::law::pruned_are_unmixed;
 use rng_fill_cases::judging::{Judgement, judged};
@@ -26,9 +23,6 @@ use std::alloc::Global;
 use std::io;
 use std::marker::Brand;
 use std::sync::ledger::{Blank, Ledger};
-
-/// The most faults that the second view takes before it closes, as in `nxml`.
-const MOST_SHOWN: u64 = 1000;
 
 /// The scripts, in the folder that the program is called in. They are called by their names alone.
 const SCRIPTS: [&str; 8] = [
@@ -94,25 +88,8 @@ fn run_script(rt: &HostRuntime, script: &str, words: &[&str]) -> io::Result<()> 
     for word in words {
         given.push(Bytes::from_vec(Vec::from_slice(rt.alloc(), word.as_bytes())?))?;
     }
-    let code = run_here::<Brand>(rt, given.as_slice(), Blank::new(1))?.code();
+    let code = run_here::<Brand, _>(rt, given.as_slice(), Blank::new(1)).code();
     println!(rt; "== status {code}")
-}
-
-/// The run over the machine's files and output, with the two views of `nxml`. Its count of tokens is for the proof alone, and
-/// takes nothing.
-fn run_here<L: Ledger>(rt: &HostRuntime, words: &[Bytes], blank: Blank) -> io::Result<Status>
-    requires name { blank.name ≡ L.name }
-    requires parts { blank.parts ≡ L.parts }
-    requires some { 0 < L.parts }
-{
-    let mut files = DiskFiles::new(rt);
-    let mut out = StdOut::new(rt);
-    let alloc = rt.alloc();
-    let mut views: Vec<Box<dyn View>> = Vec::new(alloc);
-    views.push(Box::new(alloc, FaultPane::new(alloc))?)?;
-    views.push(Box::new(alloc, LimitedPane::new(alloc, MOST_SHOWN))?)?;
-    let mut steps = Steps::<L>::new(blank);
-    Ok(run(alloc, words, &mut files, &mut out, &mut views, &mut steps))
 }
 
 /// What the file of the schema, in the folder that the program is called in, defines.

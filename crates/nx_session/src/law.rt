@@ -3,7 +3,7 @@
 ghost use Rattle.nx_session.specs.Done.{AllowedCommandsAreDone, AllowedLinesAreDone, FaultsAreCounted};
 ghost use Rattle.nx_session.specs.Faults.{TextsGiveText};
 ghost use Rattle.nx_session.specs.Marks.{OneEditTakesFew};
-ghost use Rattle.nx_session.specs.Rereading.{RereadingSameEventsTakesFew, RereadingTakesFew};
+ghost use Rattle.nx_session.specs.Rereading.{ErrorsReadWhole, RereadingSameEventsTakesFew, RereadingTakesFew};
 ghost use Rattle.nx_session.specs.Step.{RefusalsLeaveTheDocument};
 ghost use Rattle.nx_session.specs.TagFaults.{TagsTouchFewFaults};
 ghost use Rattle.nx_session.specs.Validity.{NoErrorsIsValid, NoErrorsIsValidForFiles};
@@ -82,7 +82,13 @@ pub fn one_edit_takes_few()
     ensures { OneEditTakesFew }
 {}
 
-/// The same of three commands that are done, an `errors`, one `insert` or `delete`, and an `errors` again.
+/// Behind an `errors` that is done, and behind what only looks after it, a text is read to its end, its marks are right, and nothing is
+/// aside.
+pub fn errors_read_whole()
+    ensures { ErrorsReadWhole }
+{}
+
+/// The same of a session that is so: of one `insert` or `delete`, what only looks, and an `errors`, all of which are done.
 pub fn rereading_takes_few()
     ensures { RereadingTakesFew }
 {}
