@@ -1,13 +1,20 @@
 -- Which types and facets are held, one after another.
-use Rattle.std.proofs.Common.{◌≡◌, Bool, true, false, not, is_some, refl, ap}
-use Rattle.std.specs.Prelude.{◌&&◌, ◌||◌}
+use Rattle.std.proofs.Common.{◌≡◌, ℕ, Bool, true, false, not, is_some, List, [], refl, sym, ap, subst, inl, inr}
+use Rattle.std.specs.Prelude.{◌&&◌, ◌||◌, IsTrue}
+use Rattle.std.specs.List.{list_all}
+use Rattle.rng_types.specs.Facets.{meets}
+use Rattle.rng_types.specs.Spaces.{normalized}
+use Rattle.rng_types.specs.Types.{seen_by}
+use Rattle.rng_types.specs.Words.{has_form, whitespace_of}
+use Rattle.rng_types.specs.declared.facet.Facet.{Facet}
+use Rattle.rng_types.specs.declared.kind.Form.{Form}
 use Rattle.rng_widen.specs.declared.facet.Facet.{Facet}
 use Rattle.rng_widen.specs.declared.facet.Facet.TheVariants as facet
 use Rattle.rng_widen.specs.declared.schema_type.SchemaType.{SchemaType}
 use Rattle.rng_widen.specs.declared.schema_type.SchemaType.TheVariants as type
 use Rattle.rng_widen.specs.Facets.{is_left_out_of}
 use Rattle.rng_widen.specs.Types.{wider_type}
-use Rattle.rng_widen.specs.Laws.{takes, TypesAreCheckedByHeldOnes, HeldTypesStay, HeldFacetsStay}
+use Rattle.rng_widen.specs.Laws.{takes, TypesAreCheckedByHeldOnes, HeldTypesStay, HeldFacetsStay, WiderTypesAreWider, SomeFormTakesAll}
 
 pub types_are_checked : TypesAreCheckedByHeldOnes
 types_are_checked type.String = refl
@@ -244,3 +251,55 @@ pub held_facets_stay : HeldFacetsStay
 held_facets_stay named given none left =
     left_out (takes named given) (is_left_out_of named given) (is_some (wider_type named)) (facets_are_right named given) left
     (ap is_some none)
+
+pub wider_types_are_wider : WiderTypesAreWider
+wider_types_are_wider type.String = tt
+wider_types_are_wider type.NormalizedString = tt
+wider_types_are_wider type.Token = tt
+wider_types_are_wider type.AnyUri = tt
+wider_types_are_wider type.Name = tt
+wider_types_are_wider type.NcName = tt
+wider_types_are_wider type.NmToken = tt
+wider_types_are_wider type.NmTokens = tt
+wider_types_are_wider type.Id = tt
+wider_types_are_wider type.IdRef = tt
+wider_types_are_wider type.IdRefs = tt
+wider_types_are_wider type.Entity = inr (inl (refl, refl))
+wider_types_are_wider type.Entities = inr (inr (refl, refl))
+wider_types_are_wider type.HexBinary = tt
+wider_types_are_wider type.Base64Binary = tt
+wider_types_are_wider type.Language = tt
+wider_types_are_wider type.QName = inl refl
+wider_types_are_wider type.Notation = inl refl
+wider_types_are_wider type.Boolean = tt
+wider_types_are_wider type.Decimal = tt
+wider_types_are_wider type.Integer = tt
+wider_types_are_wider type.NonPositiveInteger = tt
+wider_types_are_wider type.NegativeInteger = tt
+wider_types_are_wider type.NonNegativeInteger = tt
+wider_types_are_wider type.PositiveInteger = tt
+wider_types_are_wider type.Long = tt
+wider_types_are_wider type.Int = tt
+wider_types_are_wider type.Short = tt
+wider_types_are_wider type.Byte = tt
+wider_types_are_wider type.UnsignedLong = tt
+wider_types_are_wider type.UnsignedInt = tt
+wider_types_are_wider type.UnsignedShort = tt
+wider_types_are_wider type.UnsignedByte = tt
+wider_types_are_wider type.Date = tt
+wider_types_are_wider type.Time = tt
+wider_types_are_wider type.DateTime = tt
+wider_types_are_wider type.GYear = tt
+wider_types_are_wider type.GYearMonth = tt
+wider_types_are_wider type.GMonth = inl refl
+wider_types_are_wider type.GDay = inl refl
+wider_types_are_wider type.GMonthDay = inl refl
+wider_types_are_wider type.Duration = inl refl
+wider_types_are_wider type.Float = inl refl
+wider_types_are_wider type.Double = inl refl
+
+pub some_form_takes_all : SomeFormTakesAll
+some_form_takes_all datatype text form none =
+    let F : Form → Type 0 = λ (f : Form). IsTrue (has_form f (normalized (whitespace_of f) text)) in
+    let L : List Facet → Type 0 = λ (l : List Facet). IsTrue (list_all (meets datatype.form (seen_by datatype text)) l) in
+    record { form = subst F (sym form) refl; facets = subst L (sym none) refl }

@@ -1,5 +1,5 @@
 -- Laws of what is handed on.
-use Rattle.std.specs.Prelude.{◌≡◌, ℕ, Bool, true, false, not, List, [], ◌∷◌, length, unwrap_or, is_some, Option, None, Ok, Err}
+use Rattle.std.specs.Prelude.{◌≡◌, ◌⊎◌, ℕ, Bool, true, false, not, List, [], ◌∷◌, length, unwrap_or, is_some, Option, Some, None, IfSome, Ok, Err}
 use Rattle.std.specs.Option.{option_map, option_map_or}
 use Rattle.nx_host.specs.Files.{FileMap}
 use Rattle.rnc_lex.specs.declared.fault.LexFault.{LexFault}
@@ -8,8 +8,15 @@ use Rattle.rnc_lex.specs.declared.token.RncToken.{RncToken}
 use Rattle.rnc_lex.specs.Tokens.{Lexes}
 use Rattle.rng_types.specs.Naming.{param_relation}
 use Rattle.rng_types.specs.Table.{TypeRow, type_named}
+use Rattle.rng_types.specs.Types.{Accepts}
+use Rattle.rng_types.specs.declared.datatype.Datatype.{Datatype}
+use Rattle.rng_types.specs.declared.kind.Form.{Form}
+use Rattle.rng_types.specs.declared.kind.Form.TheVariants.{Any, One, Several}
+use Rattle.rng_types.specs.declared.kind.Whitespace.TheVariants.{Collapse}
+use Rattle.rng_types.specs.declared.kind.Word.TheVariants as word
 use Rattle.rng_widen.specs.declared.facet.Facet.{Facet}
 use Rattle.rng_widen.specs.declared.schema_type.SchemaType.{SchemaType}
+use Rattle.rng_widen.specs.declared.schema_type.SchemaType.TheVariants as type
 use Rattle.rng_widen.specs.CompactHead.{schema_library}
 use Rattle.rng_widen.specs.CompactWidenings.{widenings_of}
 use Rattle.rng_widen.specs.Facets.{facet_text, is_left_out_of}
@@ -56,6 +63,25 @@ TypesAreCheckedByHeldOnes = (named : SchemaType) → is_some (held_as (checked_a
 -- and by another only where it isn't held itself
 abbrev pub HeldTypesStay : Type 0
 HeldTypesStay = (named : SchemaType) → is_some (wider_type named) ≡ not (is_some (held_as named))
+
+-- a held type has the form
+abbrev pub HasForm : SchemaType → Form → Type 0
+HasForm named form = option_map (λ (row : TypeRow). row.form) (held_as named) ≡ Some form
+
+-- the type by which this one is checked takes every text; but for ENTITY, whose texts are names without a colon (3.3.11), and ENTITIES,
+-- whose texts are lists of such names (3.3.12): these are checked by what has just these texts
+abbrev pub IsWiderThan : SchemaType → SchemaType → Type 0
+IsWiderThan named wider =
+    HasForm wider (Any Collapse)
+    ⊎ (named ≡ type.Entity) × HasForm wider (One word.NcName)
+    ⊎ (named ≡ type.Entities) × HasForm wider (Several word.NcName)
+
+abbrev pub WiderTypesAreWider : Type 0
+WiderTypesAreWider = (named : SchemaType) → IfSome (wider_type named) (IsWiderThan named)
+
+-- a type of that form on which there is no facet accepts every text
+abbrev pub SomeFormTakesAll : Type 0
+SomeFormTakesAll = (datatype : Datatype) (text : List ℕ) → datatype.form ≡ Any Collapse → datatype.facets ≡ [] → Accepts datatype text
 
 -- a held type takes the facet
 abbrev pub takes : SchemaType → Facet → Bool

@@ -4,7 +4,7 @@ use Rattle.std.specs.List.{AllByRecursion}
 use Rattle.nx_host.specs.Files.{FileMap, Holds}
 use Rattle.rng_widen.specs.declared.widening.Widening.{Widening}
 use Rattle.rng_widen.specs.declared.noted.Noted.{Noted}
-use Rattle.rng_widen.specs.Handed.{widenings}
+use Rattle.rng_widen.specs.Handed.{widenings, handed_as}
 
 -- the note of bytes under a URI in which this is put to something wider; none where that is nothing
 abbrev pub noted_of : List ℕ → List ℕ → List Widening → Noted
@@ -23,6 +23,12 @@ noted_as false uri (Some bytes) = noted_if uri bytes (widenings bytes)
 -- something was found under a URI, and what is noted of it came behind what was noted before
 abbrev pub NotesFetched : Bool → Option FileMap → List ℕ → List Noted → List Noted → Type 0
 NotesFetched strict told uri before now = (found : Option (List ℕ)) × Holds told uri found × (now ≡ before ++ noted_as strict uri found)
+
+-- something was found under a URI, this is what is handed on in place of it, and what is noted of it came behind what was noted before. So
+-- it is what is noted of that text also where files don't tell what they hold
+abbrev pub HandsOn : Bool → Option FileMap → List ℕ → Option (List ℕ) → List Noted → List Noted → Type 0
+HandsOn strict told uri whole before now =
+    (found : Option (List ℕ)) × Holds told uri found × (whole ≡ handed_as strict found) × (now ≡ before ++ noted_as strict uri found)
 
 -- what is noted of a file is what is put to something wider in it, and that is something
 pub record IsNoted (one : Noted) : Type 0 where

@@ -1,7 +1,7 @@
 //! Laws of what is handed on. Nothing here runs.
 
 ghost use Rattle.rng_widen.specs.Laws.{OtherTextsStay, TextsKeepTheirLength, TokensTell, FaultsTellNothing, FilesTellTheirs};
-ghost use Rattle.rng_widen.specs.Laws.{TypesAreCheckedByHeldOnes, HeldTypesStay, HeldFacetsStay};
+ghost use Rattle.rng_widen.specs.Laws.{TypesAreCheckedByHeldOnes, HeldTypesStay, HeldFacetsStay, WiderTypesAreWider, SomeFormTakesAll};
 
 /// A text in which nothing is put to something wider is handed on as it is.
 pub fn other_texts_stay()
@@ -41,4 +41,10 @@ pub fn held_types_stay()
 /// Of a type that is held no facet is left out that it takes.
 pub fn held_facets_stay()
     ensures { HeldFacetsStay }
+{}
+
+/// The type by which another is checked takes all texts of that one: every text, or names and lists of names as an entity's are.
+pub fn wider_types_are_wider()
+    ensures { WiderTypesAreWider }
+    ensures takes_all { SomeFormTakesAll }
 {}

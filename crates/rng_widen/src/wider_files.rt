@@ -2,8 +2,8 @@
 
 ghost use Rattle.std.specs.Prelude.{◌≡◌, ◌++◌, [], Option, IfOk, OnOk, OnErr};
 ghost use Rattle.nx_host.specs.Files.{FileMap, Holds, HasFile, CountsFault};
-ghost use Rattle.rng_widen.specs.Handed.{handed, widenings, wider_files};
-ghost use Rattle.rng_widen.specs.Notes.{noted_if, noted_as, NotesFetched, AreNoted};
+ghost use Rattle.rng_widen.specs.Handed.{handed, handed_as, widenings, wider_files};
+ghost use Rattle.rng_widen.specs.Notes.{noted_if, noted_as, NotesFetched, HandsOn, AreNoted};
 
 use crate::noted::{Noted, Notes};
 use crate::put::put_all;
@@ -58,6 +58,7 @@ impl<F> WiderFiles<F> {
         found: Option<Bytes>,
     ) -> Result<Option<Bytes>, NoMemory>
         ensures found { (told : Option FileMap) → Holds told uri.now found → IfOk result (Holds (wider_files self.old.strict told) uri.now) }
+        ensures handed { IfOk result (λ whole. whole ≡ handed_as self.old.strict found) }
         ensures noted { OnOk result (self.new.noted ≡ self.old.noted ++ noted_as self.old.strict uri.now found) }
         ensures unnoted { OnErr result (self.new.noted ≡ self.old.noted) }
         ensures files { self.new.files ≡ self.old.files }
@@ -103,6 +104,7 @@ impl<F: Files> Files for WiderFiles<F> {
         ensures files { F.told self.new.files ≡ F.told self.old.files }
         ensures strict { self.new.strict ≡ self.old.strict }
         ensures noted { OnOk result (NotesFetched self.old.strict (F.told self.old.files) uri.now self.old.noted self.new.noted) }
+        ensures handed { IfOk result (λ whole. HandsOn self.old.strict (F.told self.old.files) uri.now whole self.old.noted self.new.noted) }
         ensures unnoted { OnErr result (self.new.noted ≡ self.old.noted) }
     {
         let found = self.files.fetch(alloc, uri)?;
