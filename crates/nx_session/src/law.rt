@@ -10,6 +10,7 @@ ghost use Rattle.nx_session.specs.Validity.{NoErrorsIsValid, NoErrorsIsValidForF
 
 use nx_document::law::documents_are_writable;
 use nx_host::uri::joins_is_decided;
+use nx_numbering::law::{files_define_one_language, numbers_break_the_same, numbers_live_alike};
 use nx_recovery::law::{recovery_is_one, same_events_have_item_faults};
 use nx_scan::border::tokens_join;
 use nx_script::read::lines_are_one_command;
@@ -34,6 +35,9 @@ pub fn allowed_commands_are_done()
     joins_is_decided();
     composed_are_passed();
     simplified_is_not_broken();
+    files_define_one_language();
+    numbers_break_the_same();
+    numbers_live_alike();
 }
 
 /// So it is with a line that is such a command.

@@ -1,12 +1,11 @@
 -- Which types and facets are held, one after another.
-use Rattle.std.proofs.Common.{◌≡◌, ℕ, Bool, true, false, not, is_some, List, [], refl, sym, ap, subst, inl, inr}
-use Rattle.std.specs.Prelude.{◌&&◌, ◌||◌, IsTrue}
+use Rattle.std.proofs.Common.{◌≡◌, Bool, true, false, not, is_some, refl, ap, inl, inr}
+use Rattle.std.specs.Prelude.{◌&&◌, ◌||◌}
 use Rattle.std.specs.List.{list_all}
 use Rattle.rng_types.specs.Facets.{meets}
 use Rattle.rng_types.specs.Spaces.{normalized}
 use Rattle.rng_types.specs.Types.{seen_by}
 use Rattle.rng_types.specs.Words.{has_form, whitespace_of}
-use Rattle.rng_types.specs.declared.facet.Facet.{Facet}
 use Rattle.rng_types.specs.declared.kind.Form.{Form}
 use Rattle.rng_widen.specs.declared.facet.Facet.{Facet}
 use Rattle.rng_widen.specs.declared.facet.Facet.TheVariants as facet
@@ -299,7 +298,7 @@ wider_types_are_wider type.Float = inl refl
 wider_types_are_wider type.Double = inl refl
 
 pub some_form_takes_all : SomeFormTakesAll
-some_form_takes_all datatype text form none =
-    let F : Form → Type 0 = λ (f : Form). IsTrue (has_form f (normalized (whitespace_of f) text)) in
-    let L : List Facet → Type 0 = λ (l : List Facet). IsTrue (list_all (meets datatype.form (seen_by datatype text)) l) in
-    record { form = subst F (sym form) refl; facets = subst L (sym none) refl }
+some_form_takes_all datatype text form none = record {
+  form = ap (λ (f : Form). has_form f (normalized (whitespace_of f) text)) form;
+  facets = ap (list_all (meets datatype.form (seen_by datatype text))) none;
+}

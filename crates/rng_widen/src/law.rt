@@ -45,6 +45,6 @@ pub fn held_facets_stay()
 
 /// The type by which another is checked takes all texts of that one: every text, or names and lists of names as an entity's are.
 pub fn wider_types_are_wider()
-    ensures { WiderTypesAreWider }
+    ensures wider { WiderTypesAreWider }
     ensures takes_all { SomeFormTakesAll }
 {}
