@@ -214,6 +214,11 @@ impl Scope {
         if let Some(number) = self.numbers.pop() {
             self.number = number;
         }
+        if self.declarations.len() < self.passed.declarations {
+            // Some of them may be free again.
+            self.passed.declarations = 0;
+            self.passed.behind = self.passed.first;
+        }
         if declaration.prefix().is_empty() {
             return Ok(());
         }

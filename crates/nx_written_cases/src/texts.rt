@@ -206,6 +206,32 @@ const ROWS: [Row; 15] = [
     (&[], &[("/", "", "", "")], "</doc>"),
 ];
 
+/// The one open element of these rows.
+const DOC: [(&str, usize); 1] = [("doc", 0)];
+
+/// Three open elements, of which the inner two declare what is free again behind them.
+const NESTED: [(&str, usize); 3] = [("r", 0), ("a", 1), ("b", 2)];
+
+/// Behind these elements the least numbers come again, also where one that is higher was declared around one that is lower.
+const FREE_AGAIN: Row = (
+    &[("", "d"), ("n1", "u1"), ("n0", "u0")],
+    &[
+        ("/", "", "", ""),
+        ("/", "", "", ""),
+        ("E", "", "c", ""),
+        (">", "", "", ""),
+        ("E", "v", "e", ""),
+        (">", "", "", ""),
+        ("E", "w", "f", ""),
+        (">", "", "", ""),
+        ("/", "", "", ""),
+        ("/", "", "", ""),
+        ("/", "", "", ""),
+        ("/", "", "", ""),
+    ],
+    "</b></a><c xmlns=''><n0:e xmlns:n0='v'><n1:f xmlns:n1='w'/></n0:e></c></r>",
+);
+
 fn bytes(alloc: Global, text: &str) -> Result<Bytes, NoMemory> {
     Ok(Bytes::from_vec(Vec::from_slice(alloc, text.as_bytes())?))
 }
@@ -257,13 +283,16 @@ fn are_writable(events: &[Move]) -> bool
     true
 }
 
-fn written(alloc: Global, row: &Row) -> Result<Bytes, NoMemory> {
+/// What is written where these elements are open, each with how many declarations stand in front of its own.
+fn written(alloc: Global, tags: &[(&'static str, usize)], row: &Row) -> Result<Bytes, NoMemory> {
     let mut scope: Vec<Declaration> = Vec::new(alloc);
     for pair in row.0 {
         scope.push(Declaration::new(bytes(alloc, pair.0)?, bytes(alloc, pair.1)?))?;
     }
     let mut open_tags: Vec<OpenTag> = Vec::new(alloc);
-    open_tags.push(OpenTag::new(bytes(alloc, "doc")?, 0))?;
+    for tag in tags {
+        open_tags.push(OpenTag::new(bytes(alloc, tag.0)?, tag.1))?;
+    }
     let mut events: Moves = Moves::new(alloc);
     for it in row.1 {
         events.push(event(alloc, it)?)?;
@@ -278,8 +307,17 @@ fn written(alloc: Global, row: &Row) -> Result<Bytes, NoMemory> {
 #[test]
 fn writes_what_is_left(rt: HostRuntime) -> Result<(), Fail> {
     for row in &ROWS {
-        let text = written(rt.alloc(), row).ok().ok_or("no memory")?;
+        let text = written(rt.alloc(), &DOC, row).ok().ok_or("no memory")?;
         assert!(rt; text.as_slice() == row.2.as_bytes());
     }
+    Ok(())
+}
+
+#[test]
+fn numbers_are_free_again(rt: HostRuntime) -> Result<(), Fail> {
+    let text = written(rt.alloc(), &NESTED, &FREE_AGAIN)
+        .ok()
+        .ok_or("no memory")?;
+    assert!(rt; text.as_slice() == FREE_AGAIN.2.as_bytes());
     Ok(())
 }
