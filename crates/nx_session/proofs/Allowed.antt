@@ -170,7 +170,7 @@ usable whole cause.NothingValid can h = h.1 can.some_valid
 usable whole why can h = h
 
 -- of the grammars that files define all can be used, or none
-AllAreUsed : Type 0
+abbrev AllAreUsed : Type 0
 AllAreUsed = (files : FileMap) (uri : List ℕ) (start other : Pattern) (definitions others : List Definition) →
     Simplifies files uri start definitions → Simplifies files uri other others → CanBeUsed start definitions → CanBeUsed other others
 

@@ -128,7 +128,7 @@ one_looks given old new answer looks h = absurd looks
 
 pub looks_alike : {old new : SessionState} → Looks old new → IsSameReading old new
 looks_alike no_more = record { text = refl; schema = refl; frontier = refl; marks = refl }
-looks_alike {old} {new} (one_more {old} {next} {new} {given} {answer} looks step more) =
+looks_alike {old} {new} (one_more {next} {given} {answer} looks step more) =
     let here = one_looks given old next answer looks step in
     let on = looks_alike more in
     record {
@@ -149,6 +149,7 @@ Reads t s k new =
     × (new.editor.frontier ≡ length new.editor.text → new.marks.aside ≡ [])
 
 pub reads_alike : (old seen new : SessionState) (faults : List Fault) → IsSameReading old seen → ReadsMarks seen (reply.Errors faults) new → ReadsMarks old (reply.Errors faults) new
+unfolding Reads
 reads_alike old seen new faults same h =
     let T : List ℕ → Type 0 = λ t. Reads t seen.editor.schema seen.marks new in
     let S : Option Grammar → Type 0 = λ s. Reads old.editor.text s seen.marks new in
@@ -164,7 +165,7 @@ stays_whole old new right same whole = record {
 
 right_behind : {old new : SessionState} → Looks old new → MarksAreRight old → MarksAreRight new
 right_behind no_more right = right
-right_behind {old} {new} (one_more {old} {next} {new} {given} {answer} looks step more) right = right_behind more step.right
+right_behind (one_more looks step more) right = right_behind more step.right
 
 pub errors_read_whole : ErrorsReadWhole
 errors_read_whole first read later faults h looks =

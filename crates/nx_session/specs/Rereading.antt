@@ -1,5 +1,5 @@
 -- How few tokens are read again where of a text that was read to its end one `insert` or `delete` is made, and `errors` is asked again.
-use Rattle.std.specs.Prelude.{◌≡◌, ⊥, Unit, ℕ, ◌<◌, ◌≤◌, List, [], length}
+use Rattle.std.specs.Prelude.{◌≡◌, ℕ, ◌<◌, ◌≤◌, List, [], length}
 use Rattle.nx_base.specs.Rules.{Lexeme}
 use Rattle.nx_base.specs.Running.{CutsTo, after_all}
 use Rattle.nx_base.specs.declared.fault.Fault.{Fault}
