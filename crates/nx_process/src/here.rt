@@ -11,7 +11,7 @@ use nx_run::status::Status;
 use nx_views::pane::{FaultPane, LimitedPane};
 use nx_views::view::View;
 use std::alloc::Global;
-use std::rt::{self, Print};
+use std::rt;
 use std::sync::ledger::{Blank, Ledger};
 
 /// The most faults that the second view takes before it closes.
