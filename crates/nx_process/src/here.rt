@@ -10,7 +10,6 @@ use nx_run::run::run;
 use nx_run::status::Status;
 use nx_views::pane::{FaultPane, LimitedPane};
 use nx_views::view::View;
-use std::alloc::Global;
 use std::rt;
 use std::sync::ledger::{Blank, Ledger};
 
@@ -30,21 +29,28 @@ pub fn run_here<L: Ledger, R: rt::Files + Print + AllocGlobal>(
     requires parts { blank.parts ≡ L.parts }
     requires some { 0 < L.parts }
 {
-    let alloc = rt.alloc();
-    let mut views = match two_views(alloc) {
-        Ok(views) => views,
-        Err(NoMemory) => return Status::Memory,
-    };
-    let mut files = DiskFiles::new(rt);
-    let mut out = StdOut::new(rt);
-    let mut steps = Steps::<L>::new(blank);
-    run(alloc, words, &mut files, &mut out, &mut views, &mut steps)
+    match run_with_views::<L, R>(rt, words, blank) {
+        Ok(status) => status,
+        Err(NoMemory) => Status::Memory,
+    }
 }
 
-/// A view that takes all faults, and one that takes no more than `MOST_SHOWN`.
-fn two_views(alloc: Global) -> Result<Vec<Box<dyn View>>, NoMemory> {
+/// The run, with a view that takes all faults, and one that takes no more than `MOST_SHOWN`.
+fn run_with_views<L: Ledger, R: rt::Files + Print + AllocGlobal>(
+    rt: &R,
+    words: &[Bytes],
+    blank: Blank,
+) -> Result<Status, NoMemory>
+    requires name { blank.name ≡ L.name }
+    requires parts { blank.parts ≡ L.parts }
+    requires some { 0 < L.parts }
+{
+    let mut files = DiskFiles::new(rt);
+    let mut out = StdOut::new(rt);
+    let alloc = rt.alloc();
     let mut views: Vec<Box<dyn View>> = Vec::new(alloc);
     views.push(Box::new(alloc, FaultPane::new(alloc))?)?;
     views.push(Box::new(alloc, LimitedPane::new(alloc, MOST_SHOWN))?)?;
-    Ok(views)
+    let mut steps = Steps::<L>::new(blank);
+    Ok(run(alloc, words, &mut files, &mut out, &mut views, &mut steps))
 }
