@@ -8,11 +8,11 @@ use Rattle.clap.specs.Simple.{matches_of}
 use Rattle.nx_host.specs.PathUri.{uri_of_path}
 use Rattle.nx_script.specs.declared.reply.Refusal.{Refusal}
 use Rattle.nx_session.specs.Editor.{FilesState}
-use Rattle.nx_session.specs.Schemas.{IsRefusedSchema}
 use Rattle.nx_check.specs.Check.{ChecksCall, IsSchemaUnread, IsUnbegun, Refuses, SaysLine, StopsGiven}
 use Rattle.nx_check.specs.Output.{OutState}
 use Rattle.nx_check.specs.Reasons.{wants_memory}
 use Rattle.nx_check.specs.Telling.{Tells}
+use Rattle.nx_check.specs.WiderTexts.{IsRefused}
 use Rattle.nx_check.specs.Words.{Asked, AsksCheck, asked_of, checker}
 use Rattle.nx_check.specs.declared.reason.Reason.{Reason}
 use Rattle.nx_check.specs.declared.reason.Reason.TheVariants as reason
@@ -50,7 +50,7 @@ refused-call asked folder old mid new before after status (reason.Schema text ca
 refused-call asked folder old mid new before after status (reason.Schema text cause) stops (inl said) =
     let same : stops.0 ≡ said.0 = cc (stops.1, said.2) in
     let is : text ≡ uri_of_path folder said.0 = stops.2 ∙ ap (uri_of_path folder) same in
-    let R : List ℕ → Type 0 = λ t. IsRefusedSchema t old mid cause in
+    let R : List ℕ → Type 0 = λ t. IsRefused asked.strict t old mid cause in
     let W : List ℕ → Type 0 = λ t. wants_memory (reason.Schema t cause) ≡ false in
     let T : List ℕ → Type 0 = λ t. Tells folder said.0 (reason.Schema t cause) mid said.1 new in
     inr (inl (record {

@@ -2,6 +2,10 @@ pub mod Asking
 pub mod Backing
 pub mod Finding
 pub mod Keeping
+pub mod Laying
 pub mod Listing
 pub mod Matching
+pub mod Noting
+pub mod Refusing
+pub mod Reporting
 pub mod Running

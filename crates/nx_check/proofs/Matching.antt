@@ -23,9 +23,9 @@ has_fault [] e (inl memory) other none = other memory
 has_fault [] e (inr h) other none = h
 has_fault (k ∷ ks) e h other none = cc
 
-abbrev made : Option (List ℕ) → Option (List ℕ) → Bool → List (List ℕ) → Asked
-made schema rules quiet files = record { schema = schema; rules = rules; quiet = quiet; files = files }
+abbrev made : Option (List ℕ) → Option (List ℕ) → Bool → Bool → List (List ℕ) → Asked
+made schema rules strict quiet files = record { schema = schema; rules = rules; strict = strict; quiet = quiet; files = files }
 
-pub same_asked : (s s' r r' : Option (List ℕ)) (q q' : Bool) (f f' : List (List ℕ)) → s ≡ s' → r ≡ r' → q ≡ q' → f ≡ f' →
-    made s r q f ≡ made s' r' q' f'
-same_asked s s' r r' q q' f f' a b c d = cc
+pub same_asked : (s s' r r' : Option (List ℕ)) (t t' q q' : Bool) (f f' : List (List ℕ)) → s ≡ s' → r ≡ r' → t ≡ t' → q ≡ q' → f ≡ f' →
+    made s r t q f ≡ made s' r' t' q' f'
+same_asked s s' r r' t t' q q' f f' a b c d e = cc

@@ -12,6 +12,7 @@ use Rattle.nx_session.specs.Editor.{FilesState}
 use Rattle.nx_check.specs.Check.{ChecksAll, texts_of, IsWhole, IsCutOff, StopsAt, ChecksFiles, SaysLine}
 use Rattle.nx_check.specs.Codes.{stop_status, status_by, is_starved, is_unread, is_faulty}
 use Rattle.nx_check.specs.Files.{ChecksFile}
+use Rattle.nx_check.specs.Noted.{RunState, run_state}
 use Rattle.nx_check.specs.Output.{OutState, out_state}
 use Rattle.nx_check.specs.Words.{Asked}
 use Rattle.nx_check.specs.declared.status.Status.{Status}
@@ -47,10 +48,10 @@ line-refused line meant NoMemory before after same quiet = inr (inr (refl, same-
 -- ---- documents, one after another
 
 -- one more document is looked at
-pub checks-push : (asked : Asked) (folder : List ℕ) (old mid new : FilesState) (words : List (List ℕ)) (all : List Told) (word : List ℕ) (told : Told) →
+pub checks-push : (asked : Asked) (folder : List ℕ) (old mid new : RunState) (words : List (List ℕ)) (all : List Told) (word : List ℕ) (told : Told) →
     ChecksAll asked folder old words all mid → ChecksFile asked folder mid word told new → ChecksAll asked folder old (words ++ word ∷ []) (all ++ told ∷ []) new
 checks-push asked folder old mid new [] [] word told checked one =
-    let P : FilesState → Type 0 = λ f. ChecksFile asked folder f word told new in
+    let P : RunState → Type 0 = λ f. ChecksFile asked folder f word told new in
     (new, subst P checked one, refl)
 checks-push asked folder old mid new (w ∷ ws) (t ∷ ts) word told checked one =
     (checked.0, checked.1, checks-push asked folder checked.0 mid new ws ts word told checked.2 one)
@@ -79,11 +80,11 @@ abbrev pub faulty_one : Told → Bool
 faulty_one told = is_faulty told.verdict
 
 -- the documents so far were looked at, and what is told of them written; these are left
-pub record IsChecking (asked : Asked) (folder : List ℕ) (old now : FilesState) (before after : OutState) (left : List (List ℕ)) (starved unread faulty : Bool) : Type 0 where
+pub record IsChecking (asked : Asked) (folder : List ℕ) (old now : FilesState) (noted : List (List ℕ)) (before after : OutState) (left : List (List ℕ)) (starved unread faulty : Bool) : Type 0 where
   pub front : List (List ℕ)
   pub all : List Told
   pub parted : asked.files ≡ front ++ left
-  pub checked : ChecksAll asked folder old front all now
+  pub checked : ChecksAll asked folder (run_state old []) front all (run_state now noted)
   pub written : Appends before.bytes (texts_of all) after.bytes
   pub no_fault : after.faults ≡ before.faults
   pub starved_is : starved ≡ list_any starved_one all
@@ -92,7 +93,7 @@ pub record IsChecking (asked : Asked) (folder : List ℕ) (old now : FilesState)
 
 -- none was looked at yet
 pub check-begun : (asked : Asked) (folder : List ℕ) (old : FilesState) (out : OutState) (left : List (List ℕ)) → left ≡ asked.files →
-    IsChecking asked folder old old out out left false false false
+    IsChecking asked folder old old [] out out left false false false
 check-begun asked folder old out left same = record {
   front = [];
   all = [];
@@ -109,17 +110,18 @@ next-word : (words front left rest : List (List ℕ)) (word : List ℕ) → word
 next-word words front left rest word h cut = h ∙ ap (λ ws. front ++ ws) cut ∙ sym (append_assoc front (word ∷ []) rest)
 
 -- one more was looked at, and what is told of it written
-pub check-more : (asked : Asked) (folder : List ℕ) (old now next : FilesState) (before after last : OutState) (left rest : List (List ℕ)) (word : List ℕ) (told : Told)
+pub check-more : (asked : Asked) (folder : List ℕ) (old now next : FilesState) (noted later : List (List ℕ)) (before after last : OutState) (left rest : List (List ℕ)) (word : List ℕ) (told : Told)
     (starved unread faulty starved' unread' faulty' : Bool) →
-    IsChecking asked folder old now before after left starved unread faulty → left ≡ word ∷ rest → ChecksFile asked folder now word told next →
+    IsChecking asked folder old now noted before after left starved unread faulty → left ≡ word ∷ rest →
+    ChecksFile asked folder (run_state now noted) word told (run_state next later) →
     Appends after.bytes told.text last.bytes → last.faults ≡ after.faults →
     starved' ≡ (starved || is_starved told.verdict) → unread' ≡ (unread || is_unread told.verdict) → faulty' ≡ (faulty || is_faulty told.verdict) →
-    IsChecking asked folder old next before last rest starved' unread' faulty'
-check-more asked folder old now next before after last left rest word told starved unread faulty starved' unread' faulty' h cut one wrote quiet s u f = record {
+    IsChecking asked folder old next later before last rest starved' unread' faulty'
+check-more asked folder old now next noted later before after last left rest word told starved unread faulty starved' unread' faulty' h cut one wrote quiet s u f = record {
   front = h.front ++ word ∷ [];
   all = h.all ++ told ∷ [];
   parted = next-word asked.files h.front left rest word h.parted cut;
-  checked = checks-push asked folder old now next h.front h.all word told h.checked one;
+  checked = checks-push asked folder (run_state old []) (run_state now noted) (run_state next later) h.front h.all word told h.checked one;
   written =
       let P : List ℕ → Type 0 = λ x. Appends before.bytes x last.bytes in
       subst P (sym (texts-push h.all told)) (appends-more before.bytes after.bytes last.bytes (texts_of h.all) told.text h.written wrote);
@@ -130,13 +132,14 @@ check-more asked folder old now next before after last left rest word told starv
 }
 
 -- all were
-pub check-done : (asked : Asked) (folder : List ℕ) (old now : FilesState) (before after : OutState) (left : List (List ℕ)) (starved unread faulty : Bool) (status : Status) →
-    IsChecking asked folder old now before after left starved unread faulty → left ≡ [] → status ≡ status_by starved unread faulty →
+pub check-done : (asked : Asked) (folder : List ℕ) (old now : FilesState) (noted : List (List ℕ)) (before after : OutState) (left : List (List ℕ)) (starved unread faulty : Bool) (status : Status) →
+    IsChecking asked folder old now noted before after left starved unread faulty → left ≡ [] → status ≡ status_by starved unread faulty →
     ChecksFiles asked folder old now before after status
-check-done asked folder old now before after left starved unread faulty status h none ended = inl (record {
+check-done asked folder old now noted before after left starved unread faulty status h none ended = inl (record {
   all = h.all;
+  noted = noted;
   checked =
-      let P : List (List ℕ) → Type 0 = λ ws. ChecksAll asked folder old ws h.all now in
+      let P : List (List ℕ) → Type 0 = λ ws. ChecksAll asked folder (run_state old []) ws h.all (run_state now noted) in
       let whole : h.front ≡ asked.files = sym (append-nil h.front) ∙ ap (λ r. h.front ++ r) (sym none) ∙ sym h.parted in
       subst P whole h.checked;
   written = h.written;
@@ -151,12 +154,13 @@ part_of told text after same =
     ([], text, refl, subst P (sym same) (appends-nil told))
 
 -- one more was looked at, and the output refused what is told of it
-pub check-stopped : (asked : Asked) (folder : List ℕ) (old now next : FilesState) (before after last : OutState) (left rest : List (List ℕ)) (word : List ℕ) (told : Told)
+pub check-stopped : (asked : Asked) (folder : List ℕ) (old now next : FilesState) (noted later : List (List ℕ)) (before after last : OutState) (left rest : List (List ℕ)) (word : List ℕ) (told : Told)
     (starved unread faulty : Bool) (fault : OutFault) (status : Status) →
-    IsChecking asked folder old now before after left starved unread faulty → left ≡ word ∷ rest → ChecksFile asked folder now word told next →
+    IsChecking asked folder old now noted before after left starved unread faulty → left ≡ word ∷ rest →
+    ChecksFile asked folder (run_state now noted) word told (run_state next later) →
     Writes {A = Unit {0}} (Err fault) after.bytes told.text last.bytes → CountsOutFault {A = Unit {0}} (Err fault) after.faults last.faults →
     status ≡ stop_status fault → ChecksFiles asked folder old next before last status
-check-stopped asked folder old now next before after last left rest word told starved unread faulty fault status h cut one wrote counts ended =
+check-stopped asked folder old now next noted later before after last left rest word told starved unread faulty fault status h cut one wrote counts ended =
     inr (by_fault fault wrote counts ended)
   where
     cut_off : AppendsPrefix after.bytes told.text last.bytes → IsCutOff asked folder old next before.bytes last.bytes
@@ -166,9 +170,10 @@ check-stopped asked folder old now next before after last left rest word told st
       rest = rest;
       parted = h.parted ∙ ap (λ ws. h.front ++ ws) cut;
       all = h.all;
-      mid = now;
+      mid = run_state now noted;
       checked = h.checked;
       last = told;
+      noted = later;
       last_checked = one;
       part = part.0;
       missing = part.1;

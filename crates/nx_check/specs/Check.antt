@@ -5,12 +5,13 @@ use Rattle.nx_host.specs.Out.{Appends, AppendsPrefix}
 use Rattle.nx_host.specs.PathUri.{uri_of_path}
 use Rattle.nx_script.specs.declared.reply.Refusal.{Refusal}
 use Rattle.nx_session.specs.Editor.{FilesState}
-use Rattle.nx_session.specs.Schemas.{IsRefusedSchema}
 use Rattle.nx_check.specs.Codes.{status_of}
 use Rattle.nx_check.specs.Files.{ChecksFile}
+use Rattle.nx_check.specs.Noted.{RunState, run_state}
 use Rattle.nx_check.specs.Output.{OutState}
 use Rattle.nx_check.specs.Reasons.{wants_memory}
 use Rattle.nx_check.specs.Telling.{Tells}
+use Rattle.nx_check.specs.WiderTexts.{IsRefused}
 use Rattle.nx_check.specs.Words.{Asked, AsksCheck}
 use Rattle.nx_check.specs.declared.reason.Reason.{Reason}
 use Rattle.nx_check.specs.declared.reason.Reason.TheVariants as reason
@@ -41,7 +42,7 @@ SaysLine line meant status before after =
 
 -- what is written where the words are out of form
 abbrev pub usage_line : List ℕ
-usage_line = codes "usage: nxml-check [--schema FILE] [--rules FILE] [--quiet] FILE...\n"
+usage_line = codes "usage: nxml-check [--schema FILE] [--rules FILE] [--strict] [--quiet] FILE...\n"
 
 -- the words name a schema that can't be used, which is said; no document is looked at
 pub record IsSchemaUnread (asked : Asked) (folder : List ℕ) (old new : FilesState) (before after : OutState) (status : Status) : Type 0 where
@@ -49,7 +50,7 @@ pub record IsSchemaUnread (asked : Asked) (folder : List ℕ) (old new : FilesSt
   pub given : asked.schema ≡ Some word
   pub cause : Refusal
   pub mid : FilesState
-  pub refused : IsRefusedSchema (uri_of_path folder word) old mid cause
+  pub refused : IsRefused asked.strict (uri_of_path folder word) old mid cause
   pub same_map : mid.map ≡ old.map
   pub no_want : wants_memory (reason.Schema (uri_of_path folder word) cause) ≡ false
   pub line : List ℕ
@@ -64,11 +65,11 @@ pub record IsUnbegun (old new : FilesState) (before after : OutState) (status : 
 
 -- ---- documents
 
--- one document after another, each in the files that are left by the one before it
-abbrev pub ChecksAll : Asked → List ℕ → FilesState → List (List ℕ) → List Told → FilesState → Type 0
+-- one document after another, each in the files that are left by the one before it, and behind the notes that were told
+abbrev pub ChecksAll : Asked → List ℕ → RunState → List (List ℕ) → List Told → RunState → Type 0
 ChecksAll asked folder old [] [] new = new ≡ old
 ChecksAll asked folder old (word ∷ words) (told ∷ all) new =
-    (mid : FilesState) × ChecksFile asked folder old word told mid × ChecksAll asked folder mid words all new
+    (mid : RunState) × ChecksFile asked folder old word told mid × ChecksAll asked folder mid words all new
 ChecksAll asked folder old [] (told ∷ all) new = ⊥
 ChecksAll asked folder old (word ∷ words) [] new = ⊥
 
@@ -80,7 +81,8 @@ texts_of (told ∷ all) = told.text ++ texts_of all
 -- all documents were looked at, and all that is told of them was written
 pub record IsWhole (asked : Asked) (folder : List ℕ) (old new : FilesState) (before after : OutState) (status : Status) : Type 0 where
   pub all : List Told
-  pub checked : ChecksAll asked folder old asked.files all new
+  pub noted : List (List ℕ)
+  pub checked : ChecksAll asked folder (run_state old []) asked.files all (run_state new noted)
   pub written : Appends before.bytes (texts_of all) after.bytes
   pub no_fault : after.faults ≡ before.faults
   pub ended : status ≡ status_of all
@@ -92,10 +94,11 @@ pub record IsCutOff (asked : Asked) (folder : List ℕ) (old new : FilesState) (
   pub rest : List (List ℕ)
   pub parted : asked.files ≡ front ++ word ∷ rest
   pub all : List Told
-  pub mid : FilesState
-  pub checked : ChecksAll asked folder old front all mid
+  pub mid : RunState
+  pub checked : ChecksAll asked folder (run_state old []) front all mid
   pub last : Told
-  pub last_checked : ChecksFile asked folder mid word last new
+  pub noted : List (List ℕ)
+  pub last_checked : ChecksFile asked folder mid word last (run_state new noted)
   pub part : List ℕ
   pub missing : List ℕ
   pub text : last.text ≡ part ++ missing
@@ -145,7 +148,7 @@ IsCheckOf words folder old new before after status =
 -- why no editor is kept for the schema that the words name
 abbrev pub StopsGiven : Asked → List ℕ → FilesState → FilesState → Reason → Type 0
 StopsGiven asked folder old new (reason.Schema text cause) =
-    (word : List ℕ) × (asked.schema ≡ Some word) × (text ≡ uri_of_path folder word) × IsRefusedSchema text old new cause × (new.map ≡ old.map)
+    (word : List ℕ) × (asked.schema ≡ Some word) × (text ≡ uri_of_path folder word) × IsRefused asked.strict text old new cause × (new.map ≡ old.map)
 StopsGiven asked folder old new reason.NoMemory = new ≡ old
 StopsGiven asked folder old new other = ⊥
 

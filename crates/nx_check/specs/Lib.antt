@@ -1,11 +1,15 @@
 pub mod Words
 pub mod Naming
 pub mod Sources
+pub mod WiderTexts
+pub mod Notes
+pub mod Noted
 pub mod Schemas
 pub mod Reasons
 pub mod Stopping
 pub mod Telling
 pub mod Places
+pub mod Warnings
 pub mod Reports
 pub mod Files
 pub mod Codes

@@ -16,9 +16,9 @@ use Rattle.nx_locate.specs.NamedSchemas.{named_schema}
 use Rattle.nx_script.specs.declared.reply.Refusal.{Refusal}
 use Rattle.nx_script.specs.declared.reply.Refusal.TheVariants as refused
 use Rattle.nx_session.specs.Editor.{FilesState, work_folder}
-use Rattle.nx_session.specs.Schemas.{IsRefusedSchema}
 use Rattle.nx_check.specs.Naming.{Names, IsDocument, fetched_at}
 use Rattle.nx_check.specs.Sources.{HasRules, HasSource, HasBadReference}
+use Rattle.nx_check.specs.WiderTexts.{IsRefused}
 use Rattle.nx_check.specs.Words.{Asked}
 use Rattle.nx_check.specs.declared.document.Document.{Document}
 use Rattle.nx_check.specs.declared.reason.Reason.{Reason}
@@ -60,7 +60,7 @@ pub record IsSchemaRefused (asked : Asked) (folder word : List ℕ) (old new : F
   pub document : Document
   pub is_document : IsDocument folder word old.map document
   pub has_source : HasSource asked folder old document (Some text)
-  pub refused : IsRefusedSchema text old new cause
+  pub refused : IsRefused asked.strict text old new cause
 
 -- This is why the document isn't checked that the word names. Want of memory is free
 abbrev pub Stops : Asked → List ℕ → List ℕ → FilesState → FilesState → Reason → Type 0
@@ -83,11 +83,22 @@ wants_memory other = false
 -- ---- as the code sees them
 
 -- why there is no editor for the documents of this schema
-abbrev pub StopsSource : Option (List ℕ) → FilesState → FilesState → Reason → Type 0
-StopsSource (Some text) old new (Schema named cause) = (named ≡ text) × IsRefusedSchema text old new cause × (new.map ≡ old.map)
-StopsSource source old new Failed = (new.map ≡ old.map) × Rose old.faults new.faults
-StopsSource source old new NoMemory = new ≡ old
-StopsSource source old new other = ⊥
+abbrev pub StopsSource : Bool → Option (List ℕ) → FilesState → FilesState → Reason → Type 0
+StopsSource strict (Some text) old new (Schema named cause) = (named ≡ text) × IsRefused strict text old new cause × (new.map ≡ old.map)
+StopsSource strict source old new Failed = (new.map ≡ old.map) × Rose old.faults new.faults
+StopsSource strict source old new NoMemory = new ≡ old
+StopsSource strict source old new other = ⊥
+
+-- this is the text of the schema's URI, where there is a schema
+abbrev pub IsTextOf : Option (List ℕ) → List ℕ → Type 0
+IsTextOf (Some source) text = text ≡ source
+IsTextOf None text = Unit {0}
+
+-- why a document isn't checked whose schema, of this URI text, is refused
+abbrev pub reason_for : List ℕ → Refusal → Reason
+reason_for text refused.Failed = Failed
+reason_for text refused.NoMemory = NoMemory
+reason_for text cause = Schema text cause
 
 -- what should be a URI that leads to the schema can't be had
 abbrev pub reason_of_uri : UriFault → Reason

@@ -1,4 +1,4 @@
--- The words behind the program's name: `[--schema FILE] [--rules FILE] [--quiet] FILE...`, as clap takes them.
+-- The words behind the program's name: `[--schema FILE] [--rules FILE] [--strict] [--quiet] FILE...`, as clap takes them.
 use Rattle.std.specs.Prelude.{◌≡◌, ℕ, Bool, false, true, List, [], map, codes, Option, Some, None, All, IsUtf8, option_map, unwrap_or}
 use Rattle.std.specs.Str.{bytes_eq}
 use Rattle.clap.specs.Faults.{fault_of}
@@ -15,6 +15,9 @@ schema_rule = record (new_rule (codes "schema")) { long = Some (codes "schema") 
 abbrev pub rules_rule : Rule
 rules_rule = record (new_rule (codes "rules")) { long = Some (codes "rules") }
 
+abbrev pub strict_rule : Rule
+strict_rule = record (new_rule (codes "strict")) { long = Some (codes "strict"); action = Some SetTrue }
+
 abbrev pub quiet_rule : Rule
 quiet_rule = record (new_rule (codes "quiet")) { long = Some (codes "quiet"); action = Some SetTrue }
 
@@ -23,13 +26,15 @@ file_rule = record (new_rule (codes "file")) { required = true; action = Some Ap
 
 -- the program's command, whose words don't begin with its name
 unfoldable pub checker : App
-checker = with_rule (with_rule (with_rule (with_rule (on_top (λ top. record top { no_binary_name = true }) (new_app (codes "nxml-check")))
-    schema_rule) rules_rule) quiet_rule) file_rule
+checker = with_rule (with_rule (with_rule (with_rule (with_rule (on_top (λ top. record top { no_binary_name = true }) (new_app (codes "nxml-check")))
+    schema_rule) rules_rule) strict_rule) quiet_rule) file_rule
 
--- the files of a schema and of rules, where they are given, whether faults are only counted, and the documents
+-- the files of a schema and of rules, where they are given, whether a schema is refused that isn't held as it is, whether faults are
+-- only counted and no notes are written, and the documents
 pub record Asked : Type 0 where
   pub schema : Option (List ℕ)
   pub rules : Option (List ℕ)
+  pub strict : Bool
   pub quiet : Bool
   pub files : List (List ℕ)
 
@@ -46,6 +51,7 @@ abbrev pub asked_of : List Row → Asked
 asked_of rows = record {
   schema = first_of (codes "schema") rows;
   rules = first_of (codes "rules") rows;
+  strict = is_given (first_of (codes "strict") rows);
   quiet = is_given (first_of (codes "quiet") rows);
   files = files_in rows;
 }
@@ -62,6 +68,7 @@ abbrev pub asked_of_call : Call → Asked
 asked_of_call call = record {
   schema = option_map (λ value. value.now) call.schema;
   rules = option_map (λ value. value.now) call.rules;
+  strict = call.strict;
   quiet = call.quiet;
   files = map (λ file. file.now) call.files.items;
 }

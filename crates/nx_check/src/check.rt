@@ -27,11 +27,12 @@ use std::alloc::Global;
 use std::sync::ledger::Ledger;
 
 /// The line that is written where the words are out of form.
-const USAGE: &str = "usage: nxml-check [--schema FILE] [--rules FILE] [--quiet] FILE...\n";
+const USAGE: &str =
+    "usage: nxml-check [--schema FILE] [--rules FILE] [--strict] [--quiet] FILE...\n";
 
 /// Checks the documents that the words name, which are written in this folder, and writes what is found. The words are those behind the
-/// program's name, `[--schema FILE] [--rules FILE] [--quiet] FILE...`; the folder is a path from the root. The steps rise by the tokens
-/// that were cut.
+/// program's name, `[--schema FILE] [--rules FILE] [--strict] [--quiet] FILE...`; the folder is a path from the root. The steps rise by the
+/// tokens that were cut.
 pub fn check<F: Files, O: Out, L: Ledger>(
     alloc: Global,
     words: &[Bytes],
@@ -82,21 +83,22 @@ fn keep_given<F: Files, L: Ledger>(
     call: &Call<'_>,
     folder: &[u8],
     kept: &mut Vec<Kept>,
-    files: &mut F,
+    files: &mut Recent<F>,
     steps: &mut Steps<L>,
 ) -> Result<(), Reason>
-    requires { HoldTheirs (F.told files.old) kept.old.items }
-    ensures theirs { HoldTheirs (F.told files.new) kept.new.items }
-    ensures stays { OnOk result (files_state (F.told files.new) (F.faults files.new) ≡ files_state (F.told files.old) (F.faults files.old)) }
-    ensures refused { IfErr result (StopsGiven (asked_of_call call.now) folder.now (files_state (F.told files.old) (F.faults files.old))
-        (files_state (F.told files.new) (F.faults files.new))) }
+    requires { HoldTheirs (asked_of_call call.now).strict folder.now (F.told files.old.files) kept.old.items }
+    ensures theirs { HoldTheirs (asked_of_call call.now).strict folder.now (F.told files.new.files) kept.new.items }
+    ensures stays { OnOk result (files_state (F.told files.new.files) (F.faults files.new.files)
+        ≡ files_state (F.told files.old.files) (F.faults files.old.files)) }
+    ensures refused { IfErr result (StopsGiven (asked_of_call call.now) folder.now (files_state (F.told files.old.files) (F.faults files.old.files))
+        (files_state (F.told files.new.files) (F.faults files.new.files))) }
 {
     let Some(word) = call.schema else {
         return Ok(());
     };
     let text = path_uri(alloc, folder, word.as_bytes())?;
     let source = Some(text.copy()?);
-    match editor_for(alloc, kept, source, files, steps) {
+    match editor_for(alloc, call.strict, folder, kept, source, files, steps) {
         Ok(one) => {
             keep(kept, one);
             Ok(())
@@ -182,7 +184,7 @@ fn check_files<F: Files, O: Out, L: Ledger>(
     out: &mut O,
     steps: &mut Steps<L>,
 ) -> Status
-    requires { HoldTheirs (F.told files.old.files) kept.old.items }
+    requires { HoldTheirs (asked_of_call call.now).strict folder.now (F.told files.old.files) kept.old.items }
     ensures { ChecksFiles (asked_of_call call.now) folder.now (files_state (F.told files.old.files) (F.faults files.old.files))
         (files_state (F.told files.new.files) (F.faults files.new.files))
         (out_state (O.told out.old) (O.faults out.old)) (out_state (O.told out.new) (O.faults out.new)) result }
@@ -192,8 +194,9 @@ fn check_files<F: Files, O: Out, L: Ledger>(
         unread: false,
         faulty: false,
     };
+    let mut noted = Vec::new(alloc);
     for word in call.files.as_slice() {
-        let told = check_file(alloc, call, folder, word, kept, files, steps);
+        let told = check_file(alloc, call, folder, word, kept, &mut noted, files, steps);
         tally.note(told.verdict);
         match out.write(alloc, told.text.as_slice()) {
             Ok(()) => {}

@@ -4,9 +4,11 @@ ghost use Rattle.std.specs.Prelude.{◌≡◌, ◌++◌, IfOk, OnOk};
 ghost use Rattle.nx_lines.specs.Cursors.{IsAtPlace};
 ghost use Rattle.nx_position.specs.declared.position.Encoding.TheVariants.{Utf32};
 ghost use Rattle.nx_session.specs.Editor.{files_state, schema_of};
-ghost use Rattle.nx_check.specs.Reports.{tells_expected, AddsLine, wants_expected, AreExpected, AreExpectedAt, AddsLines, remark, summary, IsReport};
+ghost use Rattle.nx_check.specs.Reports.{tells_expected, AddsLine, AddsErrorLine, wants_expected, AreExpected, AreExpectedAt, AddsLines, remark, summary, IsReport};
+ghost use Rattle.nx_check.specs.Warnings.{named_encoding, warning_line};
 
 use crate::place::asked_place;
+use crate::warning::{ENCODING_TEXT, warned_at};
 use nx_base::fault::{Fault, Kind};
 use nx_base::memory::NoMemory;
 use nx_base::offer::{OfferList, Offers};
@@ -30,26 +32,30 @@ const MOST_EXPECTED: usize = 100;
 /// What is said where no schema is there.
 const NO_SCHEMA: &str = "no schema is found for this document; its form alone is checked";
 
-/// What is told of the document that the editor holds, which a word names and which has these faults.
+/// What is told of the document that the editor holds, which a word names and which has these faults, of which so many are errors. The
+/// place is where its declaration names another encoding though it is ASCII, if it does.
 pub(crate) fn report<F: Files, L: Ledger>(
     alloc: Global,
     quiet: bool,
     word: &str,
     session: &mut Session,
+    named: Option<usize>,
     faults: &[Fault],
+    errors: usize,
     files: &mut F,
     steps: &mut Steps<L>,
 ) -> Result<Bytes, NoMemory>
-    ensures report { IfOk result (IsReport quiet (schema_of session.old.editor) session.old.editor.text word.now faults.now) }
+    requires { named ≡ named_encoding session.old.editor.text }
+    ensures report { IfOk result (IsReport quiet (schema_of session.old.editor) session.old.editor.text word.now faults.now errors) }
     ensures editor { session.new.editor ≡ session.old.editor }
     ensures stays { files_state (F.told files.new) (F.faults files.new) ≡ files_state (F.told files.old) (F.faults files.old) }
 {
     let mut text = Vec::new(alloc);
     if !quiet {
         push_remark(alloc, &mut text, word, session)?;
-        push_lines(alloc, &mut text, word, session, faults, files, steps)?;
+        push_lines(alloc, &mut text, word, session, named, faults, files, steps)?;
     }
-    push_count(alloc, &mut text, word, faults)?;
+    push_count(alloc, &mut text, word, errors)?;
     Ok(Bytes::from_vec(text))
 }
 
@@ -75,19 +81,14 @@ fn push_remark(
     )
 }
 
-/// Says how many faults there are, where there are some.
-fn push_count(
-    alloc: Global,
-    text: &mut Vec<u8>,
-    word: &str,
-    faults: &[Fault],
-) -> Result<(), NoMemory>
-    ensures { OnOk result (text.new.items ≡ text.old.items ++ summary word.now faults.now) }
+/// Says how many errors there are, where there are some.
+fn push_count(alloc: Global, text: &mut Vec<u8>, word: &str, count: usize) -> Result<(), NoMemory>
+    ensures { OnOk result (text.new.items ≡ text.old.items ++ summary word.now count) }
 {
-    if faults.is_empty() {
+    if count == 0 {
         return Ok(());
     }
-    push_summary(alloc, text, word.as_bytes(), faults.len())
+    push_summary(alloc, text, word.as_bytes(), count)
 }
 
 /// Adds a line for each fault.
@@ -96,10 +97,12 @@ fn push_lines<F: Files, L: Ledger>(
     text: &mut Vec<u8>,
     word: &str,
     session: &mut Session,
+    named: Option<usize>,
     faults: &[Fault],
     files: &mut F,
     steps: &mut Steps<L>,
 ) -> Result<(), NoMemory>
+    requires { named ≡ named_encoding session.old.editor.text }
     ensures lines { OnOk result (AddsLines (schema_of session.old.editor) session.old.editor.text word.now faults.now text.old.items text.new.items) }
     ensures editor { session.new.editor ≡ session.old.editor }
     ensures stays { files_state (F.told files.new) (F.faults files.new) ≡ files_state (F.told files.old) (F.faults files.old) }
@@ -112,6 +115,7 @@ fn push_lines<F: Files, L: Ledger>(
             word,
             session,
             &mut cursor,
+            named,
             number,
             fault,
             files,
@@ -122,7 +126,70 @@ fn push_lines<F: Files, L: Ledger>(
 }
 
 /// Adds the line of the fault of this number.
+#[tactic(auto, using(crate::proofs::Reporting::warned_line, crate::proofs::Reporting::error_line))]
 fn push_fault<F: Files, L: Ledger>(
+    alloc: Global,
+    text: &mut Vec<u8>,
+    word: &str,
+    session: &mut Session,
+    cursor: &mut Cursor,
+    named: Option<usize>,
+    number: usize,
+    fault: &Fault,
+    files: &mut F,
+    steps: &mut Steps<L>,
+) -> Result<(), NoMemory>
+    requires stands { IsAtPlace session.old.editor.text cursor.old }
+    requires encoding { cursor.old.encoding ≡ Utf32 }
+    requires named { named ≡ named_encoding session.old.editor.text }
+    ensures line { OnOk result (AddsLine (schema_of session.old.editor) session.old.editor.text word.now number fault.now text.old.items text.new.items) }
+    ensures stands { OnOk result (IsAtPlace session.new.editor.text cursor.new) }
+    ensures encoding { OnOk result (cursor.new.encoding ≡ Utf32) }
+    ensures editor { session.new.editor ≡ session.old.editor }
+    ensures stays { files_state (F.told files.new) (F.faults files.new) ≡ files_state (F.told files.old) (F.faults files.old) }
+{
+    match warned_at(named, fault.kind) {
+        Some(at) => {
+            push_warning(alloc, text, word, session, cursor, at)?;
+            Ok(())
+        }
+        None => {
+            push_error(
+                alloc, text, word, session, cursor, number, fault, files, steps,
+            )?;
+            Ok(())
+        }
+    }
+}
+
+/// Adds the line of the warning of an encoding that is named at the byte offset.
+fn push_warning(
+    alloc: Global,
+    text: &mut Vec<u8>,
+    word: &str,
+    session: &Session,
+    cursor: &mut Cursor,
+    at: usize,
+) -> Result<(), NoMemory>
+    requires stands { IsAtPlace session.now.editor.text cursor.old }
+    requires encoding { cursor.old.encoding ≡ Utf32 }
+    ensures line { OnOk result (text.new.items ≡ text.old.items ++ warning_line word.now session.now.editor.text at) }
+    ensures stands { OnOk result (IsAtPlace session.now.editor.text cursor.new) }
+    ensures encoding { OnOk result (cursor.new.encoding ≡ Utf32) }
+{
+    let place = cursor.shown_at(session.text(), at);
+    push_message_line(
+        alloc,
+        text,
+        word.as_bytes(),
+        Some(place),
+        Severity::Warning,
+        ENCODING_TEXT.as_bytes(),
+    )
+}
+
+/// Adds the line of the error of this number among the faults.
+fn push_error<F: Files, L: Ledger>(
     alloc: Global,
     text: &mut Vec<u8>,
     word: &str,
@@ -135,7 +202,7 @@ fn push_fault<F: Files, L: Ledger>(
 ) -> Result<(), NoMemory>
     requires stands { IsAtPlace session.old.editor.text cursor.old }
     requires encoding { cursor.old.encoding ≡ Utf32 }
-    ensures line { OnOk result (AddsLine (schema_of session.old.editor) session.old.editor.text word.now number fault.now text.old.items text.new.items) }
+    ensures line { OnOk result (AddsErrorLine (schema_of session.old.editor) session.old.editor.text word.now number fault.now text.old.items text.new.items) }
     ensures stands { OnOk result (IsAtPlace session.new.editor.text cursor.new) }
     ensures encoding { OnOk result (cursor.new.encoding ≡ Utf32) }
     ensures editor { session.new.editor ≡ session.old.editor }

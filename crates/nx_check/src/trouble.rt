@@ -4,6 +4,7 @@ ghost use Rattle.std.specs.Prelude.{◌≡◌, IfOk, IfSome, IsUtf8, OnOk, Optio
 ghost use Rattle.nx_host.specs.Files.{Holds};
 ghost use Rattle.nx_session.specs.Editor.{FilesState, files_state};
 ghost use Rattle.nx_check.specs.Files.{ChecksFile, IsStarvedTold};
+ghost use Rattle.nx_check.specs.Noted.{run_state};
 ghost use Rattle.nx_check.specs.Reasons.{Stops};
 ghost use Rattle.nx_check.specs.Telling.{place_in, stop_line, IsLineIn, IsPlaced, IsStopLine, Tells};
 ghost use Rattle.nx_check.specs.Words.{Asked};
@@ -36,8 +37,10 @@ pub(crate) fn tell<F: Files, L: Ledger>(
     files: &mut Recent<F>,
     steps: &mut Steps<L>,
 ) -> Told
-    ensures told { (asked : Asked) (old : FilesState) → Stops asked folder.now word.now old (files_state (F.told files.old.files) (F.faults files.old.files)) reason.now
-        → ChecksFile asked folder.now old word.now result (files_state (F.told files.new.files) (F.faults files.new.files)) }
+    ensures told { (asked : Asked) (old : FilesState) (noted : List (List ℕ))
+        → Stops asked folder.now word.now old (files_state (F.told files.old.files) (F.faults files.old.files)) reason.now
+        → ChecksFile asked folder.now (run_state old noted) word.now result
+        (run_state (files_state (F.told files.new.files) (F.faults files.new.files)) noted) }
     ensures map { F.told files.new.files ≡ F.told files.old.files }
 {
     if reason.wants_memory() {

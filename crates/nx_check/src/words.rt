@@ -1,4 +1,4 @@
-//! The words of the command line, `[--schema FILE] [--rules FILE] [--quiet] FILE...`, read by clap.
+//! The words of the command line, `[--schema FILE] [--rules FILE] [--strict] [--quiet] FILE...`, read by clap.
 
 ghost use Rattle.std.specs.Prelude.{◌≡◌, map, option_map, IfOk};
 ghost use Rattle.clap.specs.Matches.{found_of};
@@ -18,7 +18,9 @@ pub struct Call<'a> {
     pub schema: Option<&'a str>,
     /// The file of the rules by which the schemas of documents are located.
     pub rules: Option<&'a str>,
-    /// Whether no faults are listed, but only counted.
+    /// Whether a schema is refused that isn't held as it is.
+    pub strict: bool,
+    /// Whether no faults are listed, but only counted, and no notes are written.
     pub quiet: bool,
     /// The documents, in order.
     pub files: Vec<&'a str>,
@@ -55,6 +57,7 @@ fn call_of<'a>(alloc: Global, matches: &ArgMatches<'a>) -> Result<Call<'a>, NoMe
     Ok(Call {
         schema: matches.get_str("schema"),
         rules: matches.get_str("rules"),
+        strict: is_given(matches.get_str("strict")),
         quiet: is_given(matches.get_str("quiet")),
         files: files_in(alloc, matches)?,
     })
@@ -88,6 +91,11 @@ fn command<'a>(alloc: Global) -> Result<Command<'a>, NoMemory>
         .no_binary_name(true)
         .arg(Arg::new(alloc, "schema").long("schema"))?
         .arg(Arg::new(alloc, "rules").long("rules"))?
+        .arg(
+            Arg::new(alloc, "strict")
+                .long("strict")
+                .action(ArgAction::SetTrue),
+        )?
         .arg(
             Arg::new(alloc, "quiet")
                 .long("quiet")

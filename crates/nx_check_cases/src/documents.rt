@@ -1,5 +1,6 @@
 //! The files that are checked, and those beside them.
 
+use crate::wider::WIDER;
 use nx_base::memory::NoMemory;
 use nx_check::recent::Recent;
 use nx_host::memory_files::{MemFiles, SureFiles};
@@ -77,6 +78,9 @@ const DOCUMENTS: [(&str, &[u8]); 25] = [
 pub(crate) fn files_with(alloc: Global) -> Result<Recent<SureFiles>, NoMemory> {
     let mut files = SureFiles::new(alloc);
     for (uri, bytes) in &DOCUMENTS {
+        files.add(*uri, *bytes)?;
+    }
+    for (uri, bytes) in &WIDER {
         files.add(*uri, *bytes)?;
     }
     Ok(Recent::new(files))

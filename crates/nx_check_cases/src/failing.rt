@@ -26,8 +26,9 @@ const LOCATED: &[&str] = &["sub/one.xml"];
 const BROKEN: &[&str] = &["strange.xml"];
 
 /// Words, the number of a call on files that fails, what is written and how the check ends. The schema that words name is fetched first;
-/// else the document is, then rules are asked for and fetched, and the schema. What is broken in a schema is looked for in it once more.
-const FAILING: [(&[&str], u64, &str, Status); 11] = [
+/// else the document is, then rules are asked for and fetched, and the schema. A schema that is refused is fetched again for its wider
+/// texts, and once more to look for the place of what is broken in it.
+const FAILING: [(&[&str], u64, &str, Status); 12] = [
     (
         GIVEN,
         1,
@@ -75,12 +76,18 @@ const FAILING: [(&[&str], u64, &str, Status); 11] = [
     (
         BROKEN,
         3,
-        "broken.rnc: error: this isn't the compact syntax of RELAX NG\n",
+        "strange.xml: error: this file can't be read\n",
         Status::Unread,
     ),
     (
         BROKEN,
         4,
+        "broken.rnc: error: this isn't the compact syntax of RELAX NG\n",
+        Status::Unread,
+    ),
+    (
+        BROKEN,
+        5,
         "broken.rnc:2:1: error: this isn't the compact syntax of RELAX NG\n",
         Status::Unread,
     ),
@@ -119,7 +126,7 @@ const STOPPED: [(&[&str], u64, &str, Status); 4] = [
     (
         &["--nothing"],
         1,
-        "usage: nxml-check [--schema FILE]",
+        "usage: nxml-check [--schema FILE] [--ru",
         Status::Output,
     ),
 ];

@@ -11,3 +11,5 @@ mod failing;
 mod rows;
 #[cfg(test)]
 mod tests;
+#[cfg(test)]
+mod wider;

@@ -5,7 +5,8 @@ use nx_check::status::Status;
 /// A row.
 pub(crate) type Row = (&'static [&'static str], &'static str, Status);
 
-const USAGE: &str = "usage: nxml-check [--schema FILE] [--rules FILE] [--quiet] FILE...\n";
+const USAGE: &str =
+    "usage: nxml-check [--schema FILE] [--rules FILE] [--strict] [--quiet] FILE...\n";
 
 /// Words in and out of form.
 pub(crate) const WORDS: [Row; 7] = [

@@ -3,6 +3,7 @@
 use crate::checking::{check_words, checks, is_as_told};
 use crate::documents::files_with;
 use crate::rows::{FOUND, GIVEN, Row, WORDS};
+use crate::wider::{NOTED, STRICT, WARNED};
 use nx_base::memory::NoMemory;
 use nx_check::status::Status;
 use nx_host::memory_out::SureOut;
@@ -36,6 +37,21 @@ fn documents_are_checked(rt: HostRuntime) {
 #[test]
 fn schemas_are_found(rt: HostRuntime) {
     all_tell(&rt, rt.alloc(), &FOUND);
+}
+
+#[test]
+fn notes_are_told(rt: HostRuntime) {
+    all_tell(&rt, rt.alloc(), &NOTED);
+}
+
+#[test]
+fn schemas_are_refused_strictly(rt: HostRuntime) {
+    all_tell(&rt, rt.alloc(), &STRICT);
+}
+
+#[test]
+fn encodings_are_warned_of(rt: HostRuntime) {
+    all_tell(&rt, rt.alloc(), &WARNED);
 }
 
 /// Whether a check beside the documents does what a row says, or ends for want of memory.

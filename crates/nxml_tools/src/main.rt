@@ -22,7 +22,7 @@ use std::process::ExitCode;
 use std::sync::ledger::{Blank, Ledger};
 
 /// The line that is written where the first word names no front end.
-const USAGE: &str = "usage: nxml-tools check [--schema FILE] [--rules FILE] [--quiet] FILE...\n";
+const USAGE: &str = "usage: nxml-tools check [--schema FILE] [--rules FILE] [--strict] [--quiet] FILE...\n";
 
 /// The line that is written where the folder that the process is in can't be had, or is no text.
 const NO_FOLDER: &str =

@@ -160,7 +160,7 @@ fn is_declaration(alloc: Global, bytes: Bytes) -> Result<bool, NoMemory>
 
 /// What is put in the place of the encoding that the declaration of a text names, where the text is ASCII.
 #[tactic(auto, unfolding(crate::specs::Encodings::declared))]
-pub(crate) fn declared(alloc: Global, bytes: &[u8]) -> Result<Vec<Widening>, NoMemory>
+pub fn declared(alloc: Global, bytes: &[u8]) -> Result<Vec<Widening>, NoMemory>
     ensures { IfOk result (λ all. all.items ≡ declared bytes.now) }
 {
     let front = through_tag(bytes);

@@ -5,7 +5,7 @@
 mod compact;
 mod context;
 mod cutting;
-mod encoding;
+pub mod encoding;
 pub mod facet;
 mod head;
 pub mod law;

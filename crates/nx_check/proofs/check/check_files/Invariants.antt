@@ -11,6 +11,6 @@ invariant-loop-word g l =
     let f = g.F.Files in
     let o = g.O.Out in
     IsChecking (asked_of_call l.call) l.folder (files_state (f.told l.fn.files.files) (f.faults l.fn.files.files))
-    (files_state (f.told l.files.files) (f.faults l.files.files)) (out_state (o.told l.fn.out) (o.faults l.fn.out)) (out_state (o.told l.out) (o.faults l.out))
+    (files_state (f.told l.files.files) (f.faults l.files.files)) l.noted.items (out_state (o.told l.fn.out) (o.faults l.fn.out)) (out_state (o.told l.out) (o.faults l.out))
     (drop l.word-index (map (λ w. w.now) l.call.files.items)) l.tally.starved l.tally.unread l.tally.faulty
-    × HoldTheirs (f.told l.files.files) l.kept.items
+    × HoldTheirs (asked_of_call l.call).strict l.folder (f.told l.files.files) l.kept.items
