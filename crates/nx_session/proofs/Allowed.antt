@@ -11,6 +11,8 @@ use Rattle.nx_host.specs.Uri.{Joins, IsBadUri, JoinsIsDecided}
 use Rattle.nx_base.specs.declared.locate_fault.LocateFault.{LocateFault}
 use Rattle.nx_base.specs.declared.locate_fault.LocateFault.TheVariants as locate_fault
 use Rattle.nx_locate.specs.Locates.{Locates}
+use Rattle.nx_numbering.specs.Answers.{NumbersBreakTheSame, NumbersLiveAlike}
+use Rattle.nx_numbering.specs.Schemas.{FilesDefineOneLanguage, language}
 use Rattle.nx_script.specs.Replies.{refusal_of_rules}
 use Rattle.nx_script.specs.Grammar.{IsLine, LinesAreOneCommand}
 use Rattle.nx_script.specs.declared.command.Command.{Command}
@@ -167,12 +169,26 @@ usable whole cause.TextTwice can h = can.unrestricted.5 h.5
 usable whole cause.NothingValid can h = h.1 can.some_valid
 usable whole why can h = h
 
-module _ (passed : ComposedArePassed) (unbroken : SimplifiedIsNotBroken) where
+-- of the grammars that files define all can be used, or none
+abbrev AllAreUsed : Type 0
+AllAreUsed = (files : FileMap) (uri : List ℕ) (start other : Pattern) (definitions others : List Definition) →
+    Simplifies files uri start definitions → Simplifies files uri other others → CanBeUsed start definitions → CanBeUsed other others
+
+pub all_are_used : FilesDefineOneLanguage → NumbersBreakTheSame → NumbersLiveAlike → AllAreUsed
+all_are_used one break live files uri start other definitions others given found can =
+    let same = one files uri start other definitions others given found in
+    record {
+      unrestricted = break (language start definitions) (language other others) (Ok tt) same can.unrestricted;
+      some_valid = (live (language start definitions) (language other others) same).0 can.some_valid;
+    }
+
+module _ (passed : ComposedArePassed) (unbroken : SimplifiedIsNotBroken) (all_used : AllAreUsed) where
   -- files that define a grammar that can be used give a schema
   gives_schema : (files : FileMap) (uri : List ℕ) (why : Cause) → DefineSchema files uri → GivesNoSchema (Some files) uri why → ⊥
   gives_schema files uri why schema (inl broken) = unbroken files uri schema.start schema.definitions schema.simplified why broken.1
   gives_schema files uri why schema (inr none) =
-      usable none.0 why (schema.used (pattern_of none.0.start) (definitions_of none.0) none.1.simplified) none.2
+      usable none.0 why (all_used files uri schema.start (pattern_of none.0.start) schema.definitions (definitions_of none.0)
+      schema.simplified none.1.simplified schema.used) none.2
 
   pub refused_wants : (files : FileMap) (uri : List ℕ) (before after : ℕ) (cause : Refusal) → DefineSchema files uri → ¬ Rose before after
       → IsRefusedFor (Some files) uri before after cause → cause ≡ NoMemory

@@ -10,6 +10,7 @@ pub mod FilesGrammar
 pub mod Fitness
 pub mod Holding
 pub mod Locating
+pub mod Looking
 pub mod Marks
 pub mod OfferTexts
 pub mod Pieces

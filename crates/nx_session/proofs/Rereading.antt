@@ -25,12 +25,13 @@ use Rattle.nx_script.specs.Commands.{HasFitTexts}
 use Rattle.nx_script.specs.declared.command.Command.{Command}
 use Rattle.nx_script.specs.declared.command.Command.TheVariants as command
 use Rattle.nx_script.specs.declared.reply.Reply.TheVariants as reply
+use Rattle.nx_session.proofs.Looking.{looks_alike, reads_alike}
 use Rattle.nx_session.proofs.Marks.{one_edit_takes_few}
 use Rattle.nx_session.specs.Editing.{IsEdited}
 use Rattle.nx_session.specs.Editor.{EditorState, SessionState, edit_of}
 use Rattle.nx_session.specs.Marks.{EditsMarks, MarksAreRight}
 use Rattle.nx_session.specs.Reading.{rules_for}
-use Rattle.nx_session.specs.Rereading.{Applies, IsInsertOrDelete, EditBetweenErrors, RereadingTakesFew, RereadingSameEventsTakesFew}
+use Rattle.nx_session.specs.Rereading.{Applies, IsInsertOrDelete, EditIsReread, RereadingTakesFew, RereadingSameEventsTakesFew}
 use Rattle.rng_core.specs.Meaning.{language_of}
 use Rattle.rng_core.specs.declared.grammar.Grammar.{Grammar}
 
@@ -246,16 +247,13 @@ is_put read edited (command.Delete a b) from to added puts utf8 d =
     utf8_nil = ([], (refl, refl))
 is_put read edited given from to added puts utf8 d = absurd puts
 
-one_edit : (read edited again : SessionState) (from to : ℕ) (added : List ℕ) → EditBetweenErrors read edited again from to added → IsOneEdit read edited from to added
-one_edit read edited again from to added h =
-    let done = h.reads.step.0 in
-    let same : read.editor.text ≡ h.first.editor.text = ap (λ (e : EditorState). e.text) done.3.editor in
-    let all : read.editor.frontier ≡ length read.editor.text = done.1 ∙ ap length (sym same) in
+one_edit : (read edited later again : SessionState) (from to : ℕ) (added : List ℕ) → EditIsReread read edited later again from to added → IsOneEdit read edited from to added
+one_edit read edited later again from to added h =
     let put = is_put read edited h.given from to added h.is_edit h.utf8 h.edits in
     record {
-      right = h.reads.right;
-      all = all;
-      none = h.reads.marks.3 all;
+      right = h.whole.right;
+      all = h.whole.all;
+      none = h.whole.none;
       utf8 = put.utf8;
       start = put.start;
       end = put.end;
@@ -269,12 +267,13 @@ found_right : (read edited : SessionState) (from to : ℕ) (added : List ℕ) �
 found_right read edited from to added one = note_right is_any itself (rules_for read.editor.schema) read.editor.text read.marks one.right.right
 
 pub rereading_takes_few : RereadingTakesFew
-rereading_takes_few read edited again from to added tokens h cuts first =
-    let one = one_edit read edited again from to added h in
+rereading_takes_few read edited later again from to added tokens h cuts first =
+    let one = one_edit read edited later again from to added h in
+    let reads = reads_alike edited later again h.faults (looks_alike h.looks) h.rereads.marks in
     let all : frontier_of read.marks ≡ length read.editor.text = sym one.right.frontier ∙ one.all in
     elim (less-or to (length read.editor.text)) [
       | inl short ↦
-          one_edit_takes_few read edited again from to added h.faults_again tokens one.utf8 one.start one.end one.ordered short one.right one.all one.none one.changed one.told h.rereads.marks cuts first
+          one_edit_takes_few read edited again from to added h.faults tokens one.utf8 one.start one.end one.ordered short one.right one.all one.none one.changed one.told reads cuts first
       | inr end ↦
           (let right = found_right read edited from to added one in
           let within = one.start.0 in
@@ -285,8 +284,8 @@ rereading_takes_few read edited again from to added tokens h cuts first =
     ]
 
 pub rereading_same_events_takes_few : RereadingSameEventsTakesFew
-rereading_same_events_takes_few read edited again from to added tokens h kept =
-    let one = one_edit read edited again from to added h in
+rereading_same_events_takes_few read edited later again from to added tokens h kept =
+    let one = one_edit read edited later again from to added h in
     let text : List ℕ = read.editor.text in
     let r : Rules Recovered = rules_for read.editor.schema in
     let right = found_right read edited from to added one in
@@ -314,4 +313,4 @@ rereading_same_events_takes_few read edited again from to added tokens h kept =
     let F : Recovered → Type 0 = λ m. FirstMeans itself m aside in
     let G : Option Grammar → Type 0 = λ g. FirstMeans itself (after_all (rules_for g) here tokens) aside in
     let schema : edited.editor.schema ≡ read.editor.schema = ap (λ (e : EditorState). e.schema) one.changed.editor in
-    rereading_takes_few read edited again from to added tokens h kept.now (subst G (sym schema) (subst F on n.leads.first))
+    rereading_takes_few read edited later again from to added tokens h kept.now (subst G (sym schema) (subst F on n.leads.first))

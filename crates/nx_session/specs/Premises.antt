@@ -40,12 +40,12 @@ pub record CanBeUsed (start : Pattern) (definitions : List Definition) : Type 0 
   pub some_valid : Lives definitions start
 
 -- the files that are reached from the URI define a grammar that can be used. Grammars that they define differ in the numbers of their
--- definitions alone, which are free; so this is asked of each
+-- definitions alone, which are free, so each of them can be used, then
 pub record DefineSchema (files : FileMap) (uri : List ℕ) : Type 0 where
   pub start : Pattern
   pub definitions : List Definition
   pub simplified : Simplifies files uri start definitions
-  pub used : (some : Pattern) (others : List Definition) → Simplifies files uri some others → CanBeUsed some others
+  pub used : CanBeUsed start definitions
 
 -- the text denotes a URI under which the files, which tell what they hold, have such a schema
 pub record LeadsToSchema (uri_text : List ℕ) (told : Option FileMap) : Type 0 where

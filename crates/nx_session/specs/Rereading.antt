@@ -1,4 +1,4 @@
--- How few tokens are read again where one `insert` or `delete` comes between two `errors`.
+-- How few tokens are read again where of a text that was read to its end one `insert` or `delete` is made, and `errors` is asked again.
 use Rattle.std.specs.Prelude.{◌≡◌, ℕ, ◌<◌, ◌≤◌, List, [], length}
 use Rattle.nx_base.specs.Rules.{Lexeme}
 use Rattle.nx_base.specs.Running.{CutsTo, after_all}
@@ -11,6 +11,7 @@ use Rattle.nx_recovery.specs.SameEvents.{SameEventsBehind}
 use Rattle.nx_script.specs.Commands.{HasFitTexts}
 use Rattle.nx_script.specs.declared.command.Command.{Command}
 use Rattle.nx_script.specs.declared.command.Command.TheVariants as command
+use Rattle.nx_script.specs.declared.command.Command.TheVariants.{Nothing, Save, Print, Stats, Complete, Goto, Move, Next, Previous, Position, View, Close}
 use Rattle.nx_script.specs.declared.reply.Reply.{Reply}
 use Rattle.nx_script.specs.declared.reply.Reply.TheVariants as reply
 use Rattle.nx_session.specs.Editor.{SessionState, FilesState, world}
@@ -37,24 +38,57 @@ IsInsertOrDelete (command.Insert at text) from to added = (from ≡ at) × (to �
 IsInsertOrDelete (command.Delete start end) from to added = (from ≡ start) × (to ≡ end) × (added ≡ [])
 IsInsertOrDelete given from to added = ⊥
 
--- an `errors`, then one `insert` or `delete`, and then an `errors` again: all three are done
-pub record EditBetweenErrors (read edited again : SessionState) (from to : ℕ) (added : List ℕ) : Type 0 where
-  pub first : SessionState
-  pub faults : List Fault
-  pub reads : Applies first command.Errors (reply.Errors faults) read
+-- a command that neither edits the text, nor reads it, nor takes another schema
+abbrev pub OnlyLooks : Command → Type 0
+OnlyLooks Nothing = Unit {0}
+OnlyLooks (Save uri) = Unit {0}
+OnlyLooks Print = Unit {0}
+OnlyLooks Stats = Unit {0}
+OnlyLooks (Complete at) = Unit {0}
+OnlyLooks (Goto at) = Unit {0}
+OnlyLooks (Move way) = Unit {0}
+OnlyLooks Next = Unit {0}
+OnlyLooks Previous = Unit {0}
+OnlyLooks Position = Unit {0}
+OnlyLooks (View index) = Unit {0}
+OnlyLooks (Close index) = Unit {0}
+OnlyLooks given = ⊥
+
+-- any number of such commands, one behind another, however each is answered
+pub data Looks : SessionState → SessionState → Type 0 where
+  no_more : {now : SessionState} → Looks now now
+  one_more : {old next new : SessionState} {given : Command} {answer : Reply} → OnlyLooks given → Applies old given answer next →
+      Looks next new → Looks old new
+
+-- the marks are right, the text is read to its end, and nothing is aside
+pub record IsReadWhole (now : SessionState) : Type 0 where
+  pub right : MarksAreRight now
+  pub all : now.editor.frontier ≡ length now.editor.text
+  pub none : now.marks.aside ≡ []
+
+-- so it is behind an `errors` that is done, and what only looks leaves it so
+abbrev pub ErrorsReadWhole : Type 0
+ErrorsReadWhole = (first read later : SessionState) (faults : List Fault) →
+    Applies first command.Errors (reply.Errors faults) read → Looks read later → IsReadWhole later
+
+-- of a text that is read to its end one `insert` or `delete` is made; then comes what only looks, if anything, and an `errors`. They are
+-- done
+pub record EditIsReread (read edited later again : SessionState) (from to : ℕ) (added : List ℕ) : Type 0 where
+  pub whole : IsReadWhole read
   pub given : Command
   pub is_edit : IsInsertOrDelete given from to added
   pub utf8 : HasFitTexts given
   pub edits : Applies read given reply.Silent edited
-  pub faults_again : List Fault
-  pub rereads : Applies edited command.Errors (reply.Errors faults_again) again
+  pub looks : Looks edited later
+  pub faults : List Fault
+  pub rereads : Applies later command.Errors (reply.Errors faults) again
 
 -- so many tokens of the new text lead from the last mark before the edit, or from the start, to the first mark behind it, or to the
 -- state at the old end where there is none, and to what that state means. No more are taken. Behind an edit that reaches the text's end
 -- nothing stands, and nothing is said
 abbrev pub RereadingTakesFew : Type 0
-RereadingTakesFew = (read edited again : SessionState) (from to : ℕ) (added : List ℕ) (tokens : List Lexeme) →
-    EditBetweenErrors read edited again from to added →
+RereadingTakesFew = (read edited later again : SessionState) (from to : ℕ) (added : List ℕ) (tokens : List Lexeme) →
+    EditIsReread read edited later again from to added →
     CutsTo edited.editor.text (frontier_of edited.marks) tokens (next_of edited.marks) →
     FirstMeans itself (after_all (rules_for edited.editor.schema) edited.marks.here.state tokens) edited.marks.aside →
     again.editor.taken ≤ length tokens
@@ -73,6 +107,6 @@ pub record EventsAreAsBefore (read edited : SessionState) (from to : ℕ) (added
 
 -- then these lead to what the second mark's state means, so no more tokens are taken than lie between the two marks
 abbrev pub RereadingSameEventsTakesFew : Type 0
-RereadingSameEventsTakesFew = (read edited again : SessionState) (from to : ℕ) (added : List ℕ) (tokens : List Lexeme) →
-    EditBetweenErrors read edited again from to added → EventsAreAsBefore read edited from to added tokens →
+RereadingSameEventsTakesFew = (read edited later again : SessionState) (from to : ℕ) (added : List ℕ) (tokens : List Lexeme) →
+    EditIsReread read edited later again from to added → EventsAreAsBefore read edited from to added tokens →
     again.editor.taken ≤ length tokens

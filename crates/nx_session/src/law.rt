@@ -3,13 +3,14 @@
 ghost use Rattle.nx_session.specs.Done.{AllowedCommandsAreDone, AllowedLinesAreDone, FaultsAreCounted};
 ghost use Rattle.nx_session.specs.Faults.{TextsGiveText};
 ghost use Rattle.nx_session.specs.Marks.{OneEditTakesFew};
-ghost use Rattle.nx_session.specs.Rereading.{RereadingSameEventsTakesFew, RereadingTakesFew};
+ghost use Rattle.nx_session.specs.Rereading.{ErrorsReadWhole, RereadingSameEventsTakesFew, RereadingTakesFew};
 ghost use Rattle.nx_session.specs.Step.{RefusalsLeaveTheDocument};
 ghost use Rattle.nx_session.specs.TagFaults.{TagsTouchFewFaults};
 ghost use Rattle.nx_session.specs.Validity.{NoErrorsIsValid, NoErrorsIsValidForFiles};
 
 use nx_document::law::documents_are_writable;
 use nx_host::uri::joins_is_decided;
+use nx_numbering::law::{files_define_one_language, numbers_break_the_same, numbers_live_alike};
 use nx_recovery::law::{recovery_is_one, same_events_have_item_faults};
 use nx_scan::border::tokens_join;
 use nx_script::read::lines_are_one_command;
@@ -34,6 +35,9 @@ pub fn allowed_commands_are_done()
     joins_is_decided();
     composed_are_passed();
     simplified_is_not_broken();
+    files_define_one_language();
+    numbers_break_the_same();
+    numbers_live_alike();
 }
 
 /// So it is with a line that is such a command.
@@ -82,7 +86,13 @@ pub fn one_edit_takes_few()
     ensures { OneEditTakesFew }
 {}
 
-/// The same of three commands that are done, an `errors`, one `insert` or `delete`, and an `errors` again.
+/// Behind an `errors` that is done, and behind what only looks after it, a text is read to its end, its marks are right, and nothing is
+/// aside.
+pub fn errors_read_whole()
+    ensures { ErrorsReadWhole }
+{}
+
+/// The same of a session that is so: of one `insert` or `delete`, what only looks, and an `errors`, all of which are done.
 pub fn rereading_takes_few()
     ensures { RereadingTakesFew }
 {}
