@@ -1,9 +1,7 @@
 -- What is filled by residuals is what the definitions say of the text.
-use Rattle.std.proofs.Common.{◌≡◌, ℕ, suc, ◌+◌, ◌-◌, ◌≤◌, true, Option, Some, None, List, [], ◌∷◌, ◌++◌, length, take, codes, map, refl, sym, ap, subst, ◌∙◌, append_assoc, ◌⊎◌, inl, inr}
-use Rattle.std.specs.Prelude.{IsUtf8, IsTrue, IfSome}
+use Rattle.std.proofs.Common.{◌≡◌, ℕ, suc, ◌+◌, ◌-◌, true, Option, Some, None, List, [], ◌∷◌, ◌++◌, length, take, refl, sym, ap, subst, ◌∙◌, append_assoc, ◌⊎◌, inl, inr}
+use Rattle.std.specs.Prelude.{IsUtf8, IsTrue}
 use Rattle.nx_base.specs.Names.{is_namespace, is_xml_name, is_attribute_name}
-use Rattle.nx_base.specs.Rules.{lexeme_of}
-use Rattle.nx_base.specs.Running.{after_all, faults_along}
 use Rattle.nx_base.specs.Text.{IsPlace}
 use Rattle.nx_base.specs.Trees as trees
 use Rattle.nx_base.specs.declared.name.Name.{Name}
@@ -21,42 +19,39 @@ use Rattle.nx_events.specs.declared.state.EventState.{EventState}
 use Rattle.nx_events.proofs.Prefixes.{prefixes_are_told}
 use Rattle.rng_core.specs.Patterns.{Language}
 use Rattle.rng_core.specs.Validity.{IsRest}
-use Rattle.rng_cost.specs.Costs.{IsLarge}
 use Rattle.rng_kept.specs.Events.{IsAmong, IsDistinct}
 use Rattle.rng_kept.specs.Live.{IsLive}
 use Rattle.rng_kept.specs.Mentioned.{AreUnmentionedAlike}
-use Rattle.rng_kept.specs.Moves.{take as take_event, any_value, attributes_of}
+use Rattle.rng_kept.specs.Moves.{take as take_event, attributes_of}
 use Rattle.rng_kept.specs.Residuals.{Residual}
 use Rattle.rng_names.specs.Left.{HaveApartContents, MovesUseNames, FramesUseNames}
 use Rattle.rng_rests.specs.Rests.{AreApart, CanBegin, HasRest, IsSmallRest}
-use Rattle.rng_rests.specs.declared.first.First.{First}
 use Rattle.rng_rests.specs.declared.first.First.TheVariants as first
-use Rattle.nx_recover.specs.Completing.{IsErrorFree, Completes, Closes, CompletesAttribute, Denotes, DenotesElement, DenotesAttribute}
+use Rattle.nx_recover.specs.Completing.{IsErrorFree, Completes, CompletesAttribute}
 use Rattle.nx_recover.specs.Frames.{Can}
 use Rattle.nx_recover.specs.Items.{form_along, found_along}
 use Rattle.nx_recover.specs.Offered.{attributes_among}
 use Rattle.nx_recover.specs.Offers.{UpTo, state_before, items_before, bytes_before}
-use Rattle.nx_recover.specs.RecoverRules.{Recovered, recover_rules, first_levels}
+use Rattle.nx_recover.specs.RecoverRules.{first_levels}
 use Rattle.nx_recover.specs.Table.{Form}
-use Rattle.nx_complete.specs.Answering.{run_event}
 use Rattle.nx_complete.proofs.Admitting.{entered_alike, had_alike, any_of, some_value, namespace_of, name_of_attribute}
-use Rattle.nx_complete.proofs.Answered.{here_form, same_form, own_form, events_after, tag_of}
+use Rattle.nx_complete.proofs.Answered.{here_form, same_form, tag_of}
 use Rattle.nx_complete.proofs.Faultless.{completes, admitted}
 use Rattle.nx_complete.proofs.Places.{one_place, bytes_utf8}
 use Rattle.nx_complete.proofs.TagText.{IsTextTag}
 use Rattle.nx_written.proofs.Reaching.{fronts_reach}
 use Rattle.nx_written.specs.Written.{IsRestText}
-use Rattle.nx_fill.specs.Fillable.{CanEnter, CanAdd, CanClose, CanTake, CanFill, IsWhole, FillsElement, FillsAttribute, FillsEnd, by_element, by_attribute, by_end, IsFilled, FillOf}
-use Rattle.nx_fill.specs.Filling.{Fits, IsAlike, IsChosen, TextOf, RestFilled, IsTagText, AtElement, lost_element, no_element, an_element, AtEnd, lost_end, other_end, an_end, AtAttribute, lost_attribute, no_attribute, an_attribute, BehindTag, faulty_tag, faultless_tag, behind_run, NamesNothing, IsFilling, elsewhere, faulty_run, at_element, at_end, at_attribute}
-use Rattle.nx_fill.specs.Going.{GoesWith}
+use Rattle.nx_fill.specs.Fillable.{CanEnter, CanAdd, CanClose, CanTake, CanFill, IsWhole, by_element, by_attribute, by_end, IsFilled, FillOf}
+use Rattle.nx_fill.specs.Filling.{Fits, IsAlike, IsTagText, AtElement, lost_element, no_element, an_element, AtEnd, lost_end, other_end, an_end, AtAttribute, lost_attribute, no_attribute, an_attribute, NamesNothing}
 use Rattle.nx_fill.specs.declared.filled.Filled.{Filled}
 use Rattle.nx_fill.specs.declared.filled.Filled.TheVariants as filled
-use Rattle.nx_fill.proofs.Continued.{ElementRead, element_there, EndThere, end_there}
-use Rattle.nx_fill.proofs.Found.{Keeps, before_none, run_none, before_keeps, before_found, own_none, own_first, own_second, own_clean, own_keeps, own_found, through_clean}
-use Rattle.nx_fill.proofs.InTag.{AttributeRead, attribute_there, tag_stands}
-use Rattle.nx_fill.proofs.Ready.{AtPlace, goes_before_tag, goes_in_tag}
+use Rattle.nx_fill.proofs.Added.{text_behind, added_text}
+use Rattle.nx_fill.proofs.Continued.{element_there, end_there}
+use Rattle.nx_fill.proofs.Found.{before_keeps, before_found, own_none, own_first, own_second, own_clean, own_keeps, own_found, through_clean}
+use Rattle.nx_fill.proofs.InTag.{attribute_there, tag_stands}
+use Rattle.nx_fill.proofs.Ready.{goes_before_tag, goes_in_tag}
 use Rattle.nx_fill.proofs.Standing.{Standing, taken_is_rest, enters_first, attribute_first, leaves_first, enter_completes, completes_enter, attribute_completes, completes_attribute, leave_closes, closes_leave, standing_before, standing_in_tag, attributes_inside}
-use Rattle.nx_fill.proofs.Texts.{stands_before, IsRead, is_whole}
+use Rattle.nx_fill.proofs.Texts.{stands_before, is_whole}
 
 -- ---- one prefix is told
 
@@ -187,6 +182,7 @@ module _ (moves_use : MovesUseNames) (frames_use : FramesUseNames) (g : Language
           language = g;
           held = refl;
           small = small.small;
+          utf8 = added_text text p.front p.token.from added utf8 stand read.read.utf8;
           fills = by_element (record {
             place = p;
             is = is;
@@ -259,6 +255,7 @@ module _ (moves_use : MovesUseNames) (frames_use : FramesUseNames) (g : Language
           language = g;
           held = refl;
           small = small.small;
+          utf8 = added_text text p.front p.token.from added utf8 stand read.read.utf8;
           fills = by_end (record {
             place = p;
             is = is;
@@ -377,6 +374,7 @@ module _ (moves_use : MovesUseNames) (frames_use : FramesUseNames) (g : Language
             language = g;
             held = refl;
             small = small.small;
+            utf8 = text_behind tag added t.utf8 (added_text text p.front p.token.from (tag ++ added) utf8 stand read.read.utf8);
             fills = by_attribute (record {
               place = p;
               so_far = tag;

@@ -1,8 +1,8 @@
 -- From a rest of what is left to what an offer is filled with.
-use Rattle.std.proofs.Common.{◌≡◌, ℕ, zero, suc, ◌+◌, ◌-◌, ◌<◌, ◌≤◌, Bool, true, false, Option, Some, None, List, [], ◌∷◌, ◌++◌, length, take, drop, map, codes, refl, sym, ap, subst, ◌∙◌, arith, append_assoc, append-nil, ◌⊎◌, inl, inr}
-use Rattle.std.specs.Prelude.{IsUtf8, IsTrue}
+use Rattle.std.proofs.Common.{◌≡◌, ℕ, suc, ◌<◌, Bool, true, false, Option, None, List, [], ◌∷◌, ◌++◌, length, take, map, codes, refl, sym, ap, subst, ◌∙◌, arith, append_assoc, ◌⊎◌}
+use Rattle.std.specs.Prelude.{IsUtf8}
 use Rattle.std.specs.List.{AllByRecursion}
-use Rattle.std.proofs.lemmas.List.{take-append-drop, length-append}
+use Rattle.std.proofs.lemmas.List.{length-append}
 use Rattle.std.proofs.lemmas.Bool.{false≢true}
 use Rattle.nx_base.specs.Text.{IsPlace}
 use Rattle.nx_base.specs.Trees as trees
@@ -16,15 +16,12 @@ use Rattle.nx_events.specs.OpenTags.{state_after}
 use Rattle.nx_events.specs.Prefixes.{innermost_name}
 use Rattle.nx_events.specs.SpelledTags.{IsName}
 use Rattle.nx_events.specs.TreeEvents.{as_event}
-use Rattle.nx_events.specs.declared.item.Event.{Event}
-use Rattle.nx_events.specs.declared.item.Item.{Item}
-use Rattle.nx_events.specs.declared.scope.Binding.{Binding}
 use Rattle.nx_events.specs.declared.state.EventState.{EventState}
 use Rattle.nx_events.specs.declared.state.OpenElement.{OpenElement}
 use Rattle.nx_events.specs.declared.state.Run.{Run}
 use Rattle.nx_document.proofs.Told.{events_append}
 use Rattle.rng_core.specs.Patterns.{Language}
-use Rattle.rng_core.specs.Validity.{Valid, IsRest}
+use Rattle.rng_core.specs.Validity.{IsRest}
 use Rattle.rng_kept.specs.Events.{IsDistinct}
 use Rattle.rng_kept.specs.Live.{IsLive}
 use Rattle.rng_kept.specs.Residuals.{Residual}
@@ -37,11 +34,11 @@ use Rattle.nx_complete.proofs.Places.{behind_first}
 use Rattle.nx_written.specs.Completing.{StandBefore, Reached, inside, before, behind, before_root}
 use Rattle.nx_written.specs.Documents.{Around, in_scope, Writes, WritesRoot}
 use Rattle.nx_written.specs.Reading.{open_elements, inside_of}
-use Rattle.nx_written.specs.Written.{AreLeft, AreOpen, RootIsLeft, IsRestText}
+use Rattle.nx_written.specs.Written.{AreLeft, IsRestText}
 use Rattle.nx_fill.proofs.Leftover.{Left, SomeLeft, left_behind, depth_is, are_left, root_is_left, no_start, no_leave, start_inside, leave_inside}
 use Rattle.nx_fill.proofs.Standing.{Standing}
 use Rattle.nx_fill.proofs.Started.{nothing_front, started_by_event}
-use Rattle.nx_fill.proofs.Texts.{IsRead, element_read, EndRead, end_read, root_read, innermost_is}
+use Rattle.nx_fill.proofs.Texts.{IsRead, element_read, end_read, root_read, innermost_is}
 
 -- what is left is in a valid document
 module _ {g : Language} {here : Option Residual} {depth : ℕ} {k : List trees.Event} (w : Standing g here depth k) (s : List trees.Event) (r : IsRest g.definitions g.start k s) where

@@ -1,36 +1,20 @@
 -- How many elements are open behind tokens, and that one was where one started.
-use Rattle.std.proofs.Common.{◌≡◌, ℕ, suc, ◌+◌, ◌-◌, ◌≤◌, Bool, true, false, cond, Option, Some, None, List, [], ◌∷◌, ◌++◌, length, refl, sym, ap, subst, ◌∙◌, arith, append-nil, append_assoc, length-append}
+use Rattle.std.proofs.Common.{◌≡◌, ℕ, suc, ◌+◌, ◌-◌, Bool, true, false, cond, Option, Some, None, List, [], ◌∷◌, ◌++◌, length, refl, arith, length-append}
 use Rattle.std.specs.Prelude.{◌==◌, IsUtf8}
-use Rattle.nx_base.specs.Trees as trees
-use Rattle.nx_base.specs.declared.fault.Fault.{Fault}
-use Rattle.nx_base.specs.declared.fault.Span.{Span}
 use Rattle.nx_base.specs.declared.token.Token.{Token}
-use Rattle.nx_base.specs.declared.token.TokenKind.{TokenKind}
-use Rattle.nx_base.specs.declared.token.TokenKind.TheVariants as tokens
-use Rattle.nx_events.specs.Among.{events_among}
-use Rattle.nx_events.specs.Balance.{is_enter, is_leave, entered, left}
-use Rattle.nx_events.specs.CharacterFaults.{character_faults}
-use Rattle.nx_events.specs.Declarations.{declaration_faults}
-use Rattle.nx_events.specs.Elements.{element_items, attribute_items, element_resolved}
-use Rattle.nx_events.specs.Faults.{faults_as_items}
-use Rattle.nx_events.specs.Items.{first_state, own_bindings, is_behind, token_span, is_inside, start_items, empty_items, closed, joined, around_innermost, items_of_token, state_behind, state_by_kind, items_by_kind, items_through}
+use Rattle.nx_events.specs.Balance.{entered, left}
+use Rattle.nx_events.specs.Items.{first_state, token_span, start_items, items_of_token, state_behind, items_through}
 use Rattle.nx_events.specs.OpenTags.{state_after}
 use Rattle.nx_events.specs.Prefixes.{as_token, items_so_far}
 use Rattle.nx_events.specs.Runs.{run_items}
-use Rattle.nx_events.specs.Strings.{string_of, cdata_content}
-use Rattle.nx_events.specs.Tags.{start_name, end_name, tag_attributes}
-use Rattle.nx_events.specs.declared.flaw.Resolved.{Resolved}
-use Rattle.nx_events.specs.declared.flaw.Resolved.TheVariants.{Named, Flawed}
-use Rattle.nx_events.specs.declared.item.Event.{Event}
-use Rattle.nx_events.specs.declared.item.Event.TheVariants.{Chars, Leave, TagEnd}
+use Rattle.nx_events.specs.Tags.{start_name}
+use Rattle.nx_events.specs.declared.item.Event.TheVariants.{Chars, TagEnd}
 use Rattle.nx_events.specs.declared.item.Item.{Item}
 use Rattle.nx_events.specs.declared.item.Item.TheVariants as items
-use Rattle.nx_events.specs.declared.reading.Reading.TheVariants.{Plain, Text, Value}
 use Rattle.nx_events.specs.declared.state.EventState.{EventState}
 use Rattle.nx_events.specs.declared.state.Run.{Run}
 use Rattle.nx_events.proofs.Balance.{depth_is_difference}
 use Rattle.nx_recover.specs.Frames.{Frame}
-use Rattle.nx_recover.specs.Nesting.{LevelsAfter}
 use Rattle.nx_recover.specs.Offers.{UpTo, state_before, items_before}
 use Rattle.nx_recover.specs.declared.levels.Open.{Open}
 use Rattle.nx_recovery.specs.Levels.{LevelsBehind, no_item, an_event, a_fault}

@@ -1,14 +1,12 @@
 -- What is filled behind a machine's way is what the definition says.
-use Rattle.std.proofs.Common.{◌≡◌, ℕ, ◌-◌, ◌<◌, ◌≤◌, Bool, true, false, Option, Some, None, List, [], ◌∷◌, ◌++◌, length, take, map, refl, sym, ap, subst, ◌∙◌}
+use Rattle.std.proofs.Common.{◌≡◌, ℕ, ◌-◌, Some, List, [], take, map, refl, sym, ap, subst, ◌∙◌}
 use Rattle.std.specs.Prelude.{IsUtf8}
 use Rattle.nx_base.specs.Rules.{lexeme_of}
 use Rattle.nx_base.specs.Running.{after_all, faults_along}
 use Rattle.nx_base.specs.Text.{IsPlace}
-use Rattle.nx_base.specs.declared.fault.Fault.{Fault}
 use Rattle.nx_base.specs.declared.offer.Offer.{Offer}
 use Rattle.nx_base.specs.declared.token.Token.{Token}
-use Rattle.nx_events.specs.Prefixes.{IsAttributeName, items_so_far}
-use Rattle.nx_events.specs.declared.item.Item.{Item}
+use Rattle.nx_events.specs.Prefixes.{IsAttributeName}
 use Rattle.nx_events.specs.declared.state.EventState.{EventState}
 use Rattle.rng_core.specs.Patterns.{Language}
 use Rattle.rng_kept.specs.Live.{IsLive}
@@ -20,11 +18,10 @@ use Rattle.nx_recover.specs.RecoverRules.{Recovered, recover_rules, first_levels
 use Rattle.nx_recover.specs.Table.{Form}
 use Rattle.nx_complete.specs.Answering.{run_event}
 use Rattle.nx_complete.proofs.Answered.{here_form, events_after}
-use Rattle.nx_fill.specs.Fillable.{CanFill, FillOf}
+use Rattle.nx_fill.specs.Fillable.{FillOf}
 use Rattle.nx_fill.specs.Laws.{FillingsFill, meant_behind}
 use Rattle.nx_fill.specs.Filling.{BehindTag, faulty_tag, faultless_tag, behind_run, IsFilling, elsewhere, faulty_run, at_element, at_end, at_attribute}
 use Rattle.nx_fill.specs.declared.filled.Filled.{Filled}
-use Rattle.nx_fill.specs.declared.filled.Filled.TheVariants as filled
 use Rattle.nx_fill.proofs.Answering.{can_here, free_of, nothing_named, element_filled, end_filled, faulty_none, attribute_filled}
 use Rattle.nx_fill.proofs.Found.{before_none, run_none}
 use Rattle.nx_fill.proofs.Ready.{AtPlace}

@@ -1,17 +1,16 @@
 -- Nothing is found along items in front of a place exactly where they have no fault.
-use Rattle.std.proofs.Common.{◌≡◌, ℕ, ◌+◌, ◌-◌, Bool, true, false, Option, Some, None, List, [], ◌∷◌, ◌++◌, drop, length, map, refl, sym, ap, subst, ◌∙◌, append-nil, append_assoc}
+use Rattle.std.proofs.Common.{◌≡◌, ℕ, ◌+◌, ◌-◌, Bool, true, false, Option, Some, None, List, [], ◌∷◌, ◌++◌, length, map, refl, sym, ap, subst, ◌∙◌, append-nil, append_assoc}
 use Rattle.std.specs.Prelude.{IsUtf8, ◌==◌, if◌then◌else◌}
 use Rattle.nx_base.specs.Rules.{lexeme_of}
 use Rattle.nx_base.specs.Running.{after_all, faults_along}
 use Rattle.nx_base.specs.Trees as trees
 use Rattle.nx_base.specs.declared.fault.Fault.{Fault}
 use Rattle.nx_base.specs.declared.fault.Span.{Span}
-use Rattle.nx_events.specs.Among.{faults_among, events_among}
+use Rattle.nx_events.specs.Among.{faults_among}
 use Rattle.nx_events.specs.Items.{first_state, items_through}
 use Rattle.nx_events.specs.Prefixes.{items_so_far}
 use Rattle.nx_events.specs.Runs.{run_items}
 use Rattle.nx_events.specs.Texts.{ItemsAreText}
-use Rattle.nx_events.specs.TreeEvents.{as_event}
 use Rattle.nx_events.specs.declared.flaw.Flaw.{Flaw}
 use Rattle.nx_events.specs.declared.item.Event.TheVariants.{Chars}
 use Rattle.nx_events.specs.declared.item.Item.{Item}
@@ -25,7 +24,7 @@ use Rattle.nx_recover.specs.Faults.{flaw_at, Along}
 use Rattle.nx_recover.specs.Frames.{document_frame}
 use Rattle.nx_recover.specs.Items.{form_along, found_along}
 use Rattle.nx_recover.specs.Offers.{UpTo, state_before, items_before}
-use Rattle.nx_recover.specs.RecoverRules.{Recovered, recover_rules, first_levels, levels_behind}
+use Rattle.nx_recover.specs.RecoverRules.{Recovered, recover_rules, first_levels}
 use Rattle.nx_recover.specs.Table.{Form, done_by}
 use Rattle.nx_recovery.specs.Levels.{none_around}
 use Rattle.nx_recovery.proofs.Along.{along_front}

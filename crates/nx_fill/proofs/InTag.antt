@@ -1,5 +1,5 @@
 -- A text up to the name of an attribute in a tag without a fault, and then what is written of a rest, has no fault.
-use Rattle.std.proofs.Common.{◌≡◌, ℕ, suc, ◌+◌, ◌-◌, ◌<◌, ◌≤◌, Bool, true, false, Option, Some, None, List, [], ◌∷◌, ◌++◌, length, take, drop, map, codes, refl, sym, ap, subst, ◌∙◌, arith, append_assoc, append-nil, ◌⊎◌, inl, inr}
+use Rattle.std.proofs.Common.{◌≡◌, ℕ, suc, ◌+◌, ◌-◌, ◌<◌, Bool, true, false, Option, None, List, [], ◌∷◌, ◌++◌, length, take, drop, map, refl, sym, ap, subst, ◌∙◌, arith, append_assoc, ◌⊎◌}
 use Rattle.std.specs.Prelude.{IsUtf8}
 use Rattle.std.specs.List.{AllByRecursion}
 use Rattle.std.proofs.lemmas.List.{take-append-drop, length-take-le, length-append, take_at}
@@ -10,7 +10,6 @@ use Rattle.nx_base.specs.declared.name.Name.{Name}
 use Rattle.nx_base.specs.declared.token.TokenKind.TheVariants as kinds
 use Rattle.nx_events.specs.Among.{faults_among, events_among}
 use Rattle.nx_events.specs.Items.{first_state, own_bindings, items_through}
-use Rattle.nx_events.specs.OpenTags.{state_after}
 use Rattle.nx_events.specs.Prefixes.{IsOpenTag, IsAttributeName, as_token, items_so_far}
 use Rattle.nx_events.specs.Runs.{run_items}
 use Rattle.nx_events.specs.SpelledTags.{IsName}
@@ -18,16 +17,14 @@ use Rattle.nx_events.specs.Tags.{start_name}
 use Rattle.nx_events.specs.TreeEvents.{as_event}
 use Rattle.nx_events.specs.declared.item.Event.{Event}
 use Rattle.nx_events.specs.declared.item.Item.{Item}
-use Rattle.nx_events.specs.declared.scope.Binding.{Binding}
 use Rattle.nx_events.specs.declared.state.EventState.{EventState}
-use Rattle.nx_events.specs.declared.state.OpenElement.{OpenElement}
 use Rattle.nx_events.specs.declared.state.Run.{Run}
 use Rattle.nx_events.proofs.TreeEvents.{stay_apart}
-use Rattle.nx_document.specs.Constraints.{NoTwoShare, AreDistinct}
+use Rattle.nx_document.specs.Constraints.{NoTwoShare}
 use Rattle.nx_document.proofs.Told.{events_append}
 use Rattle.rng_core.specs.Patterns.{Language}
 use Rattle.rng_core.specs.Validity.{IsRest}
-use Rattle.rng_kept.specs.Events.{IsAmong, first, later, IsDistinct, distinct_end, distinct_attribute, distinct_enter, distinct_tag_end, distinct_chars, distinct_leave}
+use Rattle.rng_kept.specs.Events.{IsAmong, first, later, IsDistinct, distinct_attribute, distinct_enter, distinct_tag_end, distinct_chars, distinct_leave}
 use Rattle.rng_kept.specs.Residuals.{Residual}
 use Rattle.rng_residual.proofs.Distinct.{attributes_append}
 use Rattle.rng_rests.specs.Rests.{AreApart}
@@ -37,14 +34,13 @@ use Rattle.nx_complete.proofs.Places.{token_lies}
 use Rattle.nx_complete.proofs.TagText.{IsTextTag}
 use Rattle.nx_written.specs.Begun.{WritesBegun, state_of, AreFurther, CompletesTag}
 use Rattle.nx_written.specs.Completing.{StandBefore, Reached, inside, before, behind}
-use Rattle.nx_written.specs.Documents.{Around, in_scope}
-use Rattle.nx_written.specs.Reading.{open_elements}
+use Rattle.nx_written.specs.Documents.{Around}
 use Rattle.nx_written.specs.Written.{AreOpen, BegunIsLeft, IsBegunText}
 use Rattle.nx_written.proofs.Begun.{begun_name}
 use Rattle.nx_written.proofs.BegunTexts.{begun_texts_complete}
 use Rattle.nx_fill.proofs.Continued.{some_left, ends_depth, distinct_all, open_length, is_root}
 use Rattle.nx_fill.proofs.Found.{Keeps}
-use Rattle.nx_fill.proofs.Leftover.{Left, SomeLeft, depth_is, some_attribute, begun_is_left}
+use Rattle.nx_fill.proofs.Leftover.{Left, depth_is, some_attribute, begun_is_left}
 use Rattle.nx_fill.proofs.Standing.{Standing}
 use Rattle.nx_fill.proofs.Texts.{IsRead}
 

@@ -1,24 +1,22 @@
 -- A text without a fault shows what may stand at a place of another text that is the same in front of it.
-use Rattle.std.proofs.Common.{◌≡◌, ℕ, suc, ◌+◌, ◌-◌, ◌<◌, ◌≤◌, Bool, true, false, cond, Option, Some, None, List, [], ◌∷◌, ◌++◌, length, take, drop, reverse, map, codes, refl, sym, ap, subst, ◌∙◌, arith, append_assoc, append-nil, ◌⊎◌, inl, inr, get_or}
+use Rattle.std.proofs.Common.{◌≡◌, ℕ, suc, ◌+◌, ◌-◌, ◌<◌, ◌≤◌, Bool, true, false, cond, Option, Some, None, List, [], ◌∷◌, ◌++◌, length, take, drop, reverse, map, refl, sym, ap, subst, ◌∙◌, arith, append_assoc, append-nil, ◌⊎◌, inl, inr, get_or}
 use Rattle.std.specs.Prelude.{IsUtf8, ◌==◌, slice_index, Contains}
 use Rattle.std.specs.List.{AllByRecursion, flat_map}
 use Rattle.std.specs.Str.{IsCharBoundary}
 use Rattle.std.proofs.lemmas.List.{take-append-drop, length-take-le, get_or_at, take_more}
 use Rattle.std.proofs.lemmas.Str.{IsCharBoundary-before_ascii, IsCharBoundary-start}
 use Rattle.nx_base.specs.Text.{IsPlace}
-use Rattle.nx_base.specs.Tokens.{cut, end_of, tokens_of, tokens_from, AreTokensFrom}
+use Rattle.nx_base.specs.Tokens.{cut, end_of, tokens_from, AreTokensFrom}
 use Rattle.nx_base.specs.Trees as trees
 use Rattle.nx_base.specs.Trees.{Attribute, attributes_flat}
-use Rattle.nx_base.specs.declared.fault.Kind.{Kind}
 use Rattle.nx_base.specs.declared.fault.Kind.TheVariants as faults
-use Rattle.nx_base.specs.declared.fault.Span.{Span}
 use Rattle.nx_base.specs.declared.name.Name.{Name}
 use Rattle.nx_base.specs.declared.token.Token.{Token}
 use Rattle.nx_base.specs.declared.token.TokenKind.{TokenKind}
 use Rattle.nx_base.specs.declared.token.TokenKind.TheVariants as kinds
 use Rattle.nx_scan.proofs.Every.{cut-is_token}
 use Rattle.nx_scan.proofs.Joined.{joined-from, tokens-go_on}
-use Rattle.nx_events.specs.Among.{faults_among, events_among}
+use Rattle.nx_events.specs.Among.{events_among}
 use Rattle.nx_events.specs.Items.{first_state, token_span, left_out, start_items, empty_items, closing_items, end_items, around_innermost, items_of_token, state_behind, items_from, items_of_text, items_through}
 use Rattle.nx_events.specs.OpenTags.{state_after}
 use Rattle.nx_events.specs.Prefixes.{IsElementName, IsEndName}
@@ -38,25 +36,24 @@ use Rattle.nx_events.proofs.TreeEvents.{stay_apart}
 use Rattle.nx_document.proofs.Borders.{IsText, tokens_are_text}
 use Rattle.nx_document.proofs.Steps.{items_kind, tag_kept, tag_told}
 use Rattle.nx_document.proofs.Told.{Clean, clean_first, clean_second, faulty, events_append}
-use Rattle.nx_document.proofs.Trees.{pending, run_events}
+use Rattle.nx_document.proofs.Trees.{run_events}
 use Rattle.rng_core.specs.Patterns.{Language}
 use Rattle.rng_core.specs.Validity.{Valid, Viable}
 use Rattle.rng_kept.specs.Events.{AreText}
-use Rattle.rng_kept.specs.Events as kept_events
 use Rattle.rng_kept.specs.Live.{IsLive}
 use Rattle.rng_residual.proofs.Standing.{fronts_are_viable}
 use Rattle.nx_recover.specs.Completing.{IsErrorFree}
-use Rattle.nx_recover.specs.Offers.{UpTo, state_before, items_before, bytes_before}
+use Rattle.nx_recover.specs.Offers.{UpTo, items_before, bytes_before}
 use Rattle.nx_recovery.specs.Validity.{HasValidEvents}
 use Rattle.nx_recovery.proofs.Along.{text_items}
-use Rattle.nx_recovery.proofs.Validity.{no_faults_have_valid_events, event_text, first_event}
+use Rattle.nx_recovery.proofs.Validity.{no_faults_have_valid_events, event_text}
 use Rattle.nx_complete.proofs.Elements.{In, at_head, in_tail, to_in}
 use Rattle.nx_complete.proofs.Places.{one_place, token_lies}
 use Rattle.nx_complete.proofs.Told.{later_first}
 use Rattle.nx_written.specs.Completing.{StandBefore}
 use Rattle.nx_written.proofs.Completing.{parted}
 use Rattle.nx_written.proofs.Fronts.{fronts_stay}
-use Rattle.nx_fill.specs.Laws.{HasTag, EntersAs, LaterTextsComplete}
+use Rattle.nx_fill.specs.Laws.{HasTag, LaterTextsComplete}
 use Rattle.nx_fill.proofs.Texts.{stands_before}
 
 -- ---- events that go on

@@ -3,12 +3,12 @@ use Rattle.std.proofs.Common.{◌≡◌, ℕ, suc, ◌<◌, Bool, true, false, L
 use Rattle.std.specs.Prelude.{IsTrue}
 use Rattle.nx_base.specs.Characters.{is_of_chars}
 use Rattle.nx_base.specs.Names.{is_xml_name, is_attribute_name}
-use Rattle.nx_base.specs.Trees.{Attribute, HasAttribute, here, further, AreAttributes, no_attributes, one_more, Children, nil, string, element, Tree, alone, flat, Event, Enter, Att, TagEnd, Chars, Leave, attributes_flat, children_flat, AreWritable}
+use Rattle.nx_base.specs.Trees.{Attribute, HasAttribute, here, further, AreAttributes, no_attributes, one_more, Children, nil, string, element, Tree, flat, Event, Enter, Att, TagEnd, Chars, Leave, attributes_flat, children_flat, AreWritable}
 use Rattle.nx_base.specs.declared.name.Name.{Name}
-use Rattle.rng_kept.specs.Events.{IsAmong, first, later, IsDistinct, distinct_end, distinct_attribute, distinct_enter, distinct_tag_end, distinct_chars, distinct_leave}
+use Rattle.rng_kept.specs.Events.{IsAmong, first, later, IsDistinct, distinct_attribute, distinct_enter, distinct_tag_end, distinct_chars, distinct_leave}
 use Rattle.rng_rests.specs.Rests.{AreApart}
 use Rattle.nx_recovery.proofs.Validity.{Balanced}
-use Rattle.nx_written.specs.Documents.{ArePlain, BeginsApart}
+use Rattle.nx_written.specs.Documents.{BeginsApart}
 use Rattle.nx_written.specs.Written.{AreLeft, nothing_left, string_left, element_left, end_left, RootIsLeft, BegunIsLeft}
 
 -- where so many elements are open, and perhaps a start tag

@@ -16,3 +16,8 @@ pub mod Finishing
 pub mod Calls
 pub mod Later
 pub mod Resting
+pub mod Passing
+pub mod Faulty
+pub mod AtPlaces
+pub mod ByPrefix
+pub mod Added

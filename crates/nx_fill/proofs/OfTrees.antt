@@ -1,5 +1,5 @@
 -- Items without a fault have the events of trees: no element without a name is entered.
-use Rattle.std.proofs.Common.{◌≡◌, ℕ, suc, ◌+◌, ◌-◌, Bool, true, false, cond, Option, Some, None, List, [], ◌∷◌, ◌++◌, length, drop, reverse, map, refl, sym, ap, subst, ◌∙◌, append-nil}
+use Rattle.std.proofs.Common.{◌≡◌, ℕ, suc, ◌+◌, ◌-◌, Bool, true, false, cond, Option, Some, None, List, [], ◌∷◌, ◌++◌, length, drop, reverse, map, refl, sym, ap, ◌∙◌, append-nil}
 use Rattle.std.specs.Prelude.{not, ◌&&◌, ◌||◌, ◌==◌}
 use Rattle.std.specs.List.{flat_map, list_all}
 use Rattle.nx_base.specs.Characters.{is_space}
@@ -11,7 +11,7 @@ use Rattle.nx_base.specs.declared.fault.Span.{Span}
 use Rattle.nx_base.specs.declared.token.Token.{Token}
 use Rattle.nx_base.specs.declared.token.TokenKind.{TokenKind}
 use Rattle.nx_base.specs.declared.token.TokenKind.TheVariants as tokens
-use Rattle.nx_events.specs.Among.{faults_among, events_among}
+use Rattle.nx_events.specs.Among.{events_among}
 use Rattle.nx_events.specs.CharacterFaults.{character_faults}
 use Rattle.nx_events.specs.Faults.{bare_fault, faults_as_items}
 use Rattle.nx_events.specs.Items.{token_span, token_fault_if, is_inside, declaration_items, doctype_items, character_items, comment_items, pi_items, cdata_items, text_items, start_items, empty_items, around_innermost, left_out, closing_items, end_items, items_by_kind, items_of_token, state_behind, items_through}

@@ -1,5 +1,5 @@
 -- Behind tokens without a fault what is left goes on: rests may be asked of it.
-use Rattle.std.proofs.Common.{◌≡◌, ℕ, ◌≤◌, Option, Some, None, List, [], ◌∷◌, ◌++◌, length, map, refl, sym, ap, subst, ◌∙◌}
+use Rattle.std.proofs.Common.{◌≡◌, ℕ, ◌≤◌, Option, Some, None, List, [], ◌++◌, length, map, refl, sym, ap, subst, ◌∙◌}
 use Rattle.std.specs.Prelude.{IsUtf8}
 use Rattle.std.proofs.Math.Logic.{∥∥₁_elim, ∥∥₁_map, ∥∥₁_prop}
 use Rattle.nx_base.specs.declared.name.Name.{Name}
@@ -26,9 +26,10 @@ use Rattle.nx_complete.specs.Answering.{run_event}
 use Rattle.nx_complete.proofs.Answered.{here_form, same_form, own_form, events_after}
 use Rattle.nx_complete.proofs.Placing.{place_of}
 use Rattle.nx_complete.proofs.TagText.{IsTextTag}
-use Rattle.nx_fill.specs.Filling.{behind_run, IsFreeBefore}
+use Rattle.nx_fill.specs.Filling.{behind_run}
 use Rattle.nx_fill.specs.Going.{GoesWith, GoesOutside, GoesInTag}
-use Rattle.nx_fill.proofs.Found.{Keeps, before_keeps, own_keeps, before_none, own_none}
+use Rattle.nx_fill.specs.Walking.{IsFreeBefore}
+use Rattle.nx_fill.proofs.Found.{before_keeps, own_keeps, before_none, own_none}
 use Rattle.nx_fill.proofs.Standing.{Standing, standing_before, standing_in_tag, attributes_inside}
 use Rattle.nx_fill.proofs.Using.{UsesHere, uses_from_start}
 

@@ -1,12 +1,10 @@
 -- What stands in front of a place without a fault: the document's frame, which keeps the events there alone, and what is left for it.
-use Rattle.std.proofs.Common.{◌≡◌, ℕ, suc, List, [], ◌∷◌, ◌++◌, length, Option, Some, None, refl, sym, ap, subst, ◌∙◌, append_assoc}
+use Rattle.std.proofs.Common.{◌≡◌, ℕ, suc, List, [], ◌∷◌, ◌++◌, length, Option, Some, refl, sym, ap, subst, append_assoc}
 use Rattle.std.specs.Prelude.{IsUtf8, IsTrue}
-use Rattle.nx_base.specs.Characters.{is_of_chars}
 use Rattle.nx_base.specs.Names.{is_xml_name, is_attribute_name}
 use Rattle.nx_base.specs.Trees.{Event, Enter, Att, TagEnd, Chars, Leave, IsWritable, AreWritable}
 use Rattle.nx_base.specs.declared.name.Name.{Name}
 use Rattle.nx_events.specs.Prefixes.{items_so_far}
-use Rattle.nx_events.specs.declared.item.Item.{Item}
 use Rattle.rng_core.specs.Patterns.{Language}
 use Rattle.rng_core.specs.Validity.{Valid, IsRest, Viable}
 use Rattle.rng_kept.specs.Events.{IsAmong, IsDistinct}
@@ -16,24 +14,20 @@ use Rattle.rng_kept.specs.Moves.{attributes_of}
 use Rattle.rng_kept.specs.Residuals.{Residual, Takes}
 use Rattle.rng_kept.specs.Standing.{Stands}
 use Rattle.rng_residual.proofs.Standing.{rests_are_taken}
-use Rattle.rng_rests.specs.Rests.{Begins, IsRestBy, HasRest}
+use Rattle.rng_rests.specs.Rests.{Begins, HasRest}
 use Rattle.rng_rests.specs.declared.first.First.{First}
 use Rattle.rng_rests.specs.declared.first.First.TheVariants as first
-use Rattle.nx_recover.specs.Behind.{LevelsBehind}
 use Rattle.nx_recover.specs.Completing.{IsErrorFree, Completes, Closes, CompletesAttribute}
-use Rattle.nx_recover.specs.Frames.{Frame, document_frame}
+use Rattle.nx_recover.specs.Frames.{Frame}
 use Rattle.nx_recover.specs.Items.{form_along}
 use Rattle.nx_recover.specs.Offered.{attributes_among}
 use Rattle.nx_recover.specs.Offers.{UpTo, state_before, items_before}
-use Rattle.nx_recover.specs.RecoverRules.{first_levels}
-use Rattle.nx_recover.specs.Table.{Form}
-use Rattle.nx_recover.specs.declared.levels.Open.{Open}
-use Rattle.nx_recovery.specs.Levels.{StandsFor, StandsHere, lost_here, frame_here, TellLevels, own_elements, tag_behind}
+use Rattle.nx_recovery.specs.Levels.{StandsFor, StandsHere, lost_here, frame_here}
 use Rattle.nx_recovery.proofs.Levels.{one_behind}
 use Rattle.nx_recovery.proofs.Validity.{Balanced, KeepsOnly}
 use Rattle.nx_complete.proofs.Answered.{here_form, told, told_own, names_inside}
 use Rattle.nx_complete.proofs.Exactness.{goes_before, goes_in_tag}
-use Rattle.nx_complete.proofs.Faultless.{Goes, moved_by}
+use Rattle.nx_complete.proofs.Faultless.{moved_by}
 use Rattle.nx_complete.proofs.TagText.{IsTextTag}
 use Rattle.nx_fill.proofs.Depths.{before_depth, in_tag_depth}
 

@@ -1,6 +1,5 @@
 -- Where a start tag came, an element's start is among the events.
-use Rattle.std.proofs.Common.{◌≡◌, ℕ, Bool, true, false, cond, Option, Some, None, List, [], ◌∷◌, ◌++◌, length, map, refl, sym, ap, subst, ◌∙◌, append-nil}
-use Rattle.std.proofs.lemmas.Bool.{false≢true}
+use Rattle.std.proofs.Common.{◌≡◌, ℕ, Bool, true, false, cond, Option, Some, None, List, [], ◌∷◌, ◌++◌, length, map, refl, sym, ◌∙◌, append-nil}
 use Rattle.nx_base.specs.Trees as trees
 use Rattle.nx_base.specs.Trees.{attributes_flat}
 use Rattle.nx_base.specs.declared.token.Token.{Token}

@@ -1,7 +1,6 @@
 -- A text up to a place without a fault, and then what is written of a rest, has no fault, and has the events of both.
-use Rattle.std.proofs.Common.{◌≡◌, ℕ, zero, suc, ◌+◌, ◌-◌, ◌<◌, ◌≤◌, Bool, true, false, cond, Option, Some, None, List, [], ◌∷◌, ◌++◌, length, take, drop, map, codes, refl, sym, ap, subst, ◌∙◌, arith, append_assoc, ◌⊎◌, inl, inr, get_or}
-use Rattle.std.specs.Prelude.{IsUtf8, ◌==◌, slice_index, slice_get, if◌then◌else◌, IsTrue}
-use Rattle.std.specs.List.{AllByRecursion}
+use Rattle.std.proofs.Common.{◌≡◌, ℕ, zero, suc, ◌+◌, ◌-◌, ◌<◌, Bool, true, false, Option, Some, None, List, [], ◌∷◌, ◌++◌, length, take, drop, map, refl, sym, ap, subst, ◌∙◌, arith, append_assoc, ◌⊎◌, inl, inr, get_or}
+use Rattle.std.specs.Prelude.{IsUtf8, ◌==◌, slice_get, if◌then◌else◌}
 use Rattle.std.specs.Option.{option_map_or}
 use Rattle.std.proofs.lemmas.List.{take-append-drop, length-take-le, get_or_at, length-append}
 use Rattle.std.proofs.lemmas.Str.{IsUtf8-append}
@@ -14,29 +13,26 @@ use Rattle.nx_base.specs.declared.token.Token.{Token}
 use Rattle.nx_base.specs.declared.token.TokenKind.TheVariants as kinds
 use Rattle.nx_events.specs.Among.{faults_among, events_among}
 use Rattle.nx_events.specs.Items.{first_state, items_of_text, items_through}
-use Rattle.nx_events.specs.OpenTags.{state_after}
 use Rattle.nx_events.specs.Prefixes.{run_string, innermost_name}
 use Rattle.nx_events.specs.Runs.{run_items}
 use Rattle.nx_events.specs.TreeEvents.{as_event}
 use Rattle.nx_events.specs.declared.item.Event.{Event}
 use Rattle.nx_events.specs.declared.item.Item.{Item}
 use Rattle.nx_events.specs.declared.item.Item.TheVariants as items
-use Rattle.nx_events.specs.declared.scope.Binding.{Binding}
 use Rattle.nx_events.specs.declared.state.EventState.{EventState}
 use Rattle.nx_events.specs.declared.state.OpenElement.{OpenElement}
 use Rattle.nx_events.specs.declared.state.Run.{Run}
 use Rattle.nx_document.proofs.Told.{events_append}
 use Rattle.rng_core.specs.Patterns.{Language}
-use Rattle.rng_core.specs.Validity.{Valid, IsRest}
+use Rattle.rng_core.specs.Validity.{IsRest}
 use Rattle.rng_kept.specs.Live.{IsLive}
 use Rattle.nx_recover.specs.Completing.{IsErrorFree}
-use Rattle.nx_recover.specs.Faults.{AreFaultsOf}
 use Rattle.nx_recover.specs.Offers.{UpTo, state_before, items_before}
 use Rattle.nx_recovery.specs.Validity.{HasValidEvents}
 use Rattle.nx_recovery.proofs.Validity.{no_faults_have_valid_events}
-use Rattle.nx_complete.proofs.Places.{token_lies, LiesIn}
-use Rattle.nx_written.specs.Completing.{StandBefore, CompletesText, before_root}
-use Rattle.nx_written.specs.Documents.{Around, in_scope, end_tag, BeginsApart, Writes, all_ended, a_string, a_start_tag, an_empty_tag, an_end_tag, WritesRoot, root_with_tags, root_alone}
+use Rattle.nx_complete.proofs.Places.{token_lies}
+use Rattle.nx_written.specs.Completing.{StandBefore, before_root}
+use Rattle.nx_written.specs.Documents.{Around, in_scope, end_tag, BeginsApart, Writes, a_start_tag, an_empty_tag, an_end_tag, WritesRoot, root_with_tags, root_alone}
 use Rattle.nx_written.specs.Reading.{open_elements, inside_of, after_run}
 use Rattle.nx_written.specs.Reading as reading
 use Rattle.nx_written.proofs.Completing.{goes_on, written_texts_complete, written_roots_complete}

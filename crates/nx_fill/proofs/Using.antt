@@ -1,7 +1,6 @@
 -- Along items without a fault, what is left uses the names of the attributes of the tag that is open.
-use Rattle.std.proofs.Common.{◌≡◌, Option, Some, None, List, [], ◌∷◌, ◌++◌, map, refl, sym, ap, subst, ◌∙◌}
+use Rattle.std.proofs.Common.{◌≡◌, Option, Some, None, List, [], ◌∷◌, map, refl, sym, ap, subst}
 use Rattle.nx_base.specs.Trees as trees
-use Rattle.nx_base.specs.declared.fault.Fault.{Fault}
 use Rattle.nx_base.specs.declared.name.Name.{Name}
 use Rattle.nx_events.specs.Among.{events_among}
 use Rattle.nx_events.specs.TreeEvents.{as_event}
@@ -18,7 +17,7 @@ use Rattle.rng_residual.specs.Moves.{behind_event}
 use Rattle.rng_names.specs.Left.{WayUsesNames, UseNames, UseBehind, HaveApartContents, MovesUseNames, FramesUseNames}
 use Rattle.nx_recover.specs.Items.{form_along, found_along}
 use Rattle.nx_recover.specs.RecoverRules.{first_levels}
-use Rattle.nx_recover.specs.Table.{Form, Done, entered, entered_by, or_made_up, or_left_out, attributed, tag_ended, charred, left, opens, goes_on_by, closes, leaves, ended, in_frame, passed, done_by}
+use Rattle.nx_recover.specs.Table.{Form, entered, entered_by, or_made_up, or_left_out, attributed, tag_ended, charred, left, opens, goes_on_by, done_by}
 use Rattle.nx_recover.specs.declared.levels.Open.{Open}
 use Rattle.nx_recover.specs.declared.levels.Open.TheVariants.{In, Begins, Lost}
 use Rattle.nx_recovery.proofs.Validity.{nothing_first, first_event}

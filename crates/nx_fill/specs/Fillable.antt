@@ -1,6 +1,6 @@
 -- Texts with which an offer of a place is taken: what stands in front of the tag or of the attribute's name there, and behind it such a
 -- text, has no fault.
-use Rattle.std.specs.Prelude.{◌≡◌, ◌⊎◌, ℕ, ◌+◌, List, [], ◌∷◌, ◌++◌, length, take, map, codes, Option, Some, IfSome}
+use Rattle.std.specs.Prelude.{◌≡◌, ◌⊎◌, ℕ, ◌+◌, List, [], ◌∷◌, ◌++◌, length, take, map, codes, Option, Some, IfSome, IsUtf8}
 use Rattle.nx_base.specs.Tokens.{tokens_of}
 use Rattle.nx_base.specs.Trees as trees
 use Rattle.nx_base.specs.declared.name.Name.{Name}
@@ -126,6 +126,7 @@ pub record IsFilled (schema : Option Language) (text : List ℕ) (at : ℕ) (o :
   pub language : Language
   pub held : schema ≡ Some language
   pub small : IsLarge language.definitions → ⊥
+  pub utf8 : IsUtf8 added
   pub fills : Fills language text at o added
 
 abbrev pub FillOf : Option Language → List ℕ → ℕ → Offer → Filled → Type 0

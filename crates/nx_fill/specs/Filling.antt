@@ -1,14 +1,10 @@
 -- What an offer is filled with, told of residuals. Private contracts alone speak of this.
-use Rattle.std.specs.Prelude.{◌≡◌, ℕ, ◌<◌, ◌⊎◌, true, List, [], ◌∷◌, ◌++◌, length, Option, Some, None}
+use Rattle.std.specs.Prelude.{◌≡◌, ℕ, ◌⊎◌, true, List, [], ◌∷◌, ◌++◌, length, Option, Some, None}
 use Rattle.nx_base.specs.Names.{is_namespace, is_xml_name, is_attribute_name}
-use Rattle.nx_base.specs.Rules.{Rules, Lexeme}
-use Rattle.nx_base.specs.Running.{CutsTo, faults_along}
-use Rattle.nx_base.specs.Text.{IsPlace}
 use Rattle.nx_base.specs.Trees.{Event}
 use Rattle.nx_base.specs.declared.name.Name.{Name}
 use Rattle.nx_base.specs.declared.offer.Offer.{Offer}
 use Rattle.nx_base.specs.declared.offer.Offer.TheVariants as offer
-use Rattle.nx_base.specs.declared.token.Token.{Token}
 use Rattle.rng_core.specs.Patterns.{Definition, Language}
 use Rattle.rng_cost.specs.Costs.{IsLarge}
 use Rattle.rng_kept.specs.Events.{IsAmong}
@@ -29,7 +25,6 @@ use Rattle.nx_recover.specs.Offered.{attributes_among}
 use Rattle.nx_recover.specs.Table.{Form}
 use Rattle.nx_complete.specs.Answering.{run_event}
 use Rattle.nx_complete.specs.Asking.{named}
-use Rattle.nx_complete.specs.Walking.{IsBehind, IsBefore}
 use Rattle.nx_written.specs.Written.{IsRestText, IsBegunText}
 use Rattle.nx_fill.specs.declared.filled.Filled.{Filled}
 use Rattle.nx_fill.specs.declared.filled.Filled.TheVariants as filled
@@ -129,29 +124,3 @@ pub data IsFilling (g : Language) (l : Form) (events : EventState) (bytes : List
       → AtEnd g.definitions events o (behind_run g l events).here a → IsFilling g l events bytes o a
   at_attribute : {a : Filled} (tag : List ℕ) → IsAttributeName tag bytes → found_along g l (run_event events.run) ≡ []
       → BehindTag g (behind_run g l events) events tag o a → IsFilling g l events bytes o a
-
--- ---- a machine's way through tokens without a fault
-
--- up to a border
-pub record IsFree {S M : Type 0} (is_state : S → Type 0) (means : S → M) (rules : Rules M) (text : List ℕ) (at : ℕ) (state : S) : Type 0 where
-  pub behind : IsBehind is_state means rules text at state
-  pub faultless : faults_along rules 0 rules.first behind.tokens ≡ []
-
--- up to the token in front of a place
-pub record IsFreeBefore {S M : Type 0} (is_state : S → Type 0) (means : S → M) (rules : Rules M)
-    (text : List ℕ) (at : ℕ) (state : S) (token : Token) : Type 0 where
-  pub before : IsBefore is_state means rules text at state token
-  pub faultless : faults_along rules 0 rules.first before.behind.tokens ≡ []
-
--- some tokens in front of a place have a fault
-pub record HasFault {M : Type 0} (rules : Rules M) (text : List ℕ) (at : ℕ) : Type 0 where
-  pub tokens : List Lexeme
-  pub border : ℕ
-  pub place : IsPlace text border
-  pub within : border < at
-  pub cuts : CutsTo text 0 tokens border
-  pub fault : faults_along rules 0 rules.first tokens ≡ [] → ⊥
-
-abbrev pub Walked : {S M : Type 0} → (S → Type 0) → (S → M) → Rules M → List ℕ → ℕ → S → Option Token → Type 0
-Walked is_state means rules text at state (Some token) = IsFreeBefore is_state means rules text at state token
-Walked is_state means rules text at state None = HasFault rules text at

@@ -1,0 +1,37 @@
+use Rattle.std.proofs.Common.{List, sym, subst}
+use Rattle.nx_base.specs.Trees.{AreWritable}
+use Rattle.rng_fill.specs.Moves.{events_of}
+use Rattle.rng_fill.specs.declared.moves.Move.{Move}
+use Rattle.nx_fill.specs.Filling.{IsTagText}
+use Rattle.nx_fill.proofs.Calls.{rest_writable, found_text, too_many, nothing_left}
+use Rattle.nx_fill.proofs.written.rest_in_tag.Goals as goal
+
+pub write_in_tag-requires : goal.write_in_tag-requires
+write_in_tag-requires g c =
+    let m = g.M.Matcher in
+    let a = c.args.matcher.now in
+    subst (λ (moves : List Move). AreWritable (events_of moves)) (sym c.as_slice.ensures)
+    (rest_writable (m.language a).definitions (m.means a c.args.here.now) c.args.first.now _ c.in_ok-moves.ensures.rest c.in-Found.moves c.in-Found.is c.requires.begins)
+
+pub returns-in_ok-text-in-Found-clause-filled : goal.returns-in_ok-text-in-Found-clause-filled
+returns-in_ok-text-in-Found-clause-filled g c =
+    let m = g.M.Matcher in
+    let a = c.args.matcher.now in
+    let e = c.args.events.now in
+    let text = c.in_ok-text-in-Found.text in
+    found_text (m.language a).definitions (m.means a c.args.here.now) c.args.first.now _ c.in_ok-moves.ensures.rest (IsTagText e c.args.tag.now) c.in-Found.moves c.in-Found.is text
+    (subst (λ (moves : List Move). (IsTagText e c.args.tag.now) (events_of moves) text) c.as_slice.ensures c.in_ok-text-in-Found.ensures)
+
+pub returns-in-TooMany-clause-filled : goal.returns-in-TooMany-clause-filled
+returns-in-TooMany-clause-filled g c =
+    let m = g.M.Matcher in
+    let a = c.args.matcher.now in
+    let e = c.args.events.now in
+    too_many (m.language a).definitions (m.means a c.args.here.now) c.args.first.now _ c.in_ok-moves.ensures.rest (IsTagText e c.args.tag.now) c.in-TooMany.is
+
+pub returns-in-Nothing-clause-filled : goal.returns-in-Nothing-clause-filled
+returns-in-Nothing-clause-filled g c =
+    let m = g.M.Matcher in
+    let a = c.args.matcher.now in
+    let e = c.args.events.now in
+    nothing_left (m.language a).definitions (m.means a c.args.here.now) c.args.first.now _ c.in_ok-moves.ensures.rest (IsTagText e c.args.tag.now) c.in-Nothing.is
