@@ -27,7 +27,8 @@ some_passes tests (group p q) = some_passes tests p || some_passes tests q
 some_passes tests (interleave p q) = some_passes tests p || some_passes tests q
 some_passes tests _ = false
 
--- what is left of children, as they stand (b) and without blank strings (l): strings stand alone in both views; and where there have to be children, no string of them is the empty one,
+-- what is left of children, as they stand (b) and without blank strings (l): strings stand alone in both views; and where there have to
+-- be children, no string of them is the empty one,
 -- which a text can't write
 pub record AreAloneInside (b l : Pattern) (v : Bool) : Type 0 where
   pub strict : is_alone b ≡ true

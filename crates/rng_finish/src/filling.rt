@@ -137,6 +137,9 @@ fn write_levels(
 
 /// Writes moves that fill what is left of a way, from the inside outwards. It takes as many steps as it adds moves, and as many as what is
 /// left has nodes. Without memory some of the moves may have been added.
+///
+/// It also answers want of memory where a leaf has no name or string, where an empty string or a leaf of another kind would have to stand
+/// beside elements, and where an attribute may not come. A schema that breaks no restriction should leave none of these; no clause says so.
 pub fn finish(
     alloc: Global,
     contents: &Contents,
